@@ -1,0 +1,9 @@
+pub mod PlaceLemmas
+pub mod HistoryLemmas
+pub mod HistoryLaws
+pub mod TokenLemmas
+pub mod NumberLemmas
+pub mod HexTexts
+pub mod HeaderLaws
+pub mod PieceLaws
+pub mod ReadableLemmas

@@ -1,0 +1,134 @@
+-- What a used line has no fault in can be read.
+use Rattle.std.proofs.Common.{◌≡◌, ◌∙◌, sym, refl, ap, ℕ, Bool, true, false, List, [], ◌∷◌, Option, None, Some, is_some, IsSome, if◌then◌else◌}
+use Rattle.std.specs.List.{list_all, AllByRecursion}
+use Rattle.std.specs.Option.{option_or, option_and_then}
+use Rattle.audit_lex.specs.History.{is_long}
+use Rattle.audit_lex.specs.Tokens.{field_of}
+use Rattle.audit_lex.specs.Header.{Head, head_of}
+use Rattle.audit_lex.specs.FieldTable.{name_of, kind_of, rules_of, must, may}
+use Rattle.audit_lex.specs.Values.{dec32_of, signed_of, hex32_of, hex64_of, yesno_of}
+use Rattle.audit_lex.specs.LineFields.{raw_part_of, field_in_line, needed, offered, offered_text, reads_if_there, text_if_there, ReadableSyscall}
+use Rattle.audit_lex.specs.LineClass.{Class, Used, Blank, Malformed, spells, fault_of, fault_in, first_fault, is_blank_byte, fields_class, kind_class, head_class, text_class, class_of}
+use Rattle.audit_lex.specs.declared.fields.Kind.{Kind}
+use Rattle.audit_lex.specs.declared.fields.Kind.TheVariants as kind
+use Rattle.audit_lex.specs.declared.fields.Field.{Field}
+use Rattle.audit_lex.specs.declared.fields.Field.TheVariants as field
+use Rattle.audit_lex.specs.declared.fields.ValueKind.{ValueKind}
+use Rattle.audit_lex.specs.declared.fields.ValueKind.TheVariants as value
+use Rattle.audit_lex.specs.declared.fields.Rule.{Rule}
+use Rattle.audit_lex.specs.declared.faults.LineFault.{LineFault}
+use Rattle.audit_lex.specs.declared.faults.LineFault.TheVariants as fault
+use Rattle.audit_lex.specs.declared.header.EventKey.{EventKey}
+
+-- ---- a used line has a raw part without a fault
+
+-- the raw part of a header, and that the table of the kind finds no fault in it
+pub record Faultless (found : Option Head) (key : EventKey) (k : Kind) : Type 0 where
+  pub head : Head
+  pub is : found ≡ Some head
+  pub key_is : head.key ≡ key
+  pub kind_is : kind_of head.name ≡ Some k
+  pub none : first_fault head.raw (rules_of k) ≡ None
+
+faultless_fields : (head : Head) (found : Kind) (fault : Option LineFault) (key : EventKey) (k : Kind)
+    → fields_class head found fault ≡ Used key k → kind_of head.name ≡ Some found → first_fault head.raw (rules_of found) ≡ fault → Faultless (Some head) key k
+faultless_fields head found None key k is named none =
+    let same_key : head.key ≡ key = cc is in
+    let same_kind : found ≡ k = cc is in
+    record { head = head; is = refl; key_is = same_key; kind_is = cc (named, same_kind); none = cc (none, same_kind) }
+faultless_fields head found (Some fault) key k is named none = cc is
+
+faultless_kind : (head : Head) (found : Option Kind) (key : EventKey) (k : Kind)
+    → kind_class head found ≡ Used key k → kind_of head.name ≡ found → Faultless (Some head) key k
+faultless_kind head None key k is named = cc is
+faultless_kind head (Some found) key k is named = faultless_fields head found (first_fault head.raw (rules_of found)) key k is named refl
+
+faultless_head : (found : Option Head) (key : EventKey) (k : Kind) → head_class found ≡ Used key k → Faultless found key k
+faultless_head None key k is = cc is
+faultless_head (Some head) key k is = faultless_kind head (kind_of head.name) key k is refl
+
+faultless_text : (blank : Bool) (found : Option Head) (key : EventKey) (k : Kind)
+    → (if blank then Blank else head_class found) ≡ Used key k → Faultless found key k
+faultless_text true found key k is = cc is
+faultless_text false found key k is = faultless_head found key k is
+
+pub faultless : (line : List ℕ) (key : EventKey) (k : Kind) → text_class line ≡ Used key k → Faultless (head_of line) key k
+faultless line key k is = faultless_text (list_all is_blank_byte line) (head_of line) key k is
+
+short_used : (long : Bool) (class : Class) (key : EventKey) (k : Kind) → (if long then Malformed fault.TooLong else class) ≡ Used key k → class ≡ Used key k
+short_used true class key k is = cc is
+short_used false class key k is = is
+
+-- a line that is used within a limit is used
+pub used_within : (limit : ℕ) (line : List ℕ) (key : EventKey) (k : Kind) → class_of limit line ≡ Used key k → text_class line ≡ Used key k
+used_within limit line key k is = short_used (is_long limit line) (text_class line) key k is
+
+-- ---- a field without a fault can be read
+
+or_none : {A : Type 0} (a b : Option A) → option_or a b ≡ None → (a ≡ None) × (b ≡ None)
+or_none None b is = (refl, is)
+or_none (Some a) b is = cc is
+
+passes : (test : Bool) (fault : LineFault) → (if test then None else Some fault) ≡ None → test ≡ true
+passes true fault is = refl
+passes false fault is = cc is
+
+needed_there : {A : Type 0} (reads : List ℕ → Option A) (v : ValueKind) (f : Field) (found : Option (List ℕ))
+    → ((text : List ℕ) → spells v text ≡ is_some (reads text)) → fault_of (must f v) found ≡ None → IsSome (option_and_then reads found)
+needed_there reads v f None same none = cc none
+needed_there reads v f (Some text) same none = sym (same text) ∙ passes _ _ none
+
+still_there : {A : Type 0} (reads : List ℕ → Option A) (text : List ℕ) (o : Option A) → reads text ≡ o → is_some o ≡ true → IsSome (reads_if_there reads (Some text))
+still_there reads text None is some = cc some
+still_there reads text (Some a) is some = rw is refl
+
+offered_there : {A : Type 0} (reads : List ℕ → Option A) (v : ValueKind) (f : Field) (found : Option (List ℕ))
+    → ((text : List ℕ) → spells v text ≡ is_some (reads text)) → fault_of (may f v) found ≡ None → IsSome (reads_if_there reads found)
+offered_there reads v f None same none = refl
+offered_there reads v f (Some text) same none = still_there reads text (reads text) refl (sym (same text) ∙ passes _ _ none)
+
+text_there : (f : Field) (found : Option (List ℕ)) → fault_of (may f value.Text) found ≡ None → IsSome (text_if_there found)
+text_there f None none = refl
+text_there f (Some text) none = passes _ _ none
+
+-- a field of a line is the field of its raw part
+in_line : (line raw name : List ℕ) → raw_part_of line ≡ Some raw → field_in_line line name ≡ field_of raw name
+in_line line raw name is = ap (option_and_then (λ text. field_of text name)) is
+
+need : {A : Type 0} (reads : List ℕ → Option A) (v : ValueKind) (line raw : List ℕ) (f : Field) → raw_part_of line ≡ Some raw
+    → ((text : List ℕ) → spells v text ≡ is_some (reads text)) → fault_in raw (must f v) ≡ None → IsSome (needed reads line f)
+need reads v line raw f is same none = rw (in_line line raw (name_of f) is) (needed_there reads v f (field_of raw (name_of f)) same none)
+
+offer : {A : Type 0} (reads : List ℕ → Option A) (v : ValueKind) (line raw : List ℕ) (f : Field) → raw_part_of line ≡ Some raw
+    → ((text : List ℕ) → spells v text ≡ is_some (reads text)) → fault_in raw (may f v) ≡ None → IsSome (offered reads line f)
+offer reads v line raw f is same none = rw (in_line line raw (name_of f) is) (offered_there reads v f (field_of raw (name_of f)) same none)
+
+offer_text : (line raw : List ℕ) (f : Field) → raw_part_of line ≡ Some raw → fault_in raw (may f value.Text) ≡ None → IsSome (offered_text line f)
+offer_text line raw f is none = rw (in_line line raw (name_of f) is) (text_there f (field_of raw (name_of f)) none)
+
+no_faults : (raw : List ℕ) (rules : List Rule) → first_fault raw rules ≡ None → AllByRecursion (λ rule. fault_in raw rule ≡ None) rules
+no_faults raw [] none = tt
+no_faults raw (rule ∷ rules) none =
+    let parts = or_none (fault_in raw rule) (first_fault raw rules) none in (parts.0, no_faults raw rules parts.1)
+
+call_readable : (line raw : List ℕ) → raw_part_of line ≡ Some raw → first_fault raw (rules_of kind.Syscall) ≡ None → ReadableSyscall line
+call_readable line raw is none =
+    let all = no_faults raw (rules_of kind.Syscall) none in
+    record {
+      arch = need hex32_of value.Hex32 line raw field.Arch is (λ text. refl) all.0;
+      number = need dec32_of value.Dec32 line raw field.Syscall is (λ text. refl) all.1.0;
+      success = offer yesno_of value.YesNo line raw field.Success is (λ text. refl) all.1.1.0;
+      exit = offer signed_of value.Signed line raw field.Exit is (λ text. refl) all.1.1.1.0;
+      a0 = need hex64_of value.Hex64 line raw field.A0 is (λ text. refl) all.1.1.1.1.0;
+      a1 = need hex64_of value.Hex64 line raw field.A1 is (λ text. refl) all.1.1.1.1.1.0;
+      a2 = need hex64_of value.Hex64 line raw field.A2 is (λ text. refl) all.1.1.1.1.1.1.0;
+      a3 = need hex64_of value.Hex64 line raw field.A3 is (λ text. refl) all.1.1.1.1.1.1.1.0;
+      ppid = need dec32_of value.Dec32 line raw field.Ppid is (λ text. refl) all.1.1.1.1.1.1.1.1.0;
+      pid = need dec32_of value.Dec32 line raw field.Pid is (λ text. refl) all.1.1.1.1.1.1.1.1.1.0;
+      exe = offer_text line raw field.Exe is all.1.1.1.1.1.1.1.1.1.1.0;
+    }
+
+pub readable_syscall : (line : List ℕ) (key : EventKey) → text_class line ≡ Used key kind.Syscall → ReadableSyscall line
+readable_syscall line key is =
+    let found = faultless line key kind.Syscall is in
+    call_readable line found.head.raw (rw found.is refl) found.none

@@ -1,0 +1,13 @@
+pub mod History
+pub mod LineCut
+pub mod Tokens
+pub mod Lent
+pub mod Values
+pub mod Header
+pub mod FieldTable
+pub mod LineClass
+pub mod LineFields
+pub mod Lexing
+pub mod SyscallLine
+pub mod Written
+pub mod Pieces

@@ -1,0 +1,53 @@
+-- The fields of a line, and what they spell.
+use Rattle.std.specs.Prelude.{ℕ, List, Option, None, Some, IsSome, option_map}
+use Rattle.std.specs.Option.{option_and_then}
+use Rattle.audit_lex.specs.Header.{head_of}
+use Rattle.audit_lex.specs.Tokens.{field_of}
+use Rattle.audit_lex.specs.FieldTable.{name_of}
+use Rattle.audit_lex.specs.Values.{dec32_of, signed_of, hex32_of, hex64_of, yesno_of, text_of}
+use Rattle.audit_lex.specs.declared.fields.Field.{Field}
+use Rattle.audit_lex.specs.declared.fields.Field.TheVariants as field
+
+-- the raw part of a line that begins with a header
+abbrev pub raw_part_of : List ℕ → Option (List ℕ)
+raw_part_of line = option_map (λ head. head.raw) (head_of line)
+
+-- the value of the first token of this name in a line's raw part
+abbrev pub field_in_line : List ℕ → List ℕ → Option (List ℕ)
+field_in_line line name = option_and_then (λ raw. field_of raw name) (raw_part_of line)
+
+-- what a field that must be there spells
+abbrev pub needed : {A : Type 0} → (List ℕ → Option A) → List ℕ → Field → Option A
+needed reads line field = option_and_then reads (field_in_line line (name_of field))
+
+-- what a value spells, where there is one: `Some None` where there is none
+abbrev pub reads_if_there : {A : Type 0} → (List ℕ → Option A) → Option (List ℕ) → Option (Option A)
+reads_if_there reads None = Some None
+reads_if_there reads (Some value) = option_map Some (reads value)
+
+-- what a field that may be left out spells: `Some None` where it isn't there
+abbrev pub offered : {A : Type 0} → (List ℕ → Option A) → List ℕ → Field → Option (Option A)
+offered reads line field = reads_if_there reads (field_in_line line (name_of field))
+
+-- what a text spells, where there is one; one that is absent by its word is as one that isn't there
+abbrev pub text_if_there : Option (List ℕ) → Option (Option (List ℕ))
+text_if_there None = Some None
+text_if_there (Some value) = text_of value
+
+-- a text that may be left out
+abbrev pub offered_text : List ℕ → Field → Option (Option (List ℕ))
+offered_text line field = text_if_there (field_in_line line (name_of field))
+
+-- each field of a system call can be read
+pub record ReadableSyscall (line : List ℕ) : Type 0 where
+  pub arch : IsSome (needed hex32_of line field.Arch)
+  pub number : IsSome (needed dec32_of line field.Syscall)
+  pub success : IsSome (offered yesno_of line field.Success)
+  pub exit : IsSome (offered signed_of line field.Exit)
+  pub a0 : IsSome (needed hex64_of line field.A0)
+  pub a1 : IsSome (needed hex64_of line field.A1)
+  pub a2 : IsSome (needed hex64_of line field.A2)
+  pub a3 : IsSome (needed hex64_of line field.A3)
+  pub ppid : IsSome (needed dec32_of line field.Ppid)
+  pub pid : IsSome (needed dec32_of line field.Pid)
+  pub exe : IsSome (offered_text line field.Exe)
