@@ -1,0 +1,105 @@
+-- Lines that stop no run tell calls that could follow each other.
+use Rattle.std.proofs.Common.{◌≡◌, ◌≢◌, ◌<◌, ◌&&◌, ◌∙◌, ◌++◌, ap, sym, subst, ℕ, not, nat_lt, ◌==◌, List, [], ◌∷◌, Bool, true, false, Option, None, Some, refl, if◌then◌else◌, ◌%◌, ◌^◌, ℤ, pos, negsuc}
+use Rattle.std.specs.Prelude.{option_map}
+use Rattle.std.specs.Option.{option_or, option_to_list}
+use Rattle.flow_base.specs.declared.limits.Limits.{Limits}
+use Rattle.audit_lex.specs.declared.header.EventKey.{EventKey}
+use Rattle.audit_cli.specs.declared.call_line.Call.{Call}
+use Rattle.audit_cli.specs.declared.call_line.Fields.{Fields}
+use Rattle.audit_cli.specs.declared.call_line.Deed.{Deed}
+use Rattle.audit_cli.specs.declared.call_line.Deed.TheVariants.{Nothing, Reads, Writes, Forks}
+use Rattle.audit_cli.specs.declared.halt.Halt.{Halt}
+use Rattle.audit_cli.specs.declared.refusal.Refusal.{Refusal}
+use Rattle.audit_cli.specs.CallLine.{read_deed, write_deed, child_deed, fork_deed, deed_of, is_ok, call_from, call_at, call_of, fields_of, X86_64, has_moved}
+use Rattle.audit_lex.specs.SyscallLine.{syscall_line_of}
+use Rattle.audit_cli.specs.Stage.{may_follow}
+use Rattle.audit_cli.specs.Refusals.{refusal_of}
+use Rattle.audit_cli.specs.Lines.{calls_of, stop_at, first_stop, halt_by}
+use Rattle.audit_cli.specs.Taken.{AreTaken, IsOfAnother}
+use borrow.Author.Tests.{eqb-false}
+
+child_by : (ok some small same : Bool) (child pid : ℕ) → (same ≡ false → pid ≢ child) → IsOfAnother pid (if ok && (some && (small && not same)) then Forks child else Nothing)
+child_by false some small same child pid apart = tt
+child_by true false small same child pid apart = tt
+child_by true true false same child pid apart = tt
+child_by true true true true child pid apart = tt
+child_by true true true false child pid apart = apart refl
+
+child_other : (ok : Bool) (child pid : ℕ) → IsOfAnother pid (child_deed ok child pid)
+child_other ok child pid = child_by ok (nat_lt 0 child) (nat_lt child (2 ^ 32)) (child == pid) child pid (λ differ same. eqb-false child pid differ (sym same))
+
+fork_other : (ok : Bool) (exit : Option ℤ) (pid : ℕ) → IsOfAnother pid (fork_deed ok exit pid)
+fork_other ok None pid = tt
+fork_other ok (Some (pos child)) pid = child_other ok child pid
+fork_other ok (Some (negsuc fault)) pid = tt
+
+read_by : (moved : Bool) (fd pid : ℕ) → IsOfAnother pid (if moved then Reads fd else Nothing)
+read_by true fd pid = tt
+read_by false fd pid = tt
+
+write_by : (moved : Bool) (fd pid : ℕ) → IsOfAnother pid (if moved then Writes fd else Nothing)
+write_by true fd pid = tt
+write_by false fd pid = tt
+
+along : (pid : ℕ) (made deed : Deed) → IsOfAnother pid made → Some made ≡ Some deed → IsOfAnother pid deed
+along pid made deed other e = let same : made ≡ deed = cc in subst (IsOfAnother pid) same other
+
+deed_by : (zero_is one_is fork_is ok : Bool) (exit : Option ℤ) (a0 pid : ℕ) (deed : Deed)
+    → (if zero_is then Some (read_deed ok exit a0) else if one_is then Some (write_deed ok exit a0) else if fork_is then Some (fork_deed ok exit pid) else None) ≡ Some deed
+    → IsOfAnother pid deed
+deed_by true one_is fork_is ok exit a0 pid deed e = along pid (read_deed ok exit a0) deed (read_by (ok && has_moved exit) (a0 % 2 ^ 32) pid) e
+deed_by false true fork_is ok exit a0 pid deed e = along pid (write_deed ok exit a0) deed (write_by (ok && has_moved exit) (a0 % 2 ^ 32) pid) e
+deed_by false false true ok exit a0 pid deed e = along pid (fork_deed ok exit pid) deed (fork_other ok exit pid) e
+deed_by false false false ok exit a0 pid deed e = let wrong : None ≡ Some deed = e in cc
+
+-- what a call says of its pid and deed
+abbrev IsFine : Option Call → Type 0
+IsFine None = Unit {0}
+IsFine (Some call) = IsOfAnother call.pid call.deed
+
+fine_deed : (key : EventKey) (fields : Fields) (deed : Option Deed) → ((d : Deed) → deed ≡ Some d → IsOfAnother fields.pid d)
+    → IsFine (option_map (λ d. record { key = key; ppid = fields.ppid; pid = fields.pid; deed = d }) deed)
+fine_deed key fields None each = tt
+fine_deed key fields (Some d) each = each d refl
+
+fine_if : (is_x86 : Bool) (call : Option Call) → IsFine call → IsFine (if is_x86 then call else None)
+fine_if true call fine = fine
+fine_if false call fine = tt
+
+fine_fields : (key : EventKey) (fields : Fields) → IsFine (call_from key fields)
+fine_fields key fields =
+    fine_if (fields.arch == X86_64) _ (fine_deed key fields (deed_of fields.number (is_ok fields.success) fields.exit fields.a0 fields.pid)
+    (λ d e. deed_by (fields.number == 0) (fields.number == 1) (fields.number == 57) (is_ok fields.success) fields.exit fields.a0 fields.pid d e))
+
+fine_at : (key : Option EventKey) (fields : Option Fields) → IsFine (call_at key fields)
+fine_at None None = tt
+fine_at None (Some fields) = tt
+fine_at (Some key) None = tt
+fine_at (Some key) (Some fields) = fine_fields key fields
+
+fine_call : (limit : ℕ) (line : List ℕ) → IsFine (call_of limit line)
+fine_call limit line = fine_at (syscall_line_of limit line) (fields_of line)
+
+or_none : {A : Type 0} (first second : Option A) → option_or first second ≡ None → (first ≡ None) × (second ≡ None)
+or_none None second e = (refl, e)
+or_none (Some x) second e = let wrong : Some x ≡ None = e in cc
+
+map_none : {A B : Type 0} (f : A → B) (o : Option A) → option_map f o ≡ None → o ≡ None
+map_none f None e = refl
+map_none f (Some x) e = let wrong : Some (f x) ≡ None = e in cc
+
+follows_by : (follows : Bool) (rest : Option Refusal) (why : Refusal) → (if not follows then Some why else rest) ≡ None → follows ≡ true
+follows_by true rest why e = refl
+follows_by false rest why e = let wrong : Some why ≡ None = e in cc
+
+line_taken : (limits : Limits) (before : List Call) (call : Option Call) → IsFine call → refusal_of limits before call ≡ None → AreTaken before → AreTaken (option_to_list call ++ before)
+line_taken limits before None fine none taken = let wrong : Some _ ≡ None = none in cc
+line_taken limits before (Some call) fine none taken = (follows_by (may_follow before call) _ _ none, fine, taken)
+
+-- the calls of lines that stop no run were taken
+pub going_taken : (limits : Limits) (lines : List (List ℕ)) → first_stop limits lines ≡ None → AreTaken (calls_of limits.line lines)
+going_taken limits [] none = tt
+going_taken limits (line ∷ before) none =
+    let parts = or_none (first_stop limits before) (stop_at limits before line) none in
+    line_taken limits (calls_of limits.line before) (call_of limits.line line) (fine_call limits.line line)
+    (map_none _ (refusal_of limits (calls_of limits.line before) (call_of limits.line line)) parts.1) (going_taken limits before parts.0)

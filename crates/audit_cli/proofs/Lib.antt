@@ -1,0 +1,9 @@
+pub mod Ats
+pub mod Dues
+pub mod Entering
+pub mod Floats
+pub mod Going
+pub mod KeyNumbers
+pub mod LawfulFlows
+pub mod Numbers
+pub mod Within

@@ -1,0 +1,12 @@
+pub mod CallLine
+pub mod Headline
+pub mod Lines
+pub mod Logs
+pub mod Refusals
+pub mod Replies
+pub mod Stage
+pub mod Statuses
+pub mod Tables
+pub mod Taken
+pub mod Taking
+pub mod Words

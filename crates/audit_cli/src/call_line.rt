@@ -1,0 +1,190 @@
+//! What a line says, as far as this stage of the program takes lines.
+//!
+//! The stage takes system calls of x86-64 on lines that have neither a node nor an enriched part: a read, a write
+//! and a fork. Joining the records of an event, and all other calls, come later.
+ghost use Rattle.std.specs.Prelude.{◌≡◌, ◌%◌, ◌^◌};
+ghost use Rattle.audit_lex.specs.LineFields.{offered};
+ghost use Rattle.audit_lex.specs.Values.{signed_of, yesno_of};
+ghost use Rattle.audit_lex.specs.declared.fields.Field.TheVariants as field;
+ghost use Rattle.audit_cli.specs.CallLine.{is_ok, has_moved, read_deed, write_deed, child_deed, fork_deed, deed_of, call_from, fields_of, call_of};
+
+use audit_lex::{EventKey, Field, UsedLine, dec32, hex32, hex64, signed, syscall_line, yesno};
+
+/// x86-64, as the kernel numbers its machines.
+const X86_64: u32 = 0xc000_003e;
+
+const READ: u32 = 0;
+const WRITE: u32 = 1;
+const FORK: u32 = 57;
+
+/// What a call did, where it did anything.
+#[derive(Clone, Copy, Debug, PartialEq, Eq)]
+pub enum Deed {
+    /// It failed, or moved no byte.
+    Nothing,
+    /// Bytes came in by a descriptor.
+    Reads { fd: u32 },
+    /// Bytes went out by a descriptor.
+    Writes { fd: u32 },
+    /// A process began.
+    Forks { child: u32 },
+}
+
+/// A call, by whom, and when.
+#[derive(Clone, Copy, Debug, PartialEq, Eq)]
+pub struct Call {
+    pub key: EventKey,
+    pub ppid: u32,
+    pub pid: u32,
+    pub deed: Deed,
+}
+
+// The fields of a system call that the stage reads.
+#[derive(Clone, Copy)]
+struct Fields {
+    arch: u32,
+    number: u32,
+    success: Option<bool>,
+    exit: Option<i64>,
+    a0: u64,
+    ppid: u32,
+    pid: u32,
+}
+
+/// The call that a line of at most this many bytes tells, where the stage takes such a line.
+pub fn read_call(line: &[u8], limit: usize) -> Option<Call>
+    ensures { result ≡ call_of limit line.now }
+{
+    let used = syscall_line(line, limit)?;
+    let fields = read_fields(&used)?;
+    call_with(used.key, fields)
+}
+
+// The fields of a line.
+fn read_fields(used: &UsedLine<'_>) -> Option<Fields>
+    ensures { result ≡ fields_of used.now.line.now }
+{
+    let arch = hex32(used.field(Field::Arch)?)?;
+    let number = dec32(used.field(Field::Syscall)?)?;
+    let success = read_success(used)?;
+    let exit = read_exit(used)?;
+    let a0 = hex64(used.field(Field::A0)?)?;
+    let ppid = dec32(used.field(Field::Ppid)?)?;
+    let pid = dec32(used.field(Field::Pid)?)?;
+    Some(Fields {
+        arch,
+        number,
+        success,
+        exit,
+        a0,
+        ppid,
+        pid,
+    })
+}
+
+// Whether the call succeeded, where the line says it.
+fn read_success(used: &UsedLine<'_>) -> Option<Option<bool>>
+    ensures { result ≡ offered yesno_of used.now.line.now field.Success }
+{
+    match used.field(Field::Success) {
+        None => Some(None),
+        Some(value) => {
+            let success = yesno(value)?;
+            Some(Some(success))
+        }
+    }
+}
+
+// What the call answered, where the line says it.
+fn read_exit(used: &UsedLine<'_>) -> Option<Option<i64>>
+    ensures { result ≡ offered signed_of used.now.line.now field.Exit }
+{
+    match used.field(Field::Exit) {
+        None => Some(None),
+        Some(value) => {
+            let exit = signed(value)?;
+            Some(Some(exit))
+        }
+    }
+}
+
+// The call that these fields tell.
+fn call_with(key: EventKey, fields: Fields) -> Option<Call>
+    ensures { result ≡ call_from key fields }
+{
+    if fields.arch != X86_64 {
+        return None;
+    }
+    let deed = deed_by(fields)?;
+    Some(Call {
+        key,
+        ppid: fields.ppid,
+        pid: fields.pid,
+        deed,
+    })
+}
+
+// What the call of this number did.
+fn deed_by(fields: Fields) -> Option<Deed>
+    ensures { result ≡ deed_of fields.number (is_ok fields.success) fields.exit fields.a0 fields.pid }
+{
+    let ok = fields.success == Some(true);
+    match fields.number {
+        READ => Some(reads(ok, fields.exit, fields.a0)),
+        WRITE => Some(writes(ok, fields.exit, fields.a0)),
+        FORK => Some(forks(ok, fields.exit, fields.pid)),
+        _ => None,
+    }
+}
+
+fn reads(ok: bool, exit: Option<i64>, a0: u64) -> Deed
+    ensures { result ≡ read_deed ok exit a0 }
+{
+    if ok && moves_bytes(exit) {
+        Deed::Reads { fd: low_half(a0) }
+    } else {
+        Deed::Nothing
+    }
+}
+
+fn writes(ok: bool, exit: Option<i64>, a0: u64) -> Deed
+    ensures { result ≡ write_deed ok exit a0 }
+{
+    if ok && moves_bytes(exit) {
+        Deed::Writes { fd: low_half(a0) }
+    } else {
+        Deed::Nothing
+    }
+}
+
+fn forks(ok: bool, exit: Option<i64>, pid: u32) -> Deed
+    ensures { result ≡ fork_deed ok exit pid }
+{
+    match exit {
+        Some(child) if child > 0 && child <= u32::MAX as i64 => begins(ok, child as u32, pid),
+        _ => Deed::Nothing,
+    }
+}
+
+fn begins(ok: bool, child: u32, pid: u32) -> Deed
+    ensures { result ≡ child_deed ok child pid }
+{
+    if ok && child > 0 && child != pid {
+        Deed::Forks { child }
+    } else {
+        Deed::Nothing
+    }
+}
+
+fn moves_bytes(exit: Option<i64>) -> bool
+    ensures { result ≡ has_moved exit }
+{
+    matches!(exit, Some(count) if count > 0)
+}
+
+// The low 32 bits, which are a descriptor.
+fn low_half(argument: u64) -> u32
+    ensures { result ≡ argument % 2 ^ 32 }
+{
+    (argument & 0xffff_ffff) as u32
+}
