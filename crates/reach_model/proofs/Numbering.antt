@@ -9,10 +9,7 @@ use Rattle.flow_base.specs.declared.types.Flow.{Flow}
 use Rattle.reach_model.specs.Flows.{source, target, time}
 use Rattle.reach_model.specs.Numbers.{beyond, known, IsNumbered, IsLawfulWith, MayFollow}
 use Rattle.reach_model.proofs.Lawful.{lawful_front, lawful_push, last_place, last_ends, before_last, times_ordered}
-
-pub Contains-cons_cases : {X : Type 0} (xs : List X) (x y : X) → Contains (x ∷ xs) y → (x ≡ y) ⊎ Contains xs y
-Contains-cons_cases xs x y (zero, h, e) = inl e
-Contains-cons_cases xs x y (suc k, h, e) = inr (k, omega (arith, h), e)
+use Rattle.reach_model.proofs.Members.{Contains-cons_cases}
 
 pub known_push : (F : List Flow) (f : Flow) → known (F ++ f ∷ []) ≡ max (known F) (beyond f)
 known_push [] f = omega arith
