@@ -18,7 +18,6 @@ use Rattle.reach_model.proofs.Shadow.{by_last}
 use Rattle.reach_model.proofs.Search.{Decided, both, lower, same_pair, some_or_none}
 use Rattle.reach_model.proofs.FirstFlows.{known_or_not}
 use Rattle.reach_model.proofs.Members.{Contains-cons_cases}
-use Rattle.reach_model.proofs.Redundant.{ascends}
 use Rattle.reach_model.proofs.ByRows.{carried}
 
 neither : (P : Type 0) → Decided P → Decided (¬ P)

@@ -3,7 +3,7 @@ use Rattle.std.proofs.Common.{◌≡◌, ℕ, suc, ◌≤◌, List, [], ◌∷�
 use Rattle.std.specs.List.{Contains}
 use Rattle.flow_base.specs.declared.types.Flow.{Flow}
 use Rattle.reach_model.specs.declared.modes.Mode.TheVariants.{Full}
-use Rattle.reach_model.specs.Flows.{source, target, place, IsLawful}
+use Rattle.reach_model.specs.Flows.{target, place, IsLawful}
 use Rattle.reach_model.specs.Paths.{Path, IsSince, Fore, last_place}
 use Rattle.reach_model.specs.Rows.{Row, firsts, lasts, Keeps}
 use Rattle.reach_model.proofs.PathLemmas.{path_weaker}

@@ -1,5 +1,5 @@
 -- In every mode the first flow of each object is the first flow of a row.
-use Rattle.std.proofs.Common.{◌≡◌, ℕ, suc, List, [], ◌∷◌, ◌++◌, get_or, refl, sym, ap, subst, ◌∙◌, arith, ◌⊎◌, inl, inr}
+use Rattle.std.proofs.Common.{◌≡◌, ℕ, suc, List, [], ◌∷◌, ◌++◌, get_or, refl, sym, ap, subst, ◌∙◌, ◌⊎◌, inl, inr}
 use Rattle.std.specs.List.{Contains}
 use Rattle.std.specs.Option.{option_or}
 use Rattle.std.proofs.lemmas.List.{map-append}
@@ -15,7 +15,6 @@ use Rattle.reach_model.specs.Rows.{Row, IsSourceOf, IsVerdict, row_of, firsts, K
 use Rattle.reach_model.proofs.Lawful.{lawful_front, last_ends}
 use Rattle.reach_model.proofs.RowFacts.{rows_of, carries}
 use Rattle.reach_model.proofs.Twins.{first_there}
-use Rattle.reach_model.proofs.PathLemmas.{path_weaker}
 use Rattle.reach_model.proofs.FirstFlows.{IsKnown, known_by, known_or_not, first_push, first_same, first_new, source_stays, has_source, touches_source, touches_target}
 
 -- a path between two objects makes them known

@@ -10,7 +10,7 @@ use Rattle.reach_model.specs.declared.modes.Mode.{Mode}
 use Rattle.reach_model.specs.declared.modes.Mode.TheVariants.{Continuous, Full, Source}
 use Rattle.reach_model.specs.declared.modes.Verdict.TheVariants.{Drop, Add, Extend}
 use Rattle.reach_model.specs.Flows.{source, target, place, IsLawful}
-use Rattle.reach_model.specs.Paths.{Path, Reaches}
+use Rattle.reach_model.specs.Paths.{Reaches}
 use Rattle.reach_model.specs.Sources.{IsSource}
 use Rattle.reach_model.specs.Rows.{Row, SamePair, row_of, firsts, Keeps, none, more}
 use Rattle.reach_model.specs.Laws.{IsParted, PartsRows, PartsFlows, BringsSources}

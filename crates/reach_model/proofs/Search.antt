@@ -36,9 +36,6 @@ module _ (Q : Flow → Type 0) (decide : (h : Flow) → Decided (Q h)) where
     ]
   ]
 
-  LastOf : List Flow → Type 0
-  LastOf F = (g : Flow) × Contains F g × Q g × ((h : Flow) → Contains F h → place g < place h → ¬ Q h)
-
   pub last_or_none : (F : List Flow) → IsLawful F → ((g : Flow) × Contains F g × Q g × ((h : Flow) → Contains F h → place g < place h → ¬ Q h)) ⊎ ((h : Flow) → Contains F h → ¬ Q h)
   last_or_none = by_last (λ F. IsLawful F → ((g : Flow) × Contains F g × Q g × ((h : Flow) → Contains F h → place g < place h → ¬ Q h)) ⊎ ((h : Flow) → Contains F h → ¬ Q h))
       (λ l. inr (λ h c. absurd (omega (arith, c.1)))) step

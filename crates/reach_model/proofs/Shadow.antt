@@ -5,7 +5,7 @@ use Rattle.flow_base.specs.declared.types.Flow.{Flow}
 use Rattle.reach_model.specs.Flows.{source, target, place}
 use Rattle.reach_model.specs.Paths.{Path}
 use Rattle.reach_model.specs.Rows.{SamePair}
-use Rattle.reach_model.proofs.PathLemmas.{Below, path_weaker, path_last, path_push, path_append, path_tighten, path_later}
+use Rattle.reach_model.proofs.PathLemmas.{Below, path_weaker, path_last, path_push, path_tighten, path_later}
 
 -- a proof by the last item
 pub by_last {ℓ} : {A : Type 0} (P : List A → Type ℓ) → P [] → ((xs : List A) (x : A) → P xs → P (xs ++ x ∷ [])) → (xs : List A) → P xs

@@ -9,10 +9,9 @@ use Rattle.reach_model.specs.declared.modes.Verdict.TheVariants.{Drop, Add, Exte
 use Rattle.reach_model.specs.Flows.{IsLawful}
 use Rattle.reach_model.specs.Paths.{Back, Fore}
 use Rattle.reach_model.specs.Laws.{Answers, AnswersAll, AnswersFromFirst, AnswersForSources, KeepsNothingElse}
-use Rattle.reach_model.specs.Rows.{Row, firsts, lasts, row_of, Keeps, none, more}
+use Rattle.reach_model.specs.Rows.{Row, firsts, row_of, Keeps, none, more}
 use Rattle.reach_model.proofs.PathLemmas.{path_weaker}
-use Rattle.reach_model.proofs.Twins.{continuous_earlier, continuous_later, full_earlier}
-use Rattle.reach_model.proofs.Faithful.{kept_first, kept_last, back_sound, fore_sound, continuous_back, continuous_fore, full_back}
+use Rattle.reach_model.proofs.Faithful.{kept_first, back_sound, fore_sound, continuous_back, continuous_fore, full_back}
 use Rattle.reach_model.proofs.FullMode.{full_fore}
 use Rattle.reach_model.proofs.SingleRows.{singles}
 use Rattle.reach_model.proofs.Starts.{from_first}

@@ -1,5 +1,5 @@
 -- Which kept flow stands in for a flow, in each mode.
-use Rattle.std.proofs.Common.{◌≡◌, suc, ◌<◌, ◌≤◌, List, [], ◌∷◌, ◌++◌, get_or, refl, sym, ap, subst, ◌∙◌, arith, inl, inr}
+use Rattle.std.proofs.Common.{◌≡◌, ◌<◌, ◌≤◌, List, [], ◌∷◌, ◌++◌, get_or, refl, sym, ap, subst, ◌∙◌, arith, inl, inr}
 use Rattle.std.specs.List.{Contains, All}
 use Rattle.std.proofs.lemmas.List.{get_or_default, map-append}
 use Rattle.std.proofs.lemmas.List.Elements.{All-contains, Contains-push, Contains-push_cases, Contains-append_left}
@@ -11,7 +11,6 @@ use Rattle.reach_model.specs.Flows.{source, target, place, IsLawful}
 use Rattle.reach_model.specs.Rows.{Row, SamePair, row_of, firsts, lasts, Keeps, none, more}
 use Rattle.reach_model.proofs.Lawful.{ends_differ, same_place, lawful_front, before_last}
 use Rattle.reach_model.proofs.Members.{Contains-map, from_map, Contains-set, Contains-set_same}
-use Rattle.reach_model.proofs.PathLemmas.{Below, path_weaker}
 use Rattle.reach_model.proofs.Shadow.{EarlierTwin, LaterTwin}
 use Rattle.reach_model.proofs.RowFacts.{IsRowOf, LiesIn, rows_of}
 

@@ -1,8 +1,8 @@
 -- Twins for each flow give paths of kept flows that stay within a condition, as a time.
-use Rattle.std.proofs.Common.{◌≡◌, ℕ, suc, ◌<◌, ◌≤◌, List, ◌∷◌, length, map, arith}
+use Rattle.std.proofs.Common.{◌≡◌, ℕ, ◌≤◌, List, length, map, arith}
 use Rattle.std.specs.List.{Contains}
 use Rattle.flow_base.specs.declared.types.Flow.{Flow}
-use Rattle.reach_model.specs.Flows.{source, target, place, IsLawful}
+use Rattle.reach_model.specs.Flows.{target, place, IsLawful}
 use Rattle.reach_model.specs.Paths.{Path}
 use Rattle.reach_model.specs.Rows.{SamePair}
 use Rattle.reach_model.proofs.Lawful.{below_length}

@@ -1,5 +1,5 @@
 -- What the laws of the modes say.
-use Rattle.std.specs.Prelude.{◌≡◌, ℕ, ◌<◌, ◌≤◌, List, ◌∷◌, map, Option, ◌↔◌, ◌⊎◌, length, slice_index_or}
+use Rattle.std.specs.Prelude.{◌≡◌, ℕ, ◌<◌, ◌≤◌, List, map, Option, ◌↔◌, ◌⊎◌, length, slice_index_or}
 use Rattle.std.specs.List.{Contains}
 use Rattle.flow_base.specs.declared.types.Flow.{Flow}
 use Rattle.reach_model.specs.declared.modes.Mode.{Mode}
