@@ -1,16 +1,16 @@
-//! How much is kept of the flows, and what becomes of one flow.
+//! How much is kept of the flows, and what becomes of one of them.
 
 /// Which flows are kept.
 #[derive(Clone, Copy, Debug, PartialEq, Eq)]
 pub enum Mode {
-    /// Every flow.
+    /// Each flow is a row.
     Plain,
-    /// Every flow, and one row for flows between the same two objects with nothing between them that could tell them
-    /// apart.
+    /// Flows between the same two objects share a row where no flow into their source and none out of their target
+    /// comes between them.
     Continuous,
-    /// No flow between two objects where one was kept since anything last flowed into the source.
+    /// A flow is dropped where one between its two objects was kept, and none into its source since.
     Full,
-    /// No flow that brings its target no new source.
+    /// A flow is dropped where each source that reaches its source reaches its target already.
     Source,
 }
 
