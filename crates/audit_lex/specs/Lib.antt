@@ -5,6 +5,7 @@ pub mod Lent
 pub mod Values
 pub mod Header
 pub mod FieldTable
+pub mod Slots
 pub mod LineClass
 pub mod LineFields
 pub mod Lexing
