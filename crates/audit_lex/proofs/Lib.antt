@@ -7,4 +7,6 @@ pub mod NumberLemmas
 pub mod HexTexts
 pub mod HeaderLaws
 pub mod PieceLaws
+pub mod WrittenPieces
 pub mod ReadableLemmas
+pub mod UsedLaws

@@ -12,3 +12,4 @@ pub mod Lexing
 pub mod SyscallLine
 pub mod Written
 pub mod Pieces
+pub mod UsedLine
