@@ -13,6 +13,8 @@ mod places;
 mod plain_syscall;
 mod slots;
 mod spans;
+#[cfg(test)]
+mod tests;
 mod tokens;
 mod used_line;
 mod values;
