@@ -2,8 +2,11 @@ pub mod PlaceLemmas
 pub mod HistoryLemmas
 pub mod HistoryLaws
 pub mod TokenLemmas
+pub mod SlotLemmas
 pub mod NumberLemmas
 pub mod HexTexts
 pub mod HeaderLaws
 pub mod PieceLaws
+pub mod WrittenPieces
 pub mod ReadableLemmas
+pub mod UsedLaws

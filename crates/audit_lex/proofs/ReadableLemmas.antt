@@ -65,7 +65,7 @@ used_within limit line key k is = short_used (is_long limit line) (text_class li
 
 -- ---- a field without a fault can be read
 
-or_none : {A : Type 0} (a b : Option A) → option_or a b ≡ None → (a ≡ None) × (b ≡ None)
+pub or_none : {A : Type 0} (a b : Option A) → option_or a b ≡ None → (a ≡ None) × (b ≡ None)
 or_none None b is = (refl, is)
 or_none (Some a) b is = cc is
 

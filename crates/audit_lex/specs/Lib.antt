@@ -5,9 +5,11 @@ pub mod Lent
 pub mod Values
 pub mod Header
 pub mod FieldTable
+pub mod Slots
 pub mod LineClass
 pub mod LineFields
 pub mod Lexing
 pub mod SyscallLine
 pub mod Written
 pub mod Pieces
+pub mod UsedLine

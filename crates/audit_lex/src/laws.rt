@@ -1,7 +1,7 @@
 //! What the definitions promise, for callers to use.
 //!
 //! The functions do nothing. Their contracts are laws about histories, headers, tokens and used lines.
-ghost use Rattle.std.specs.Prelude.{◌≡◌, ◌≤◌, ◌++◌, [], ◌∷◌, List, ℕ, Some, length};
+ghost use Rattle.std.specs.Prelude.{◌≡◌, ◌↔◌, ◌≤◌, ◌++◌, [], ◌∷◌, List, ℕ, Some, length};
 ghost use Rattle.std.specs.List.{position_or_len};
 ghost use Rattle.memchr.specs.Find.{is_byte};
 ghost use Rattle.audit_lex.specs.Header.{Head, head_of};
@@ -10,7 +10,9 @@ ghost use Rattle.audit_lex.specs.LineClass.{Used, text_class, class_of};
 ghost use Rattle.audit_lex.specs.LineFields.{ReadableSyscall};
 ghost use Rattle.audit_lex.specs.Tokens.{tokens_of};
 ghost use Rattle.audit_lex.specs.Pieces.{Piece, ArePieces, pieces_text, named_pieces};
+ghost use Rattle.audit_lex.specs.UsedLine.{IsUsedLine};
 ghost use Rattle.audit_lex.specs.Written.{IsHeaded};
+ghost use Rattle.audit_lex.specs.declared.fields.Kind.{Kind};
 ghost use Rattle.audit_lex.specs.declared.fields.Kind.TheVariants as kind;
 ghost use Rattle.audit_lex.specs.declared.header.EventKey.{EventKey};
 
@@ -50,9 +52,15 @@ pub fn headers_are_written()
     ensures written { (line : List ℕ) (head : Head) → head_of line ≡ Some head → IsHeaded line head }
 {}
 
-/// A raw part that is written as spaces and tokens has these tokens.
+/// Every raw part can be written as spaces and tokens, and has the tokens that it is written with.
 pub fn tokens_are_written()
-    ensures { (pieces : List Piece) → ArePieces pieces → tokens_of (pieces_text pieces) ≡ named_pieces pieces }
+    ensures read { (pieces : List Piece) → ArePieces pieces → tokens_of (pieces_text pieces) ≡ named_pieces pieces }
+    ensures written { (raw : List ℕ) → (pieces : List Piece) × ArePieces pieces × (raw ≡ pieces_text pieces) }
+{}
+
+/// A line is used exactly where it can be written with a header and tokens that spell each field of its kind.
+pub fn used_lines_are_written()
+    ensures { (line : List ℕ) (key : EventKey) (kind : Kind) → (text_class line ≡ Used key kind) ↔ IsUsedLine line key kind }
 {}
 
 /// The fields of a used line of a system call can be read, but for those that it may leave out.

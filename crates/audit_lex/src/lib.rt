@@ -2,6 +2,7 @@
 #![tactic(auto)]
 
 mod faults;
+mod field_values;
 mod fields;
 mod header;
 mod laws;
@@ -10,21 +11,24 @@ mod line_cut;
 mod numbers;
 mod places;
 mod plain_syscall;
+mod slots;
+mod spans;
+#[cfg(test)]
+mod tests;
 mod tokens;
 mod used_line;
 mod values;
 
 pub use faults::LineFault;
-pub use fields::{Field, Kind, Rule, ValueKind, field_name, kind_named, rules};
-pub use header::{EventKey, Header, read_header};
+pub use fields::{Field, Kind, Rule, ValueKind, field_name, rules};
+pub use header::EventKey;
 pub use laws::{
     headers_are_written, line_feeds_end_lines, lines_stay, pieces_are_joined, settles_end_tails,
-    tokens_are_written, used_syscalls_are_readable,
+    tokens_are_written, used_lines_are_written, used_syscalls_are_readable,
 };
 pub use lexer::{Lexed, lex};
 pub use line_cut::{Line, LineCut};
 pub use numbers::{dec32, dec64, handle, hex32, hex64, signed};
 pub use plain_syscall::syscall_line;
-pub use tokens::{Token, field};
 pub use used_line::UsedLine;
 pub use values::{device, is_bytes, is_text, quoted, yesno};

@@ -6,9 +6,9 @@ ghost use Rattle.audit_lex.specs.FieldTable.{name_of};
 ghost use Rattle.audit_lex.specs.LineClass.{text_class, Used};
 ghost use Rattle.audit_lex.specs.LineFields.{raw_part_of, field_in_line};
 
-use crate::fields::{Field, Kind, field_name};
+use crate::field_values::FieldValues;
+use crate::fields::{Field, Kind};
 use crate::header::EventKey;
-use crate::tokens::field;
 
 /// A line that spells a record.
 #[derive(Clone, Copy)]
@@ -16,9 +16,9 @@ pub struct UsedLine<'a> {
     pub line: &'a [u8],
     pub key: EventKey,
     pub kind: Kind,
-    pub(crate) raw: &'a [u8],
+    pub(crate) values: FieldValues<'a>,
     pub ghost used: { text_class line.now ≡ Used key kind },
-    pub(crate) ghost has_raw: { raw_part_of line.now ≡ Some raw.now },
+    pub(crate) ghost has_raw: { raw_part_of line.now ≡ Some values.raw.now },
 }
 
 impl<'a> UsedLine<'a> {
@@ -26,6 +26,6 @@ impl<'a> UsedLine<'a> {
     pub fn field(&self, name: Field) -> Option<&'a [u8]>
         ensures { option_map (λ value. value.now) result ≡ field_in_line self.now.line.now (name_of name) }
     {
-        field(self.raw, field_name(name))
+        self.values.field(name)
     }
 }

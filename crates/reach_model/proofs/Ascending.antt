@@ -22,9 +22,6 @@ pub record IsListedBelow (marks : List Bool) (i : ℕ) (ids : List EntityId) : T
   pub ascending : IsAscending (numbers ids)
   pub exact : (u : ℕ) → Contains (numbers ids) u ↔ (u < i) × IsMarked marks u
 
-pub listed_none : (marks : List Bool) → IsListedBelow marks 0 []
-listed_none marks = record { ascending = λ j k h hk. absurd (omega arith); exact = λ u. (λ c. absurd (omega (arith, c.1)), λ b. absurd (omega (arith, b.0))) }
-
 pub listed_more : (marks : List Bool) (i : ℕ) (ids : List EntityId) → IsMarked marks i → IsListedBelow marks i ids → IsListedBelow marks (i + 1) (ids ++ record { 0 = i } ∷ [])
 listed_more marks i ids m l =
     let e : numbers (ids ++ record { 0 = i } ∷ []) ≡ numbers ids ++ i ∷ [] = map-append (λ (x : EntityId). x.0) ids (record { 0 = i } ∷ []) in

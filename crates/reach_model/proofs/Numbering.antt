@@ -1,5 +1,5 @@
 -- What numbers by first appearance say of a list of flows, and of one flow more.
-use Rattle.std.proofs.Common.{◌≡◌, ℕ, zero, suc, ◌<◌, ◌≤◌, max, List, [], ◌∷◌, ◌++◌, length, get_or, take, refl, ap, subst, ◌∙◌, arith, ◌⊎◌, inl, inr}
+use Rattle.std.proofs.Common.{◌≡◌, ℕ, suc, ◌<◌, ◌≤◌, max, List, [], ◌∷◌, ◌++◌, length, get_or, take, refl, ap, subst, ◌∙◌, arith, inl, inr}
 use Rattle.std.specs.List.{Contains}
 use Rattle.std.proofs.lemmas.List.{length-append, get_or_append_left, get_or_push, take-append-le}
 use Rattle.std.proofs.lemmas.List.Elements.{Contains-get_or, Contains-append_left, Contains-push, Contains-push_cases}
@@ -9,10 +9,7 @@ use Rattle.flow_base.specs.declared.types.Flow.{Flow}
 use Rattle.reach_model.specs.Flows.{source, target, time}
 use Rattle.reach_model.specs.Numbers.{beyond, known, IsNumbered, IsLawfulWith, MayFollow}
 use Rattle.reach_model.proofs.Lawful.{lawful_front, lawful_push, last_place, last_ends, before_last, times_ordered}
-
-pub Contains-cons_cases : {X : Type 0} (xs : List X) (x y : X) → Contains (x ∷ xs) y → (x ≡ y) ⊎ Contains xs y
-Contains-cons_cases xs x y (zero, h, e) = inl e
-Contains-cons_cases xs x y (suc k, h, e) = inr (k, omega (arith, h), e)
+use Rattle.reach_model.proofs.Members.{Contains-cons_cases}
 
 pub known_push : (F : List Flow) (f : Flow) → known (F ++ f ∷ []) ≡ max (known F) (beyond f)
 known_push [] f = omega arith
@@ -65,20 +62,6 @@ module _ (F : List Flow) (f : Flow) where
           rw (get_or_push F f d k e, subst (λ j. take j (F ++ f ∷ []) ≡ F) e whole) t
     ];
   }
-
-pub lawful_none : IsLawfulWith 0 []
-lawful_none = record {
-  lawful = record {
-    places = λ k d h. absurd (omega (arith, h));
-    times = λ j k d i h. absurd (omega (arith, h));
-    ends = λ k d h. absurd (omega (arith, h));
-  };
-  numbered = record {
-    sources = λ k d h. absurd (omega (arith, h));
-    targets = λ k d h. absurd (omega (arith, h));
-  };
-  objects = refl;
-}
 
 pub lawful_next : (count : ℕ) (F : List Flow) (f : Flow) → IsLawfulWith count F → MayFollow F f → IsLawfulWith (max count (beyond f)) (F ++ f ∷ [])
 lawful_next count F f l n = record {

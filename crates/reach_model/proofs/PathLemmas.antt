@@ -1,5 +1,5 @@
 -- How a path is taken apart and put together.
-use Rattle.std.proofs.Common.{◌≡◌, ℕ, suc, ◌<◌, ◌≤◌, List, [], ◌∷◌, ◌++◌, refl, sym, subst, arith}
+use Rattle.std.proofs.Common.{◌≡◌, ℕ, suc, ◌<◌, ◌≤◌, List, [], ◌∷◌, ◌++◌, refl, sym, arith}
 use Rattle.flow_base.specs.declared.types.Flow.{Flow}
 use Rattle.reach_model.specs.Flows.{source, target, place}
 use Rattle.reach_model.specs.Paths.{Path}
@@ -24,11 +24,6 @@ path_last S n u v (g ∷ p) f w =
 pub path_push : (S : Flow → Type 0) (n u : ℕ) (p : List Flow) (f : Flow) → Path (Below S (place f)) n u (source f) p → S f → n ≤ place f → Path S n u (target f) (p ++ f ∷ [])
 path_push S n u [] f w s h = (s, h, sym w, refl)
 path_push S n u (g ∷ p) f w s h = (w.0.0, w.1, w.2, path_push S (suc (place g)) (target g) p f w.3 s w.0.1)
-
--- one path and then another
-pub path_append : (S : Flow → Type 0) (b n u w v : ℕ) (p q : List Flow) → n ≤ b → Path (Below S b) n u w p → Path S b w v q → Path S n u v (p ++ q)
-path_append S b n u w v [] q h e r = subst (λ x. Path S n x v q) (sym e) (path_weaker S S (λ f s. s) b n w v q h r)
-path_append S b n u w v (f ∷ p) q h d r = (d.0.0, d.1, d.2, path_append S b (suc (place f)) (target f) w v p q d.0.1 d.3 r)
 
 -- the whole path is before b where each flow that enters its end is
 pub path_tighten : (S : Flow → Type 0) (a b n u v : ℕ) (p : List Flow) → ((g : Flow) → S g → target g ≡ v → place g < a → place g < b) → Path (Below S a) n u v p → Path (Below S b) n u v p

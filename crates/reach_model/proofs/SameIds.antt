@@ -4,7 +4,7 @@ use Rattle.std.specs.List.{Contains}
 use Rattle.std.proofs.lemmas.List.{get_or_default}
 use Rattle.flow_base.specs.declared.types.EntityId.{EntityId}
 use Rattle.reach_model.specs.Ids.{IsAscending, numbers}
-use Rattle.reach_model.proofs.Numbering.{Contains-cons_cases}
+use Rattle.reach_model.proofs.Members.{Contains-cons_cases}
 
 first : (xs : List ℕ) (x : ℕ) → Contains (x ∷ xs) x
 first xs x = (0, omega arith, refl)

@@ -1,17 +1,16 @@
 -- One scan from the last flow to the first follows the paths.
-use Rattle.std.proofs.Common.{◌≡◌, ℕ, suc, ◌-◌, ◌<◌, ◌≤◌, ◌↔◌, List, [], ◌∷◌, length, get_or, set, Option, Bool, true, false, refl, sym, ap, subst, ◌∙◌, arith, ◌⊎◌, inl, inr, replicate}
+use Rattle.std.proofs.Common.{◌≡◌, ℕ, suc, ◌+◌, ◌-◌, ◌<◌, ◌↔◌, List, [], ◌∷◌, length, get_or, set, Option, Bool, true, false, refl, sym, ap, subst, ◌∙◌, arith, ◌⊎◌, inl, inr, replicate, reverse}
 use Rattle.std.specs.List.{Contains}
-use Rattle.std.proofs.lemmas.List.{get_or_default, get_or-set_same, get_or-set_other, get_or-replicate, length-replicate}
-use Rattle.std.proofs.lemmas.List.Elements.{Contains-get_or}
+use Rattle.std.proofs.lemmas.List.{get_or_default, get_or-reverse, length-reverse, get_or-set_same, get_or-set_other, get_or-replicate, length-replicate}
 use Rattle.std.proofs.lemmas.Bool.{cases_eq, false≢true}
 use Rattle.flow_base.specs.declared.types.Flow.{Flow}
-use Rattle.flow_base.specs.declared.types.How.TheVariants.{Fork}
 use Rattle.reach_model.specs.Flows.{source, target, place, IsLawful}
+use Rattle.reach_model.specs.Numbers.{IsLawfulWith}
 use Rattle.reach_model.specs.Paths.{Path, Reaches, IsUntil, Back}
 use Rattle.reach_model.proofs.Lawful.{same_place, below_length}
 use Rattle.reach_model.proofs.PathLemmas.{path_weaker}
 use Rattle.reach_model.specs.Marks.{IsMarked}
-use Rattle.reach_model.proofs.Numbering.{AreEndsBelow}
+use Rattle.reach_model.proofs.Numbering.{AreEndsBelow, ends_below}
 
 -- the flows that a question allows
 abbrev pub Allowed : List Flow → Option ℕ → Flow → Type 0
@@ -72,54 +71,57 @@ module _ {F : List Flow} (l : IsLawful F) (t : Option ℕ) where
       ],
     )
 
--- the scan's beginning
-pub begun : {F : List Flow} → IsLawful F → (t : Option ℕ) (n v : ℕ) → v < n → (u : ℕ) → u < n → IsMarked (set (replicate n false) v true) u ↔ Reaches (Allowed F t) (length F) u v
-begun {F} l t n v hv u hu = elim (cases_eq u v) [
+-- the scan's beginning, with all flows left
+pub begun : {F : List Flow} → IsLawful F → (t : Option ℕ) (n v left : ℕ) → left ≡ length F → v < n → (u : ℕ) → u < n → IsMarked (set (replicate n false) v true) u ↔ Reaches (Allowed F t) left u v
+begun {F} l t n v left all hv u hu = subst (λ k. IsMarked (set (replicate n false) v true) u ↔ Reaches (Allowed F t) k u v) (sym all) (elim (cases_eq u v) [
   | inl e ↦ (λ _. (reach_end l t u v).1 e, λ _. subst (λ x. IsMarked (set (replicate n false) v true) x) (sym e) (get_or-set_same (replicate n false) v true false (simp length-replicate hv)))
   | inr ne ↦ (
     λ m. absurd (false≢true (sym (get_or-set_other (replicate n false) v u true false ne ∙ get_or-replicate n u false false hu) ∙ m)),
     λ r. absurd (ne ((reach_end l t u v).0 r)),
   )
-]
+])
 
--- the default with which the code reads a flow
-abbrev pub no_flow : Flow
-no_flow = record { from = record { 0 = 0 }; to = record { 0 = 0 }; how = Fork; at = record { ms = 0; place = 0 }; serial = 0 }
+-- f is the flow that a scan reads after n others
+pub record IsRead (count : ℕ) (F : List Flow) (n : ℕ) (f : Flow) : Type 0 where
+  pub there : Contains F f
+  pub left : suc (place f) ≡ length F - n
+  pub source_below : source f < count
+  pub target_below : target f < count
 
--- the mark that the code reads
-pub scan_read : (F : List Flow) (count : ℕ) → AreEndsBelow count F → (left : ℕ) (d : Flow) → 0 < left → left ≤ length F → (marks : List Bool) → length marks ≡ count
-    → (b : Bool) → b ≡ get_or marks (target (get_or F (left - 1) d)) b → IsMarked marks (target (get_or F (left - 1) d)) → b ≡ true
-scan_read F count ends left d more within marks len b is m =
-    let e = ends (left - 1) d (omega arith) in
-    is ∙ get_or_default marks (target (get_or F (left - 1) d)) b false (omega (arith, e.1)) ∙ m
+pub read_at : {count : ℕ} {F : List Flow} → IsLawfulWith count F → (n : ℕ) (f : Flow) → (n < length (reverse F)) × (f ≡ get_or (reverse F) n f) → IsRead count F n f
+read_at {count} {F} l n f (h, e) =
+    let low : n < length F = omega (arith, length-reverse F) in
+    let k : ℕ = length F - 1 - n in
+    let hk : k < length F = omega arith in
+    let is : f ≡ get_or F k f = e ∙ get_or-reverse F n f low in
+    let b = ends_below l k f hk in
+    record {
+      there = (k, hk, sym is);
+      left = omega (arith, ap place is, l.lawful.places k f hk);
+      source_below = omega (arith, ap source is, b.0);
+      target_below = omega (arith, ap target is, b.1);
+    }
 
--- the same at the flow that the scan reads
-module _ {F : List Flow} (l : IsLawful F) {count : ℕ} (ends : AreEndsBelow count F) (t : Option ℕ) (v left : ℕ) (d : Flow) (more : 0 < left) (within : left ≤ length F)
-    (marks : List Bool) (len : length marks ≡ count) (inv : (u : ℕ) → u < count → IsMarked marks u ↔ Reaches (Allowed F t) left u v) where
-  at_flow : (place (get_or F (left - 1) d) ≡ left - 1) × (suc (place (get_or F (left - 1) d)) ≡ left)
-  at_flow = let e = l.places (left - 1) d (omega arith) in (e, omega (arith, e))
+-- the scan's step, from what is marked before f is read to what is marked after it
+module _ {F : List Flow} (l : IsLawful F) {count n : ℕ} {f : Flow} (r : IsRead count F n f) (t : Option ℕ) (v : ℕ)
+    (marks : List Bool) (len : length marks ≡ count) (inv : (u : ℕ) → u < count → IsMarked marks u ↔ Reaches (Allowed F t) (length F - n) u v) (m : ℕ) (more : m ≡ n + 1) where
+  now : (u : ℕ) → u < length marks → IsMarked marks u ↔ Reaches (Allowed F t) (suc (place f)) u v
+  now u h = subst (λ k. IsMarked marks u ↔ Reaches (Allowed F t) k u v) (sym r.left) (inv u (omega arith))
 
-  flow_there : Contains F (get_or F (left - 1) d)
-  flow_there = Contains-get_or F (left - 1) d (omega arith)
+  then_left : place f ≡ length F - m
+  then_left = omega (arith, r.left)
 
-  now : (u : ℕ) → u < length marks → IsMarked marks u ↔ Reaches (Allowed F t) (suc (place (get_or F (left - 1) d))) u v
-  now u h = subst (λ n. IsMarked marks u ↔ Reaches (Allowed F t) n u v) (sym at_flow.1) (inv u (omega arith))
+  -- the mark that the code reads
+  read : (b : Bool) → b ≡ get_or marks (target f) b → b ≡ get_or marks (target f) false
+  read b is = is ∙ get_or_default marks (target f) b false (omega (arith, r.target_below))
 
-  pub scan_taken : IsUntil t (get_or F (left - 1) d) → (b : Bool) → b ≡ get_or marks (target (get_or F (left - 1) d)) b → b ≡ true
-      → (u : ℕ) → u < count → IsMarked (set marks (source (get_or F (left - 1) d)) true) u ↔ Reaches (Allowed F t) (left - 1) u v
-  scan_taken h b is is_true u hu =
-      let e = ends (left - 1) d (omega arith) in
-      let ht : target (get_or F (left - 1) d) < length marks = omega arith in
-      subst (λ n. IsMarked (set marks (source (get_or F (left - 1) d)) true) u ↔ Reaches (Allowed F t) n u v) at_flow.0
-      (taken l t (get_or F (left - 1) d) flow_there v marks h
-      (get_or_default marks (target (get_or F (left - 1) d)) false b ht ∙ sym is ∙ is_true) ht (omega (arith, e.0)) now u (omega arith))
+  pub scan_taken : IsUntil t f → (b : Bool) → b ≡ get_or marks (target f) b → b ≡ true → (u : ℕ) → u < count → IsMarked (set marks (source f) true) u ↔ Reaches (Allowed F t) (length F - m) u v
+  scan_taken h b is is_true u hu = subst (λ k. IsMarked (set marks (source f) true) u ↔ Reaches (Allowed F t) k u v) then_left
+      (taken l t f r.there v marks h (sym (read b is) ∙ is_true) (omega (arith, r.target_below)) (omega (arith, r.source_below)) now u (omega arith))
 
-  pub scan_passed : ¬ (IsMarked marks (target (get_or F (left - 1) d)) × IsUntil t (get_or F (left - 1) d))
-      → (u : ℕ) → u < count → IsMarked marks u ↔ Reaches (Allowed F t) (left - 1) u v
-  scan_passed h u hu =
-      let e = ends (left - 1) d (omega arith) in
-      subst (λ n. IsMarked marks u ↔ Reaches (Allowed F t) n u v) at_flow.0
-      (passed l t (get_or F (left - 1) d) flow_there v marks h (omega (arith, e.1)) now u (omega arith))
+  pub scan_passed : (b : Bool) → b ≡ get_or marks (target f) b → ¬ ((b ≡ true) × IsUntil t f) → (u : ℕ) → u < count → IsMarked marks u ↔ Reaches (Allowed F t) (length F - m) u v
+  scan_passed b is not_both u hu = subst (λ k. IsMarked marks u ↔ Reaches (Allowed F t) k u v) then_left
+      (passed l t f r.there v marks (λ both. not_both (read b is ∙ both.0, both.1)) (omega (arith, r.target_below)) now u (omega arith))
 
 -- what reaches a number below count is below it
 pub back_below : (F : List Flow) (count : ℕ) → AreEndsBelow count F → (v : ℕ) (t : Option ℕ) (u : ℕ) → v < count → Back F v t u → u < count

@@ -3,3 +3,9 @@ pub mod Numbers
 pub mod Paths
 pub mod Ids
 pub mod Marks
+pub mod Sources
+pub mod Rows
+pub mod ByRows
+pub mod Versions
+pub mod SourceSets
+pub mod Laws

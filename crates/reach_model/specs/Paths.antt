@@ -31,3 +31,9 @@ Back F v t u = Reaches (λ f. Contains F f × IsUntil t f) 0 u v
 -- a path from u to v by flows of F with times at least s
 abbrev pub Fore : List Flow → ℕ → Option ℕ → ℕ → Type 0
 Fore F u s v = Reaches (λ f. Contains F f × IsSince s f) 0 u v
+
+-- the place of a path's last flow
+abbrev pub last_place : List Flow → ℕ
+last_place [] = 0
+last_place (f ∷ []) = place f
+last_place (f ∷ g ∷ p) = last_place (g ∷ p)

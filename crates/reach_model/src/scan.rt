@@ -45,8 +45,7 @@ fn mark_back(
 {
     let mut marks = vec![in alloc; false; count as usize]?;
     marks[of.0 as usize] = true;
-    for index in (0..flows.len()).rev() {
-        let flow = &flows[index];
+    for flow in flows.iter().rev() {
         if marks[flow.to.0 as usize] && is_until(flow, until) {
             marks[flow.from.0 as usize] = true;
         }

@@ -1,0 +1,27 @@
+use Rattle.std.proofs.Common.{ℕ, ◌≡◌, ◌<◌, ◌∙◌, ap, sym, length, drop, get_or, arith, None, []}
+use Rattle.std.specs.Option.{option_or, option_to_list}
+use Rattle.std.specs.List.{slice_index_or}
+use Rattle.std.proofs.lemmas.List.{length-drop, drop-drop, get_or-drop}
+use Rattle.audit_lex.specs.Slots.{held, names_of}
+use Rattle.audit_lex.specs.Tokens.{token_len, field_of, value_in}
+use Rattle.audit_lex.proofs.SlotLemmas.{past_token}
+use Rattle.audit_lex.proofs.field_values.first_values.Goals as goal
+
+pub loop-place-init : goal.loop-place-init
+loop-place-init c =
+    let raw = c.args.raw.now in
+    (omega arith, λ place below. ap (λ slot. option_or slot (field_of raw (slice_index_or (names_of c.args.rules.now) place []))) (c.new-slots.ensures raw place))
+
+pub loop-place-preserved : goal.loop-place-preserved
+loop-place-preserved c =
+    let raw = c.args.raw.now in
+    let place = c.loop-place.place in
+    let rest = drop place raw in
+    let next : drop (token_len rest) rest ≡ drop c.token_from-end.result.1 raw = drop-drop (token_len rest) place raw ∙ ap (λ n. drop n raw) (sym c.token_from-end.ensures.end) in
+    let here : get_or rest 0 0 ≡ get_or raw place 0 = get_or-drop place raw 0 0 ∙ ap (λ n. get_or raw n 0) (omega arith) in
+    let filled = λ (k : ℕ) (below : k < length c.args.rules.now).
+    c.fill.ensures raw k below
+    ∙ ap (λ token. option_or (get_or (held raw c.loop-place.slots.spans) k None) (value_in (option_to_list token) (get_or (names_of c.args.rules.now) k []))) c.token_from-end.ensures.token in
+    let found = past_token c.args.rules.now raw rest (held raw c.loop-place.slots.spans) (held raw c.fill.new.self.spans)
+    (omega (arith, length-drop place raw)) (λ is. c.if-raw-place-eq32.false (sym here ∙ is)) filled c.loop-place.invariant.1 in
+    (c.token_from-end.ensures.within, λ k below. ap (λ text. option_or (get_or (held raw c.fill.new.self.spans) k None) (field_of text (get_or (names_of c.args.rules.now) k []))) (sym next) ∙ found k below)

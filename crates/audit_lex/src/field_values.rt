@@ -1,0 +1,101 @@
+//! The fields of a raw part.
+//!
+//! The raw part is read once, from the front. What its kind's table asks for is kept on the way, so that the search
+//! for faults and the readers of a used line find it without reading the line again.
+ghost use Rattle.std.specs.Prelude.{◌≡◌, ◌<◌, ◌≤◌, [], length, option_map, IfSome};
+ghost use Rattle.std.specs.List.{slice_index_or};
+ghost use Rattle.audit_lex.specs.FieldTable.{rules_of, name_of};
+ghost use Rattle.audit_lex.specs.Slots.{held, names_of, AreFound};
+ghost use Rattle.audit_lex.specs.Tokens.{field_of};
+
+use crate::fields::{Field, Kind, Rule, ValueKind, rules};
+use crate::slots::Slots;
+use crate::spans::bytes_of_span;
+use crate::tokens::token_from;
+
+/// The values of a raw part's fields, with their quotes.
+#[derive(Clone, Copy)]
+pub struct FieldValues<'a> {
+    pub raw: &'a [u8],
+    kind: Kind,
+    slots: Slots,
+    ghost found: { AreFound (rules_of kind) raw.now (held raw.now slots.spans) },
+}
+
+impl<'a> FieldValues<'a> {
+    /// The fields of a raw part of this kind.
+    pub fn read(raw: &'a [u8], kind: Kind) -> FieldValues<'a>
+        ensures { result.raw.now ≡ raw.now }
+    {
+        FieldValues {
+            raw,
+            kind,
+            slots: first_values(raw, rules(kind)),
+        }
+    }
+
+    /// The value of the first token of this name. A name that the table doesn't ask for is looked for anew.
+    pub fn field(&self, name: Field) -> Option<&'a [u8]>
+        ensures { option_map (λ value. value.now) result ≡ field_of self.now.raw.now (name_of name) }
+    {
+        match place_in(rules(self.kind), name) {
+            Some(place) => value_at(self.raw, &self.slots, place),
+            None => value_of_one(self.raw, name),
+        }
+    }
+}
+
+// The value that was found for the field at this place.
+fn value_at<'a>(raw: &'a [u8], slots: &Slots, place: usize) -> Option<&'a [u8]>
+    requires { place < 11 }
+    ensures { option_map (λ value. value.now) result ≡ slice_index_or (held raw.now slots.now.spans) place None }
+{
+    match slots.span(place) {
+        Some(span) => Some(bytes_of_span(raw, span)),
+        None => None,
+    }
+}
+
+// The value of the first token of this name.
+fn value_of_one(raw: &[u8], name: Field) -> Option<&[u8]>
+    ensures { option_map (λ value. value.now) result ≡ field_of raw.now (name_of name) }
+{
+    let rule = Rule {
+        field: name,
+        value: ValueKind::Word,
+        must: false,
+    };
+    value_at(raw, &first_values(raw, &[rule]), 0)
+}
+
+// Where a table asks for a field.
+fn place_in(rules: &[Rule], name: Field) -> Option<usize>
+    ensures within { IfSome result (λ place. place < length rules.now) }
+    ensures name { IfSome result (λ place. slice_index_or (names_of rules.now) place [] ≡ name_of name) }
+{
+    for place in 0..rules.len() {
+        if rules[place].field == name {
+            return Some(place);
+        }
+    }
+    None
+}
+
+// The value of the first token of each name that a table asks for.
+fn first_values(raw: &[u8], rules: &[Rule]) -> Slots
+    requires { length rules.now ≤ 11 }
+    ensures { AreFound rules.now raw.now (held raw.now result.spans) }
+{
+    let mut slots = Slots::new();
+    let mut place = 0;
+    while place < raw.len() {
+        if raw[place] == b' ' {
+            place += 1;
+            continue;
+        }
+        let (token, end) = token_from(raw, place);
+        slots.fill(rules, token);
+        place = end;
+    }
+    slots
+}

@@ -1,0 +1,61 @@
+//! A place for each field of a table.
+//!
+//! One pass over a raw part fills the places, so a line is read once however many fields its table has.
+ghost use Rattle.std.specs.Prelude.{◌≡◌, ◌<◌, ◌≤◌, ℕ, List, length, None, option_map, slice_set};
+ghost use Rattle.std.specs.List.{slice_index_or};
+ghost use Rattle.std.specs.Option.{option_or, option_to_list};
+ghost use Rattle.audit_lex.specs.Lent.{seen};
+ghost use Rattle.audit_lex.specs.Slots.{spanned, held, AreFilled};
+
+use crate::fields::{Rule, field_name};
+use crate::spans::Span;
+use crate::tokens::{Token, value_if_named};
+
+/// How many fields the longest table has.
+pub const MOST_FIELDS: usize = 11;
+
+/// Where the values of a table's fields stand, in the table's order.
+#[derive(Clone, Copy)]
+pub struct Slots {
+    pub(crate) spans: [Option<Span>; MOST_FIELDS],
+    ghost size: { length spans ≡ 11 },
+}
+
+impl Slots {
+    /// Empty slots.
+    pub fn new() -> Slots
+        ensures { (raw : List ℕ) (place : ℕ) → slice_index_or (held raw result.spans) place None ≡ None }
+    {
+        Slots {
+            spans: [None; MOST_FIELDS],
+        }
+    }
+
+    /// What was found for the field at this place of the table.
+    pub fn span(&self, place: usize) -> Option<Span>
+        requires { place < 11 }
+        ensures { (raw : List ℕ) → option_map (spanned raw) result ≡ slice_index_or (held raw self.now.spans) place None }
+    {
+        self.spans[place]
+    }
+
+    /// Fills the empty slots of the token's name.
+    pub fn fill(&mut self, rules: &[Rule], token: Option<Token<'_>>)
+        requires { length rules.now ≤ 11 }
+        ensures { (raw : List ℕ) → AreFilled rules.now (option_to_list (seen raw token.entry)) (held raw self.old.spans) (held raw self.new.spans) }
+    {
+        for place in 0..rules.len() {
+            let value = value_if_named(token, field_name(rules[place].field));
+            self.offer(place, value);
+        }
+    }
+
+    // Fills the slot where it is empty.
+    fn offer(&mut self, place: usize, value: Option<Span>)
+        requires { place < 11 }
+        ensures { (raw : List ℕ) → held raw self.new.spans
+            ≡ slice_set (held raw self.old.spans) place (option_or (slice_index_or (held raw self.old.spans) place None) (option_map (spanned raw) value)) }
+    {
+        self.spans[place] = self.spans[place].or(value);
+    }
+}
