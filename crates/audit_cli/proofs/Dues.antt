@@ -22,7 +22,7 @@ none_due limits before call follows few fits =
 
 pub passes_due : (limits : Limits) (before : List Call) (call : Call) (why : Refusal) → may_follow before call ≡ true
     → Passes limits.entities limits.flows (limits.entities < length (objects (call ∷ before)))
-        ((length (objects (call ∷ before)) ≤ limits.entities) × (limits.flows < length (flows (call ∷ before)))) why
+    ((length (objects (call ∷ before)) ≤ limits.entities) × (limits.flows < length (flows (call ∷ before)))) why
     → IsDue (refusal_of limits before (Some call)) why
 passes_due limits before call refusal.NoMemory follows passes = tt
 passes_due limits before call refusal.Unbuilt follows passes = absurd passes

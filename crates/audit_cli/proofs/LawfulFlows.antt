@@ -115,7 +115,7 @@ step one grows seen F ms (Some link) key apart good later =
     record {
       lawful = one_more_flow one grows seen F link key apart good.lawful earlier;
       no_later = λ g there. elim (Contains-append_cases F (f ∷ []) g there) [
-        inl before ↦ earlier g before
+        | inl before ↦ earlier g before
         | inr last ↦ let h : time f ≡ time g = ap time (alone f g last) in omega arith
       ];
     }

@@ -35,6 +35,7 @@ due_within stay limits history room n bytes why within due = by_room (nat_lt roo
   where
     shorter : take n (take room bytes) ≡ take n bytes
     shorter = take-take n room bytes within
+
     by_room : (b : Bool) → IsDueHalt (if b
         then option_or (first_stop limits (newest_lines (with_bytes history (take room bytes)))) (Some (halt.Full (input_full limits)))
         else first_stop limits (newest_lines (with_bytes history bytes ++ Settle ∷ []))) why
@@ -67,11 +68,11 @@ stop_goes_on limits history room n bytes below within =
     let test : nat_lt (room - n) (length (drop n bytes)) ≡ nat_lt room (length bytes) = ap (nat_lt (room - n)) (length-drop n bytes) ∙ less_alike n room (length bytes) below within in
     let sum : n + (room - n) ≡ room = omega arith in
     let front : with_bytes (with_bytes history (take n bytes)) (take (room - n) (drop n bytes)) ≡ with_bytes history (take room bytes) =
-        more_taken history n (room - n) bytes ∙ ap (λ k. with_bytes history (take k bytes)) sum in
+    more_taken history n (room - n) bytes ∙ ap (λ k. with_bytes history (take k bytes)) sum in
     let all : with_bytes (with_bytes history (take n bytes)) (drop n bytes) ≡ with_bytes history bytes = sym (with_rest history n bytes) in
     λ i. if test i
-        then option_or (first_stop limits (newest_lines (front i))) (Some (halt.Full (input_full limits)))
-        else first_stop limits (newest_lines (all i ++ Settle ∷ []))
+    then option_or (first_stop limits (newest_lines (front i))) (Some (halt.Full (input_full limits)))
+    else first_stop limits (newest_lines (all i ++ Settle ∷ []))
 
 -- where nothing is left all was taken
 pub all_taken : (n : ℕ) (bytes : List ℕ) → drop n bytes ≡ [] → take n bytes ≡ bytes

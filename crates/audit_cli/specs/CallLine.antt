@@ -56,7 +56,7 @@ abbrev pub call_from : EventKey → Fields → Option Call
 call_from key fields =
     if fields.arch == X86_64
     then option_map (λ deed. record { key = key; ppid = fields.ppid; pid = fields.pid; deed = deed })
-        (deed_of fields.number (is_ok fields.success) fields.exit fields.a0 fields.pid)
+    (deed_of fields.number (is_ok fields.success) fields.exit fields.a0 fields.pid)
     else None
 
 abbrev pub fields_from : (arch number : Option ℕ) → Option (Option Bool) → Option (Option ℤ) → (a0 ppid pid : Option ℕ) → Option Fields

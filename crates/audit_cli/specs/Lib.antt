@@ -5,6 +5,7 @@ pub mod Logs
 pub mod Refusals
 pub mod Replies
 pub mod Stage
+pub mod Standard
 pub mod Statuses
 pub mod Tables
 pub mod Taken

@@ -14,7 +14,9 @@ use audit_lex::{EventKey, Field, UsedLine, dec32, hex32, hex64, signed, syscall_
 const X86_64: u32 = 0xc000_003e;
 
 const READ: u32 = 0;
+
 const WRITE: u32 = 1;
+
 const FORK: u32 = 57;
 
 /// What a call did, where it did anything.

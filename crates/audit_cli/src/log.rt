@@ -20,7 +20,13 @@ use outside::Source;
 const PIECE: usize = 65_536;
 
 // Takes a piece of the log after so many bytes, as far as the limit lets it.
-fn take_some(cut: &mut LineCut, stage: &mut Stage, limits: &Limits, heard: u64, piece: &[u8]) -> Result<(), Halt>
+fn take_some(
+    cut: &mut LineCut,
+    stage: &mut Stage,
+    limits: &Limits,
+    heard: u64,
+    piece: &[u8],
+) -> Result<(), Halt>
     requires lines { cut.old.lines ≤ heard }
     requires heard { heard ≤ limits.now.input }
     ensures at { (history : History) → IsAt limits.now cut.old stage.old history → OnOk result (IsAt limits.now cut.new stage.new (with_bytes history piece.now)) }
@@ -60,7 +66,14 @@ fn read_some<L: Source>(log: &mut L, buf: &mut [u8]) -> Result<usize, Halt>
 }
 
 // Reads once, and takes what comes. It says how many bytes that was, and takes none only at the end.
-fn take_read<L: Source>(cut: &mut LineCut, stage: &mut Stage, limits: &Limits, log: &mut L, heard: u64, buf: &mut [u8]) -> Result<usize, Halt>
+fn take_read<L: Source>(
+    cut: &mut LineCut,
+    stage: &mut Stage,
+    limits: &Limits,
+    log: &mut L,
+    heard: u64,
+    buf: &mut [u8],
+) -> Result<usize, Halt>
     requires lines { cut.old.lines ≤ heard }
     requires heard { heard ≤ limits.now.input }
     requires room { 0 < length buf.old }
@@ -81,7 +94,12 @@ fn take_read<L: Source>(cut: &mut LineCut, stage: &mut Stage, limits: &Limits, l
 }
 
 /// Takes a log to its end, but for a last line without a line feed.
-pub fn take_log<L: Source>(cut: &mut LineCut, stage: &mut Stage, limits: &Limits, log: &mut L) -> Result<(), Halt>
+pub fn take_log<L: Source>(
+    cut: &mut LineCut,
+    stage: &mut Stage,
+    limits: &Limits,
+    log: &mut L,
+) -> Result<(), Halt>
     requires { cut.old.lines ≡ 0 }
     ensures lines { OnOk result (cut.new.lines ≤ limits.now.input) }
     ensures took { (bytes : List ℕ) → L.left log.old ≡ Some bytes → IsAt limits.now cut.old stage.old []

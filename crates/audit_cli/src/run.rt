@@ -10,6 +10,7 @@ ghost use Rattle.audit_cli.specs.Tables.{StandsFor};
 ghost use Rattle.audit_cli.specs.Logs.{stop_of, MayHalt, HasCauses, GoesUp};
 ghost use Rattle.audit_cli.specs.Replies.{text_of, SaidInPart};
 ghost use Rattle.audit_cli.specs.Statuses.{status_for};
+ghost use Rattle.audit_cli.specs.Standard.{IsStandard, WithStandard};
 ghost use Rattle.audit_cli.specs.Headline.{calls_in, Answers, WritesReply, Writes, Ends, StatusCause};
 
 use crate::answer::answer;
@@ -24,7 +25,6 @@ use audit_lex::LineCut;
 use flow_base::{EntityId, Limits, equal_keys_are_one};
 use outside::{Sink, Source, put_all};
 use reach_model::lawful_flows_grow;
-
 use std::alloc::Global;
 
 // Takes a log whole.
@@ -60,7 +60,13 @@ fn say<O: Sink>(alloc: Global, out: &mut O, reply: &Reply) -> Result<(), Halt>
 }
 
 // Takes the log to its end, and writes the reply.
-fn run<L: Source, O: Sink>(alloc: Global, limits: &Limits, of: EntityId, log: &mut L, out: &mut O) -> Result<(), Halt>
+fn run<L: Source, O: Sink>(
+    alloc: Global,
+    limits: &Limits,
+    of: EntityId,
+    log: &mut L,
+    out: &mut O,
+) -> Result<(), Halt>
     ensures written { (bytes : List ℕ) → L.left log.old ≡ Some bytes → Writes limits.now bytes of (O.written out.old) (O.written out.new) (status_for result) }
     ensures ends { (bytes : List ℕ) → L.left log.old ≡ Some bytes → Ends limits.now bytes (status_for result) }
     ensures whole { (bytes : List ℕ) → L.left log.old ≡ Some bytes → OnOk result (L.left log.new ≡ Some []) }
@@ -73,7 +79,13 @@ fn run<L: Source, O: Sink>(alloc: Global, limits: &Limits, of: EntityId, log: &m
 }
 
 /// Does what the words say, within these limits.
-pub fn audit_run<L: Source, O: Sink>(alloc: Global, limits: &Limits, words: &[String], log: &mut L, out: &mut O) -> Status
+pub fn audit_run<L: Source, O: Sink>(
+    alloc: Global,
+    limits: &Limits,
+    words: &[String],
+    log: &mut L,
+    out: &mut O,
+) -> Status
     ensures bad_words { (result ≡ Status.BadWords) ↔ (job_of (map string_bytes words.now) ≡ None) }
     ensures untouched { job_of (map string_bytes words.now) ≡ None → (log.new ≡ log.old) × (out.new ≡ out.old) }
     ensures causes { StatusCause (Rose (L.faults log.old) (L.faults log.new) (L.spent log.new)) (Rose (O.faults out.old) (O.faults out.new) (O.spent out.new)) result }
@@ -99,6 +111,33 @@ pub fn audit_run<L: Source, O: Sink>(alloc: Global, limits: &Limits, words: &[St
 }
 
 /// Does what the words say, within the program's limits.
-pub fn audit_main<L: Source, O: Sink>(alloc: Global, words: &[String], log: &mut L, out: &mut O) -> Status {
-    audit_run(alloc, &Limits::standard(), words, log, out)
+pub fn audit_main<L: Source, O: Sink>(
+    alloc: Global,
+    words: &[String],
+    log: &mut L,
+    out: &mut O,
+) -> Status
+    ensures bad_words { (result ≡ Status.BadWords) ↔ (job_of (map string_bytes words.now) ≡ None) }
+    ensures untouched { job_of (map string_bytes words.now) ≡ None → (log.new ≡ log.old) × (out.new ≡ out.old) }
+    ensures causes { StatusCause (Rose (L.faults log.old) (L.faults log.new) (L.spent log.new)) (Rose (O.faults out.old) (O.faults out.new) (O.spent out.new)) result }
+    ensures headline { (of : EntityId) (bytes : List ℕ) → job_of (map string_bytes words.now) ≡ Some (Job.Back of.0) → L.left log.old ≡ Some bytes → result ≡ Status.Done
+        → WithStandard (λ limits. WritesReply limits bytes of (O.written out.old) (O.written out.new)) }
+    ensures prefix { (of : EntityId) (bytes : List ℕ) → job_of (map string_bytes words.now) ≡ Some (Job.Back of.0) → L.left log.old ≡ Some bytes
+        → WithStandard (λ limits. Writes limits bytes of (O.written out.old) (O.written out.new) result) }
+    ensures exact { (of : EntityId) (bytes : List ℕ) → job_of (map string_bytes words.now) ≡ Some (Job.Back of.0) → L.left log.old ≡ Some bytes
+        → WithStandard (λ limits. Ends limits bytes result) }
+    ensures whole { (of : EntityId) (bytes : List ℕ) → job_of (map string_bytes words.now) ≡ Some (Job.Back of.0) → L.left log.old ≡ Some bytes → result ≡ Status.Done
+        → L.left log.new ≡ Some [] }
+    ensures complete { (of : EntityId) (bytes : List ℕ) → job_of (map string_bytes words.now) ≡ Some (Job.Back of.0) → L.left log.old ≡ Some bytes
+        → ¬ Rose (L.faults log.old) (L.faults log.new) (L.spent log.new) → ¬ Rose (O.faults out.old) (O.faults out.new) (O.spent out.new)
+        → WithStandard (λ limits. stop_of limits bytes ≡ None → (result ≡ Status.Done) ⊎ (result ≡ Status.NoMemory)) }
+{
+    let limits = standard_limits();
+    audit_run(alloc, &limits, words, log, out)
+}
+
+fn standard_limits() -> Limits
+    ensures { IsStandard result }
+{
+    Limits::standard()
 }

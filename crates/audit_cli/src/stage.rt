@@ -208,7 +208,7 @@ impl Stage {
         ensures full { IfErr result (Passes self.old.most_keys self.old.most_flows
             (self.old.most_keys < length (with_ends self.old.keys (link_by call.now.pid call.now.deed)))
             ((length (with_ends self.old.keys (link_by call.now.pid call.now.deed)) ≤ self.old.most_keys)
-                × (self.old.most_flows < length (self.old.flows ++ flow_if (with_ends self.old.keys (link_by call.now.pid call.now.deed)) call.now.key (length self.old.flows) (link_by call.now.pid call.now.deed))))) }
+            × (self.old.most_flows < length (self.old.flows ++ flow_if (with_ends self.old.keys (link_by call.now.pid call.now.deed)) call.now.key (length self.old.flows) (link_by call.now.pid call.now.deed))))) }
         ensures rest { (self.new.pids ≡ self.old.pids) × (self.new.last ≡ self.old.last) }
         ensures most { (self.new.most_keys ≡ self.old.most_keys) × (self.new.most_flows ≡ self.old.most_flows) }
     {
@@ -216,10 +216,20 @@ impl Stage {
         match call.deed {
             Deed::Nothing => Ok(()),
             Deed::Reads { fd } => {
-                self.add(descriptor(call.pid, fd), process(call.pid), How::Read, call.key)
+                self.add(
+                    descriptor(call.pid, fd),
+                    process(call.pid),
+                    How::Read,
+                    call.key,
+                )
             }
             Deed::Writes { fd } => {
-                self.add(process(call.pid), descriptor(call.pid, fd), How::Write, call.key)
+                self.add(
+                    process(call.pid),
+                    descriptor(call.pid, fd),
+                    How::Write,
+                    call.key,
+                )
             }
             Deed::Forks { child } => {
                 self.add(process(call.pid), process(child), How::Fork, call.key)
@@ -246,7 +256,13 @@ impl Stage {
     }
 
     // Puts a flow last.
-    fn put_flow(&mut self, from: EntityId, to: EntityId, how: How, key: EventKey) -> Result<(), Refusal>
+    fn put_flow(
+        &mut self,
+        from: EntityId,
+        to: EntityId,
+        how: How,
+        key: EventKey,
+    ) -> Result<(), Refusal>
         ensures flows { OnOk result (self.new.flows ≡ self.old.flows ++ record { from = from; to = to; how = how; at = record { ms = key.ms; place = length self.old.flows }; serial = key.serial } ∷ []) }
         ensures full { IfErr result (Passes self.old.most_keys self.old.most_flows ⊥ (self.old.most_flows < length self.old.flows + 1)) }
         ensures fits { OnOk result (length self.new.flows ≤ self.new.most_flows) }

@@ -44,7 +44,12 @@ fn call_in(line: &Line, limits: &Limits) -> Option<Call>
 }
 
 // Takes bytes of the piece up to and with a line feed, and the line that they end. It says how many bytes it took.
-fn take_next(cut: &mut LineCut, stage: &mut Stage, limits: &Limits, piece: &[u8]) -> Result<usize, Halt>
+fn take_next(
+    cut: &mut LineCut,
+    stage: &mut Stage,
+    limits: &Limits,
+    piece: &[u8],
+) -> Result<usize, Halt>
     requires { cut.old.lines < 2 ^ 61 }
     ensures within { IfOk result (λ n. n ≤ length piece.now) }
     ensures some { IfOk result (λ n. 0 < length piece.now → 0 < n) }
@@ -65,7 +70,12 @@ fn take_next(cut: &mut LineCut, stage: &mut Stage, limits: &Limits, piece: &[u8]
 }
 
 /// Takes the lines that end in this piece.
-pub fn take_piece(cut: &mut LineCut, stage: &mut Stage, limits: &Limits, piece: &[u8]) -> Result<(), Halt>
+pub fn take_piece(
+    cut: &mut LineCut,
+    stage: &mut Stage,
+    limits: &Limits,
+    piece: &[u8],
+) -> Result<(), Halt>
     requires { cut.old.lines + length piece.now < 2 ^ 61 }
     ensures lines { OnOk result (cut.new.lines ≤ cut.old.lines + length piece.now) }
     ensures at { (history : History) → IsAt limits.now cut.old stage.old history → OnOk result (IsAt limits.now cut.new stage.new (with_bytes history piece.now)) }

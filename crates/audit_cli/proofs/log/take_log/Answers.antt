@@ -39,17 +39,17 @@ loop-count-preserved g c =
       heard = c.in_ok-count.ensures.fits;
       lines = c.in_ok-count.ensures.lines;
       told = λ bytes told at.
-        let now = c.loop-count.invariant.told bytes told at in
-        let took = c.in_ok-count.ensures.took (with_bytes [] (take heard bytes)) (drop heard bytes) now.0 (c.loop-count.invariant.at bytes told at) in
-        (rw (drop-drop c.in_ok-count.count heard bytes) at took.told, omega (arith, took.within, length-drop heard bytes, now.1));
+          let now = c.loop-count.invariant.told bytes told at in
+          let took = c.in_ok-count.ensures.took (with_bytes [] (take heard bytes)) (drop heard bytes) now.0 (c.loop-count.invariant.at bytes told at) in
+          (rw (drop-drop c.in_ok-count.count heard bytes) at took.told, omega (arith, took.within, length-drop heard bytes, now.1));
       at = λ bytes told at.
-        let now = c.loop-count.invariant.told bytes told at in
-        let took = c.in_ok-count.ensures.took (with_bytes [] (take heard bytes)) (drop heard bytes) now.0 (c.loop-count.invariant.at bytes told at) in
-        rw (more_taken [] heard c.in_ok-count.count bytes) at took.at;
+          let now = c.loop-count.invariant.told bytes told at in
+          let took = c.in_ok-count.ensures.took (with_bytes [] (take heard bytes)) (drop heard bytes) now.0 (c.loop-count.invariant.at bytes told at) in
+          rw (more_taken [] heard c.in_ok-count.count bytes) at took.at;
       goes = λ at.
-        let before = c.loop-count.invariant.goes at in
-        let more = c.in_ok-count.ensures.goes (with_bytes [] before.0) before.1 in
-        (before.0 ++ more.0, rw (pieces_join [] before.0 more.0) at more.1);
+          let before = c.loop-count.invariant.goes at in
+          let more = c.in_ok-count.ensures.goes (with_bytes [] before.0) before.1 in
+          (before.0 ++ more.0, rw (pieces_join [] before.0 more.0) at more.1);
       counts = record {
         later = omega (arith, c.loop-count.invariant.counts.later, c.take_read.ensures.counts.later);
         stays = λ spent. c.take_read.ensures.counts.stays (c.loop-count.invariant.counts.stays spent);

@@ -12,5 +12,5 @@ returns-in_err-take_piece-clause-halts c = λ history rest at.
     let within : allowed ≤ limits.input - c.args.heard = omega arith in
     let front : take allowed (piece ++ rest) ≡ take allowed piece = take-append-le allowed piece rest inside in
     let due = due_within c.lines_stay.ensures.stay limits history (limits.input - c.args.heard) allowed (piece ++ rest) c.in_err-take_piece.field-0.0 within
-        (rw front (c.in_err-take_piece.ensures.halts history at)) in
+    (rw front (c.in_err-take_piece.ensures.halts history at)) in
     search (rules, due)

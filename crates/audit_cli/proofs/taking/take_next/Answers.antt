@@ -12,7 +12,7 @@ returns-in_err-take_line-in-Some-clause-halts c = λ history at.
     let why = c.in_err-take_line-in-Some.field-0.0 in
     let gives = rw c.in-Some.is at (c.in_ok-count.ensures.line history at.cut) in
     let told : c.in-Some.line ≡ line_of limits.line (length (newest_lines history) + 1) gives.0 =
-        gives.2 ∙ (λ i. line_of (at.limit i) (sym (next_number history) i) gives.0) in
+    gives.2 ∙ (λ i. line_of (at.limit i) (sym (next_number history) i) gives.0) in
     let here = c.in_err-take_line-in-Some.ensures.halts (newest_lines history) gives.0 at.tables told in
     let after = due_at limits history (with_bytes history (take c.in_ok-count.count piece)) gives.0 why at.going gives.1 here in
     let due = rw (← with_rest history c.in_ok-count.count piece) at (due_later c.lines_stay.ensures.stay limits (with_bytes history (take c.in_ok-count.count piece)) (map Byte (drop c.in_ok-count.count piece)) why after) in

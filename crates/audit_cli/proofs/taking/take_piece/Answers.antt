@@ -18,6 +18,6 @@ loop-at-preserved c =
       within = omega (arith, rw (take_rest piece c.loop-at.at, length-drop) at c.in_ok-at.ensures.within);
       lines = omega (arith, c.in_ok-at.ensures.lines, c.loop-at.invariant.lines);
       taken = λ history at.
-        let before = with_bytes history (take c.loop-at.at piece) in
-        rw (take_rest piece c.loop-at.at, more_taken history c.loop-at.at c.in_ok-at.field-0 piece) at (c.in_ok-at.ensures.at before (c.loop-at.invariant.taken history at));
+          let before = with_bytes history (take c.loop-at.at piece) in
+          rw (take_rest piece c.loop-at.at, more_taken history c.loop-at.at c.in_ok-at.field-0 piece) at (c.in_ok-at.ensures.at before (c.loop-at.invariant.taken history at));
     }
