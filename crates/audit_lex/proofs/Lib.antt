@@ -10,3 +10,4 @@ pub mod PieceLaws
 pub mod WrittenPieces
 pub mod ReadableLemmas
 pub mod UsedLaws
+pub mod ClassLaws

@@ -13,3 +13,4 @@ pub mod SyscallLine
 pub mod Written
 pub mod Pieces
 pub mod UsedLine
+pub mod Classes

@@ -4,9 +4,10 @@
 ghost use Rattle.std.specs.Prelude.{◌≡◌, ◌↔◌, ◌≤◌, ◌++◌, [], ◌∷◌, List, ℕ, Some, length};
 ghost use Rattle.std.specs.List.{position_or_len};
 ghost use Rattle.memchr.specs.Find.{is_byte};
+ghost use Rattle.audit_lex.specs.Classes.{IsOfClass};
 ghost use Rattle.audit_lex.specs.Header.{Head, head_of};
 ghost use Rattle.audit_lex.specs.History.{History, Settle, settled, cuts_of, lines_of, tail_of, with_bytes};
-ghost use Rattle.audit_lex.specs.LineClass.{Used, text_class, class_of};
+ghost use Rattle.audit_lex.specs.LineClass.{Class, Used, text_class, class_of};
 ghost use Rattle.audit_lex.specs.LineFields.{ReadableSyscall};
 ghost use Rattle.audit_lex.specs.Tokens.{tokens_of};
 ghost use Rattle.audit_lex.specs.Pieces.{Piece, ArePieces, pieces_text, named_pieces};
@@ -61,6 +62,11 @@ pub fn tokens_are_written()
 /// A line is used exactly where it can be written with a header and tokens that spell each field of its kind.
 pub fn used_lines_are_written()
     ensures { (line : List ℕ) (key : EventKey) (kind : Kind) → (text_class line ≡ Used key kind) ↔ IsUsedLine line key kind }
+{}
+
+/// A line has a class exactly where it can be written as one of that class, so it has one class and one fault at most.
+pub fn lines_have_one_class()
+    ensures { (limit : ℕ) (line : List ℕ) (class : Class) → (class_of limit line ≡ class) ↔ IsOfClass limit line class }
 {}
 
 /// The fields of a used line of a system call can be read, but for those that it may leave out.

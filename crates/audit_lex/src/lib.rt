@@ -23,8 +23,8 @@ pub use faults::LineFault;
 pub use fields::{Field, Kind, Rule, ValueKind, field_name, rules};
 pub use header::EventKey;
 pub use laws::{
-    headers_are_written, line_feeds_end_lines, lines_stay, pieces_are_joined, settles_end_tails,
-    tokens_are_written, used_lines_are_written, used_syscalls_are_readable,
+    headers_are_written, line_feeds_end_lines, lines_have_one_class, lines_stay, pieces_are_joined,
+    settles_end_tails, tokens_are_written, used_lines_are_written, used_syscalls_are_readable,
 };
 pub use lexer::{Lexed, lex};
 pub use line_cut::{Line, LineCut};
