@@ -11,3 +11,4 @@ pub mod WrittenPieces
 pub mod ReadableLemmas
 pub mod UsedLaws
 pub mod ClassLaws
+pub mod TallyLaws

@@ -14,3 +14,4 @@ pub mod Written
 pub mod Pieces
 pub mod UsedLine
 pub mod Classes
+pub mod Tally
