@@ -8,7 +8,7 @@ ghost use Rattle.audit_lex.specs.Classes.{IsOfClass};
 ghost use Rattle.audit_lex.specs.Header.{Head, head_of};
 ghost use Rattle.audit_lex.specs.History.{History, Settle, settled, cuts_of, lines_of, tail_of, with_bytes};
 ghost use Rattle.audit_lex.specs.LineClass.{Class, Used, text_class, class_of};
-ghost use Rattle.audit_lex.specs.LineFields.{ReadableSyscall};
+ghost use Rattle.audit_lex.specs.LineFields.{ReadableSyscall, IsReadable};
 ghost use Rattle.audit_lex.specs.Tally.{Classed, nothing_counted, one_counted, tally_of};
 ghost use Rattle.audit_lex.specs.Tokens.{tokens_of};
 ghost use Rattle.audit_lex.specs.Pieces.{Piece, ArePieces, pieces_text, named_pieces};
@@ -68,6 +68,11 @@ pub fn used_lines_are_written()
 /// A line has a class exactly where it can be written as one of that class, so it has one class and one fault at most.
 pub fn lines_have_one_class()
     ensures { (limit : ℕ) (line : List ℕ) (class : Class) → (class_of limit line ≡ class) ↔ IsOfClass limit line class }
+{}
+
+/// The fields of a used line can be read, but for those that it may leave out.
+pub fn used_lines_are_readable()
+    ensures { (line : List ℕ) (key : EventKey) (kind : Kind) → text_class line ≡ Used key kind → IsReadable kind line }
 {}
 
 /// The fields of a used line of a system call can be read, but for those that it may leave out.

@@ -25,8 +25,8 @@ pub use fields::{Field, Kind, Rule, ValueKind, field_name, rules};
 pub use header::EventKey;
 pub use laws::{
     headers_are_written, line_feeds_end_lines, lines_are_counted, lines_have_one_class, lines_stay,
-    pieces_are_joined, settles_end_tails, tokens_are_written, used_lines_are_written,
-    used_syscalls_are_readable,
+    pieces_are_joined, settles_end_tails, tokens_are_written, used_lines_are_readable,
+    used_lines_are_written, used_syscalls_are_readable,
 };
 pub use lexer::{Lexed, lex};
 pub use line_cut::{Line, LineCut};
