@@ -23,6 +23,7 @@ use Rattle.audit_lex.proofs.UsedLaws.{headed_not_blank, used_is_written, written
 
 -- ---- the first fault
 
+-- the first rule of a table that the tokens don't meet
 pub record FirstFaulty (tokens : List NameValue) (rules : List Rule) (fault : LineFault) : Type 0 where
   pub before : List Rule
   pub rule : Rule

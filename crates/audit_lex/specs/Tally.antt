@@ -19,6 +19,7 @@ pub record Classed : Type 0 where
   pub number : ℕ
   pub class : Class
 
+-- no lines are counted
 abbrev pub nothing_counted : Tally
 nothing_counted = record { used = 0; other = 0; blank = 0; malformed = 0; bad = [] }
 
@@ -26,6 +27,7 @@ nothing_counted = record { used = 0; other = 0; blank = 0; malformed = 0; bad = 
 abbrev pub listed : ℕ → List Bad → Bad → List Bad
 listed shown bad line = if nat_lt (length bad) shown then bad ++ line ∷ [] else bad
 
+-- one more line of this number and class is counted
 abbrev pub class_counted : ℕ → Tally → ℕ → Class → Tally
 class_counted shown tally number (Used key kind) = record tally { used = tally.used + 1 }
 class_counted shown tally number Other = record tally { other = tally.other + 1 }
@@ -37,18 +39,22 @@ class_counted shown tally number (Malformed f) =
 abbrev pub one_counted : ℕ → Tally → Classed → Tally
 one_counted shown tally line = class_counted shown tally line.number line.class
 
+-- a used line
 abbrev pub is_used : Class → Bool
 is_used (Used key kind) = true
 is_used _ = false
 
+-- a line of a type that isn't read
 abbrev pub is_other : Class → Bool
 is_other Other = true
 is_other _ = false
 
+-- a blank line
 abbrev pub is_blank : Class → Bool
 is_blank Blank = true
 is_blank _ = false
 
+-- a malformed line
 abbrev pub is_malformed : Class → Bool
 is_malformed (Malformed f) = true
 is_malformed _ = false
