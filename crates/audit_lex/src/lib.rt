@@ -35,7 +35,7 @@ pub use laws::{
 pub use lexer::{Lexed, lex};
 pub use line_cut::{Line, LineCut};
 pub use numbers::{dec32, dec64, handle, hex32, hex64, signed};
-pub use plain_syscall::syscall_line;
+pub use plain_syscall::{syscall_line, syscall_lines_are_plain};
 pub use tally::Tally;
 pub use used_line::UsedLine;
 pub use values::{device, is_bytes, is_text, quoted, yesno};
