@@ -9,4 +9,7 @@ pub mod HeaderLaws
 pub mod PieceLaws
 pub mod WrittenPieces
 pub mod ReadableLemmas
+pub mod PlainSyscalls
 pub mod UsedLaws
+pub mod ClassLaws
+pub mod TallyLaws

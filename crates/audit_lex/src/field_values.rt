@@ -15,8 +15,8 @@ use crate::tokens::token_from;
 
 /// The values of a raw part's fields, with their quotes.
 #[derive(Clone, Copy)]
-pub struct FieldValues<'a> {
-    pub raw: &'a [u8],
+pub(crate) struct FieldValues<'a> {
+    pub(crate) raw: &'a [u8],
     kind: Kind,
     slots: Slots,
     ghost found: { AreFound (rules_of kind) raw.now (held raw.now slots.spans) },
@@ -24,8 +24,9 @@ pub struct FieldValues<'a> {
 
 impl<'a> FieldValues<'a> {
     /// The fields of a raw part of this kind.
-    pub fn read(raw: &'a [u8], kind: Kind) -> FieldValues<'a>
-        ensures { result.raw.now ≡ raw.now }
+    pub(crate) fn read(raw: &'a [u8], kind: Kind) -> FieldValues<'a>
+        ensures raw { result.raw.now ≡ raw.now }
+        ensures kind { result.kind ≡ kind }
     {
         FieldValues {
             raw,
@@ -35,7 +36,7 @@ impl<'a> FieldValues<'a> {
     }
 
     /// The value of the first token of this name. A name that the table doesn't ask for is looked for anew.
-    pub fn field(&self, name: Field) -> Option<&'a [u8]>
+    pub(crate) fn field(&self, name: Field) -> Option<&'a [u8]>
         ensures { option_map (λ value. value.now) result ≡ field_of self.now.raw.now (name_of name) }
     {
         match place_in(rules(self.kind), name) {

@@ -1,9 +1,10 @@
 //! System calls on lines that have neither a node nor an enriched part.
 //!
 //! The program that can't tell hosts apart yet takes these lines alone.
-ghost use Rattle.std.specs.Prelude.{◌≡◌, IfSome, option_map};
-ghost use Rattle.audit_lex.specs.SyscallLine.{has_node, has_mark, syscall_line_of};
+ghost use Rattle.std.specs.Prelude.{◌≡◌, ◌↔◌, ℕ, List, Some, IfSome, option_map};
+ghost use Rattle.audit_lex.specs.SyscallLine.{has_node, has_mark, syscall_line_of, IsSyscallLine};
 ghost use Rattle.audit_lex.specs.declared.fields.Kind.TheVariants as kind;
+ghost use Rattle.audit_lex.specs.declared.header.EventKey.{EventKey};
 
 use crate::fields::Kind;
 use crate::lexer::{Lexed, lex};
@@ -38,6 +39,11 @@ fn is_marked(line: &[u8]) -> bool
 {
     place_of(0x1d, line) < line.len()
 }
+
+/// A line has such a key exactly where it is a used line of a system call with neither a node nor a byte 0x1D.
+pub fn syscall_lines_are_plain()
+    ensures { (limit : ℕ) (line : List ℕ) (key : EventKey) → (syscall_line_of limit line ≡ Some key) ↔ IsSyscallLine limit line key }
+{}
 
 #[cfg(test)]
 mod tests {

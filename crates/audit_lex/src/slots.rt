@@ -12,18 +12,18 @@ use crate::spans::Span;
 use crate::tokens::{Token, value_if_named};
 
 /// How many fields the longest table has.
-pub const MOST_FIELDS: usize = 11;
+pub(crate) const MOST_FIELDS: usize = 11;
 
 /// Where the values of a table's fields stand, in the table's order.
 #[derive(Clone, Copy)]
-pub struct Slots {
+pub(crate) struct Slots {
     pub(crate) spans: [Option<Span>; MOST_FIELDS],
     ghost size: { length spans ≡ 11 },
 }
 
 impl Slots {
     /// Empty slots.
-    pub fn new() -> Slots
+    pub(crate) fn new() -> Slots
         ensures { (raw : List ℕ) (place : ℕ) → slice_index_or (held raw result.spans) place None ≡ None }
     {
         Slots {
@@ -32,7 +32,7 @@ impl Slots {
     }
 
     /// What was found for the field at this place of the table.
-    pub fn span(&self, place: usize) -> Option<Span>
+    pub(crate) fn span(&self, place: usize) -> Option<Span>
         requires { place < 11 }
         ensures { (raw : List ℕ) → option_map (spanned raw) result ≡ slice_index_or (held raw self.now.spans) place None }
     {
@@ -40,7 +40,7 @@ impl Slots {
     }
 
     /// Fills the empty slots of the token's name.
-    pub fn fill(&mut self, rules: &[Rule], token: Option<Token<'_>>)
+    pub(crate) fn fill(&mut self, rules: &[Rule], token: Option<Token<'_>>)
         requires { length rules.now ≤ 11 }
         ensures { (raw : List ℕ) → AreFilled rules.now (option_to_list (seen raw token.entry)) (held raw self.old.spans) (held raw self.new.spans) }
     {

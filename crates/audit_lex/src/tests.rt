@@ -1,6 +1,6 @@
 //! Lines of each class and with each fault. What is expected was worked out by hand from the format.
 use crate::*;
-use flow_base::{Bytes, NoMemory};
+use flow_base::{Bad, Bytes, NoMemory};
 use std::alloc::Global;
 use std::test::Fail;
 
@@ -419,6 +419,44 @@ fn the_readers_give_the_numbers_that_are_spelled(rt: HostRuntime) {
         None => assert!(rt; false),
     }
     assert_eq!(rt; quoted(b"\"/a b\"".as_slice()), Some(b"/a b".as_slice()));
+}
+
+// Counts a line that may have a hundred bytes, where three malformed ones are listed.
+fn count_line(tally: &mut Tally, number: u64, line: &[u8]) -> Result<(), NoMemory> {
+    let most = tally
+        .used
+        .max(tally.other)
+        .max(tally.blank)
+        .max(tally.malformed);
+    if most > 99 {
+        return Ok(());
+    }
+    tally.count(number, &lex(line, 100), 3)
+}
+
+#[test]
+fn each_line_is_counted_and_the_first_faults_are_listed(rt: HostRuntime) -> Result<(), Fail> {
+    let mut tally = Tally::new(rt.alloc());
+    for (number, line) in [
+        (1, b"type=EOE msg=audit(1.000:1):".as_slice()),
+        (2, b" ".as_slice()),
+        (3, b"x".as_slice()),
+        (4, b"type=CWD msg=audit(1.000:1): ".as_slice()),
+        (5, b"type=USER_MSG msg=audit(1.000:1): ".as_slice()),
+        (6, b"type=MMAP msg=audit(1.000:1): fd=x".as_slice()),
+        (7, b"type=CWD msg=audit(1.000:1): cwd=2F7".as_slice()),
+        (8, b"type=PROCTITLE msg=audit(1.000:1): ".as_slice()),
+    ] {
+        count_line(&mut tally, number, line)?;
+    }
+    assert!(rt; tally.used == 2 && tally.other == 1 && tally.blank == 1 && tally.malformed == 4);
+    let want = [
+        Bad { line: 3, fault: 2 },
+        Bad { line: 4, fault: 3 },
+        Bad { line: 6, fault: 4 },
+    ];
+    assert_eq!(rt; tally.bad.as_slice(), want.as_slice());
+    Ok(())
 }
 
 // A line of this length, which isn't read for its type.
