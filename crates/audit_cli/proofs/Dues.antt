@@ -10,11 +10,11 @@ use Rattle.audit_cli.specs.Refusals.{refusal_of, IsDue, Passes}
 use Rattle.audit_cli.specs.Lines.{halt_by, IsDueHalt}
 use borrow.Author.Tests.{lt-ltb, le-ltb}
 
-pub not_taken : (limits : Limits) (before : List Call) (call : Call) → may_follow before call ≡ false → refusal_of limits before (Some call) ≡ Some refusal.Unbuilt
+pub not_taken : (limits : Limits) (before : List Call) (call : Call) → may_follow before call ≡ false → refusal_of limits before call ≡ Some refusal.Unbuilt
 not_taken limits before call fails = rw fails refl
 
 pub none_due : (limits : Limits) (before : List Call) (call : Call) → may_follow before call ≡ true
-    → length (objects (call ∷ before)) ≤ limits.entities → length (flows (call ∷ before)) ≤ limits.flows → refusal_of limits before (Some call) ≡ None
+    → length (objects (call ∷ before)) ≤ limits.entities → length (flows (call ∷ before)) ≤ limits.flows → refusal_of limits before call ≡ None
 none_due limits before call follows few fits =
     let keys : nat_lt limits.entities (length (objects (call ∷ before))) ≡ false = le-ltb _ _ (omega arith) in
     let places : nat_lt limits.flows (length (flows (call ∷ before))) ≡ false = le-ltb _ _ (omega arith) in
@@ -23,7 +23,7 @@ none_due limits before call follows few fits =
 pub passes_due : (limits : Limits) (before : List Call) (call : Call) (why : Refusal) → may_follow before call ≡ true
     → Passes limits.entities limits.flows (limits.entities < length (objects (call ∷ before)))
     ((length (objects (call ∷ before)) ≤ limits.entities) × (limits.flows < length (flows (call ∷ before)))) why
-    → IsDue (refusal_of limits before (Some call)) why
+    → IsDue (refusal_of limits before call) why
 passes_due limits before call refusal.NoMemory follows passes = tt
 passes_due limits before call refusal.Unbuilt follows passes = absurd passes
 passes_due limits before call (refusal.Full full) follows (inl passes) =

@@ -1,20 +1,22 @@
 -- Lines that stop no run tell calls that could follow each other.
-use Rattle.std.proofs.Common.{◌≡◌, ◌≢◌, ◌<◌, ◌&&◌, ◌∙◌, ◌++◌, ap, sym, subst, ℕ, not, nat_lt, ◌==◌, List, [], ◌∷◌, Bool, true, false, Option, None, Some, refl, if◌then◌else◌, ◌%◌, ◌^◌, ℤ, pos, negsuc}
+use Rattle.std.proofs.Common.{◌≡◌, ◌≢◌, ◌&&◌, ◌++◌, sym, subst, ℕ, not, nat_lt, ◌==◌, List, [], ◌∷◌, Bool, true, false, Option, None, Some, refl, if◌then◌else◌, ◌%◌, ◌^◌, ℤ, pos, negsuc}
 use Rattle.std.specs.Prelude.{option_map}
-use Rattle.std.specs.Option.{option_or, option_to_list}
+use Rattle.std.specs.Option.{option_or}
 use Rattle.flow_base.specs.declared.limits.Limits.{Limits}
 use Rattle.audit_lex.specs.declared.header.EventKey.{EventKey}
 use Rattle.audit_cli.specs.declared.call_line.Call.{Call}
 use Rattle.audit_cli.specs.declared.call_line.Fields.{Fields}
 use Rattle.audit_cli.specs.declared.call_line.Deed.{Deed}
 use Rattle.audit_cli.specs.declared.call_line.Deed.TheVariants.{Nothing, Reads, Writes, Forks}
-use Rattle.audit_cli.specs.declared.halt.Halt.{Halt}
 use Rattle.audit_cli.specs.declared.refusal.Refusal.{Refusal}
-use Rattle.audit_cli.specs.CallLine.{read_deed, write_deed, child_deed, fork_deed, deed_of, is_ok, call_from, call_at, call_of, fields_of, X86_64, has_moved}
-use Rattle.audit_lex.specs.SyscallLine.{syscall_line_of}
+use Rattle.audit_cli.specs.CallLine.{read_deed, write_deed, child_deed, fork_deed, deed_of, is_ok, call_from, call_at, fields_of, X86_64, has_moved, said_if, said_by, said_in, said_of}
+use Rattle.audit_lex.specs.LineClass.{Class, Used, Other, Blank, Malformed, class_of}
+use Rattle.audit_lex.specs.declared.fields.Kind.{Kind}
+use Rattle.audit_lex.specs.declared.fields.Kind.TheVariants as kind
+use Rattle.audit_cli.specs.declared.call_line.Said.{Said}
+use Rattle.audit_cli.specs.declared.call_line.Said.TheVariants as said
 use Rattle.audit_cli.specs.Stage.{may_follow}
-use Rattle.audit_cli.specs.Refusals.{refusal_of}
-use Rattle.audit_cli.specs.Lines.{calls_of, stop_at, first_stop, halt_by}
+use Rattle.audit_cli.specs.Lines.{calls_told, calls_of, said_refusal, stop_at, first_stop}
 use Rattle.audit_cli.specs.Taken.{AreTaken, IsOfAnother}
 use borrow.Author.Tests.{eqb-false}
 
@@ -71,14 +73,38 @@ fine_fields key fields =
     fine_if (fields.arch == X86_64) _ (fine_deed key fields (deed_of fields.number (is_ok fields.success) fields.exit fields.a0 fields.pid)
     (λ d e. deed_by (fields.number == 0) (fields.number == 1) (fields.number == 57) (is_ok fields.success) fields.exit fields.a0 fields.pid d e))
 
-fine_at : (key : Option EventKey) (fields : Option Fields) → IsFine (call_at key fields)
-fine_at None None = tt
-fine_at None (Some fields) = tt
-fine_at (Some key) None = tt
-fine_at (Some key) (Some fields) = fine_fields key fields
+-- what a line says is fine
+abbrev IsFineSaid : Said → Type 0
+IsFineSaid said.PassedOver = Unit {0}
+IsFineSaid (said.Tells call) = IsOfAnother call.pid call.deed
+IsFineSaid said.Unbuilt = Unit {0}
 
-fine_call : (limit : ℕ) (line : List ℕ) → IsFine (call_of limit line)
-fine_call limit line = fine_at (syscall_line_of limit line) (fields_of line)
+fine_at : (key : EventKey) (fields : Option Fields) → IsFine (call_at key fields)
+fine_at key None = tt
+fine_at key (Some fields) = fine_fields key fields
+
+fine_told : (call : Option Call) → IsFine call → IsFineSaid (said_if call)
+fine_told None fine = tt
+fine_told (Some call) fine = fine
+
+fine_by : (key : EventKey) (kind : Kind) (line : List ℕ) → IsFineSaid (said_by key kind line)
+fine_by key kind.Syscall line = fine_told (call_at key (fields_of line)) (fine_at key (fields_of line))
+fine_by key kind.Path line = tt
+fine_by key kind.Cwd line = tt
+fine_by key kind.Sockaddr line = tt
+fine_by key kind.FdPair line = tt
+fine_by key kind.Mmap line = tt
+fine_by key kind.Proctitle line = tt
+fine_by key kind.Eoe line = tt
+
+fine_in : (class : Class) (line : List ℕ) → IsFineSaid (said_in class line)
+fine_in (Used key kind) line = fine_by key kind line
+fine_in Other line = tt
+fine_in Blank line = tt
+fine_in (Malformed fault) line = tt
+
+fine_said : (limit : ℕ) (line : List ℕ) → IsFineSaid (said_of limit line)
+fine_said limit line = fine_in (class_of limit line) line
 
 or_none : {A : Type 0} (first second : Option A) → option_or first second ≡ None → (first ≡ None) × (second ≡ None)
 or_none None second e = (refl, e)
@@ -92,14 +118,15 @@ follows_by : (follows : Bool) (rest : Option Refusal) (why : Refusal) → (if no
 follows_by true rest why e = refl
 follows_by false rest why e = let wrong : Some why ≡ None = e in cc
 
-line_taken : (limits : Limits) (before : List Call) (call : Option Call) → IsFine call → refusal_of limits before call ≡ None → AreTaken before → AreTaken (option_to_list call ++ before)
-line_taken limits before None fine none taken = let wrong : Some _ ≡ None = none in cc
-line_taken limits before (Some call) fine none taken = (follows_by (may_follow before call) _ _ none, fine, taken)
+line_taken : (limits : Limits) (before : List Call) (said : Said) → IsFineSaid said → said_refusal limits before said ≡ None → AreTaken before → AreTaken (calls_told said ++ before)
+line_taken limits before said.PassedOver fine none taken = taken
+line_taken limits before said.Unbuilt fine none taken = let wrong : Some _ ≡ None = none in cc
+line_taken limits before (said.Tells call) fine none taken = (follows_by (may_follow before call) _ _ none, fine, taken)
 
 -- the calls of lines that stop no run were taken
 pub going_taken : (limits : Limits) (lines : List (List ℕ)) → first_stop limits lines ≡ None → AreTaken (calls_of limits.line lines)
 going_taken limits [] none = tt
 going_taken limits (line ∷ before) none =
     let parts = or_none (first_stop limits before) (stop_at limits before line) none in
-    line_taken limits (calls_of limits.line before) (call_of limits.line line) (fine_call limits.line line)
-    (map_none _ (refusal_of limits (calls_of limits.line before) (call_of limits.line line)) parts.1) (going_taken limits before parts.0)
+    line_taken limits (calls_of limits.line before) (said_of limits.line line) (fine_said limits.line line)
+    (map_none _ (said_refusal limits (calls_of limits.line before) (said_of limits.line line)) parts.1) (going_taken limits before parts.0)

@@ -1,10 +1,14 @@
 -- What a line says, as far as this stage of the program takes lines.
 use Rattle.std.specs.Prelude.{ℕ, ℤ, pos, negsuc, ◌%◌, ◌^◌, ◌==◌, ◌&&◌, not, nat_lt, Bool, false, List, Option, None, Some, option_map, if◌then◌else◌}
-use Rattle.audit_lex.specs.SyscallLine.{syscall_line_of}
+use Rattle.audit_lex.specs.LineClass.{Class, Used, Other, Blank, Malformed, class_of}
 use Rattle.audit_lex.specs.LineFields.{needed, offered}
 use Rattle.audit_lex.specs.Values.{dec32_of, signed_of, hex32_of, hex64_of, yesno_of}
 use Rattle.audit_lex.specs.declared.fields.Field.TheVariants as field
 use Rattle.audit_lex.specs.declared.header.EventKey.{EventKey}
+use Rattle.audit_lex.specs.declared.fields.Kind.{Kind}
+use Rattle.audit_lex.specs.declared.fields.Kind.TheVariants as kind
+use Rattle.audit_cli.specs.declared.call_line.Said.{Said}
+use Rattle.audit_cli.specs.declared.call_line.Said.TheVariants as said
 use Rattle.audit_cli.specs.declared.call_line.Call.{Call}
 use Rattle.audit_cli.specs.declared.call_line.Fields.{Fields}
 use Rattle.audit_cli.specs.declared.call_line.Deed.{Deed}
@@ -70,11 +74,30 @@ fields_of line =
     fields_from (needed hex32_of line field.Arch) (needed dec32_of line field.Syscall) (offered yesno_of line field.Success)
     (offered signed_of line field.Exit) (needed hex64_of line field.A0) (needed dec32_of line field.Ppid) (needed dec32_of line field.Pid)
 
-abbrev pub call_at : Option EventKey → Option Fields → Option Call
-call_at (Some key) (Some fields) = call_from key fields
-call_at _ _ = None
+-- what a line says: nothing that is followed yet, a call, or what the stage can't take
+abbrev pub said_if : Option Call → Said
+said_if None = said.Unbuilt
+said_if (Some call) = said.Tells call
 
--- the call that a line of at most `limit` bytes tells: a system call of x86-64 without a node and without an enriched part,
--- which is a read, a write or a fork
-abbrev pub call_of : ℕ → List ℕ → Option Call
-call_of limit line = call_at (syscall_line_of limit line) (fields_of line)
+-- the call of a line at this key, where its fields tell one that the stage takes
+abbrev pub call_at : EventKey → Option Fields → Option Call
+call_at key None = None
+call_at key (Some fields) = call_from key fields
+
+-- what a used line of this kind says. The end of an event and the title of a process change no flow where keys rise
+abbrev pub said_by : EventKey → Kind → List ℕ → Said
+said_by key kind.Syscall line = said_if (call_at key (fields_of line))
+said_by key kind.Proctitle line = said.PassedOver
+said_by key kind.Eoe line = said.PassedOver
+said_by key _ line = said.Unbuilt
+
+-- what a line of a class says: a line that isn't used is passed over
+abbrev pub said_in : Class → List ℕ → Said
+said_in (Used key kind) line = said_by key kind line
+said_in Other line = said.PassedOver
+said_in Blank line = said.PassedOver
+said_in (Malformed fault) line = said.PassedOver
+
+-- what a line says that may have this many bytes
+abbrev pub said_of : ℕ → List ℕ → Said
+said_of limit line = said_in (class_of limit line) line

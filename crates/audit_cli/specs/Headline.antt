@@ -1,18 +1,17 @@
 -- What a run over a log writes, and how it ends.
-use Rattle.std.specs.Prelude.{◌≡◌, ⊤, ℕ, List, [], ◌∷◌, ◌++◌, length, take, Option, None, Some, Result, Ok, Err}
+use Rattle.std.specs.Prelude.{◌≡◌, ⊤, ℕ, List, [], ◌∷◌, ◌++◌, length, take, Option, None, Some}
 use Rattle.std.specs.Io.KnownBytes.{Appends}
 use Rattle.flow_base.specs.declared.limits.Limits.{Limits}
 use Rattle.flow_base.specs.declared.types.EntityId.{EntityId}
 use Rattle.flow_base.specs.declared.types.Flow.{Flow}
 use Rattle.audit_lex.specs.History.{Settle, with_bytes}
 use Rattle.audit_cli.specs.declared.call_line.Call.{Call}
-use Rattle.audit_cli.specs.declared.halt.Halt.{Halt}
 use Rattle.audit_cli.specs.declared.halt.Halt.TheVariants as halt
 use Rattle.audit_cli.specs.declared.reply.Reply.{Reply}
 use Rattle.audit_cli.specs.declared.status.Status.{Status}
 use Rattle.audit_cli.specs.declared.status.Status.TheVariants as status
 use Rattle.audit_cli.specs.Lines.{calls_of}
-use Rattle.audit_cli.specs.Logs.{stop_of, MayHalt}
+use Rattle.audit_cli.specs.Logs.{stop_of}
 use Rattle.audit_cli.specs.Replies.{IsReply, text_of}
 use Rattle.audit_cli.specs.Stage.{objects, flows}
 use Rattle.audit_cli.specs.Taking.{newest_lines}

@@ -16,9 +16,8 @@ flows_full limits = record { limit = limit.Flows; number = limits.flows }
 
 -- why a call isn't taken after these, where it isn't: it isn't one that the stage takes, or it would bring the objects or the
 -- flows above their limit
-abbrev pub refusal_of : Limits → List Call → Option Call → Option Refusal
-refusal_of limits before None = Some refusal.Unbuilt
-refusal_of limits before (Some call) =
+abbrev pub refusal_of : Limits → List Call → Call → Option Refusal
+refusal_of limits before call =
     if not (may_follow before call) then Some refusal.Unbuilt
     else if nat_lt limits.entities (length (objects (call ∷ before))) then Some (refusal.Full (entities_full limits))
     else if nat_lt limits.flows (length (flows (call ∷ before))) then Some (refusal.Full (flows_full limits))

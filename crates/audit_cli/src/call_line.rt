@@ -1,14 +1,15 @@
 //! What a line says, as far as this stage of the program takes lines.
 //!
-//! The stage takes system calls of x86-64 on lines that have neither a node nor an enriched part: a read, a write
-//! and a fork. Joining the records of an event, and all other calls, come later.
+//! The stage takes system calls of x86-64: a read, a write and a fork. It passes over lines that aren't used, and over
+//! the ends of events and the titles of processes, which change no flow while the keys of calls rise. Joining a call
+//! with its other records, and all other calls, come later.
 ghost use Rattle.std.specs.Prelude.{◌≡◌, ◌%◌, ◌^◌};
 ghost use Rattle.audit_lex.specs.LineFields.{offered};
 ghost use Rattle.audit_lex.specs.Values.{signed_of, yesno_of};
 ghost use Rattle.audit_lex.specs.declared.fields.Field.TheVariants as field;
-ghost use Rattle.audit_cli.specs.CallLine.{is_ok, has_moved, read_deed, write_deed, child_deed, fork_deed, deed_of, call_from, fields_of, call_of};
+ghost use Rattle.audit_cli.specs.CallLine.{is_ok, has_moved, read_deed, write_deed, child_deed, fork_deed, deed_of, call_from, fields_of, call_at, said_by, said_of};
 
-use audit_lex::{EventKey, Field, UsedLine, dec32, hex32, hex64, signed, syscall_line, yesno};
+use audit_lex::{EventKey, Field, Kind, Lexed, UsedLine, dec32, hex32, hex64, lex, signed, yesno};
 
 /// x86-64, as the kernel numbers its machines.
 const X86_64: u32 = 0xc000_003e;
@@ -53,12 +54,48 @@ struct Fields {
     pid: u32,
 }
 
-/// The call that a line of at most this many bytes tells, where the stage takes such a line.
-pub fn read_call(line: &[u8], limit: usize) -> Option<Call>
-    ensures { result ≡ call_of limit line.now }
+/// What a line says.
+#[derive(Clone, Copy, Debug, PartialEq, Eq)]
+pub enum Said {
+    /// Nothing that a flow could come of.
+    PassedOver,
+    /// A call that the stage takes.
+    Tells(Call),
+    /// What the stage can't take yet.
+    Unbuilt,
+}
+
+/// What a line says that may have this many bytes.
+pub fn read_said(line: &[u8], limit: usize) -> Said
+    ensures { result ≡ said_of limit line.now }
 {
-    let used = syscall_line(line, limit)?;
-    let fields = read_fields(&used)?;
+    match lex(line, limit) {
+        Lexed::Used(used) => said_by(&used),
+        Lexed::Other => Said::PassedOver,
+        Lexed::Blank => Said::PassedOver,
+        Lexed::Malformed(_) => Said::PassedOver,
+    }
+}
+
+// What a used line says.
+fn said_by(used: &UsedLine<'_>) -> Said
+    ensures { result ≡ said_by used.now.key used.now.kind used.now.line.now }
+{
+    match used.kind {
+        Kind::Syscall => match read_call(used) {
+            Some(call) => Said::Tells(call),
+            None => Said::Unbuilt,
+        },
+        Kind::Proctitle | Kind::Eoe => Said::PassedOver,
+        Kind::Path | Kind::Cwd | Kind::Sockaddr | Kind::FdPair | Kind::Mmap => Said::Unbuilt,
+    }
+}
+
+// The call that a line of a system call tells, where the stage takes it.
+fn read_call(used: &UsedLine<'_>) -> Option<Call>
+    ensures { result ≡ call_at used.now.key (fields_of used.now.line.now) }
+{
+    let fields = read_fields(used)?;
     call_with(used.key, fields)
 }
 

@@ -75,8 +75,8 @@ impl Stage {
     /// Takes the call that comes next. Where it is refused nothing more is said of the tables.
     pub fn take(&mut self, call: &Call) -> Result<(), Refusal>
         ensures stands { (limits : Limits) (before : List Call) → StandsFor limits self.old before → OnOk result (StandsFor limits self.new (call.now ∷ before)) }
-        ensures allowed { (limits : Limits) (before : List Call) → StandsFor limits self.old before → OnOk result (refusal_of limits before (Some call.now) ≡ None) }
-        ensures refused { (limits : Limits) (before : List Call) → StandsFor limits self.old before → IfErr result (IsDue (refusal_of limits before (Some call.now))) }
+        ensures allowed { (limits : Limits) (before : List Call) → StandsFor limits self.old before → OnOk result (refusal_of limits before call.now ≡ None) }
+        ensures refused { (limits : Limits) (before : List Call) → StandsFor limits self.old before → IfErr result (IsDue (refusal_of limits before call.now)) }
     {
         if !self.may_take(call) {
             return Err(Refusal::Unbuilt);

@@ -2,13 +2,13 @@
 ghost use Rattle.std.specs.Prelude.{◌≡◌, ◌≤◌, ◌<◌, ◌+◌, ◌-◌, ◌^◌, ◌++◌, ◌∷◌, [], ℕ, List, None, length, take, OnOk, IfOk, IfErr};
 ghost use Rattle.audit_lex.specs.History.{History, Settle, with_bytes};
 ghost use Rattle.audit_lex.specs.LineCut.{line_of};
-ghost use Rattle.audit_cli.specs.CallLine.{call_of};
+ghost use Rattle.audit_cli.specs.CallLine.{said_of};
 ghost use Rattle.audit_cli.specs.Tables.{StandsFor};
 ghost use Rattle.audit_cli.specs.Lines.{calls_of, stop_at, first_stop, IsDueHalt};
 ghost use Rattle.audit_cli.specs.Taking.{IsAt, newest_lines};
 ghost use Rattle.audit_cli.specs.Logs.{HasCauses};
 
-use crate::call_line::{Call, read_call};
+use crate::call_line::{Said, read_said};
 use crate::halt::{Halt, halt_at};
 use crate::stage::Stage;
 use audit_lex::{Line, LineCut, lines_stay};
@@ -24,23 +24,24 @@ fn take_line(stage: &mut Stage, limits: &Limits, line: &Line) -> Result<(), Halt
         → IfErr result (IsDueHalt (stop_at limits.now before text)) }
     ensures causes { IfErr result (HasCauses ⊥ ⊥) }
 {
-    match call_in(line, limits) {
-        None => Err(Halt::Unbuilt(line.number)),
-        Some(call) => match stage.take(&call) {
+    match said_in(line, limits) {
+        Said::PassedOver => Ok(()),
+        Said::Unbuilt => Err(Halt::Unbuilt(line.number)),
+        Said::Tells(call) => match stage.take(&call) {
             Ok(()) => Ok(()),
             Err(why) => Err(halt_at(line.number, why)),
         },
     }
 }
 
-// The call that a line tells. A line that is too long tells none.
-fn call_in(line: &Line, limits: &Limits) -> Option<Call>
-    ensures { (number : ℕ) (text : List ℕ) → line.now ≡ line_of limits.now.line number text → result ≡ call_of limits.now.line text }
+// What a line says. A line that is too long is passed over, like other malformed ones.
+fn said_in(line: &Line, limits: &Limits) -> Said
+    ensures { (number : ℕ) (text : List ℕ) → line.now ≡ line_of limits.now.line number text → result ≡ said_of limits.now.line text }
 {
     if line.long {
-        return None;
+        return Said::PassedOver;
     }
-    read_call(line.text.as_slice(), limits.line)
+    read_said(line.text.as_slice(), limits.line)
 }
 
 // Takes bytes of the piece up to and with a line feed, and the line that they end. It says how many bytes it took.

@@ -14,6 +14,27 @@ const WRITE: &[u8] =
 
 const FEED: &[u8] = b"\n";
 
+// The end of the second event.
+const END: &[u8] = b"type=EOE msg=audit(1.001:2): \n";
+
+// The file that a call names.
+const FILE: &[u8] =
+    b"type=PATH msg=audit(1.001:2): item=0 name=\"/f7\" inode=7 dev=08:01 nametype=NORMAL\n";
+
+// A fork by process 100 of 102 before the first line.
+const EARLIER: &[u8] =
+    b"type=SYSCALL msg=audit(0.999:1): arch=c000003e syscall=57 success=yes exit=102 a0=0 a1=0 a2=0 a3=0 items=0 ppid=1 pid=100 comm=\"p\" exe=\"/p\"\n";
+
+// A fork of 101 with what a collector adds, one of 102 with the name of its host, and a name without its closing quote.
+const ENRICHED: &[u8] =
+    b"type=SYSCALL msg=audit(1.000:1): arch=c000003e syscall=57 success=yes exit=101 a0=0 a1=0 a2=0 a3=0 items=0 ppid=1 pid=100 comm=\"p\" exe=\"/p\"\x1dARCH=x86_64 SYSCALL=fork\n";
+
+const FROM_A_HOST: &[u8] =
+    b"node=web1 type=SYSCALL msg=audit(1.001:2): arch=c000003e syscall=57 success=yes exit=102 a0=0 a1=0 a2=0 a3=0 items=0 ppid=1 pid=100 comm=\"p\" exe=\"/p\"\n";
+
+const UNCLOSED: &[u8] =
+    b"type=PATH msg=audit(1.001:2): item=0 name=\"/f7 inode=7 dev=08:01 nametype=NORMAL\n";
+
 // The limits of the program, with these in place of three of them.
 fn limits(line: usize, input: u64, entities: u32, flows: u64) -> Limits {
     let standard = Limits::standard();
@@ -167,31 +188,44 @@ fn a_question_is_answered_over_the_whole_log(rt: HostRuntime) -> Result<(), Fail
 
 #[test]
 fn a_limit_stops_the_run_one_past_it(rt: HostRuntime) -> Result<(), Fail> {
-    // two lines of 140 and 139 bytes, three objects, two flows
+    // two lines of 139 and 138 bytes and their line feeds, three objects, two flows
     let full = |limit, number| Status::Full(Full { limit, number });
     let rows = [
-        (limits(139, 279, 3, 2), Status::Done),
-        (limits(138, 279, 3, 2), Status::Unbuilt(1)),
-        (limits(139, 278, 3, 2), full(Limit::Input, 278)),
-        (limits(139, 279, 2, 2), full(Limit::Entities, 2)),
-        (limits(139, 279, 3, 1), full(Limit::Flows, 1)),
+        (limits(139, 279, 3, 2), Status::Done, REACHED),
+        // the fork is too long, and is passed over
+        (limits(138, 279, 3, 2), Status::Done, UNKNOWN),
+        (
+            limits(139, 278, 3, 2),
+            full(Limit::Input, 278),
+            b"".as_slice(),
+        ),
+        (
+            limits(139, 279, 2, 2),
+            full(Limit::Entities, 2),
+            b"".as_slice(),
+        ),
+        (
+            limits(139, 279, 3, 1),
+            full(Limit::Flows, 1),
+            b"".as_slice(),
+        ),
         // of two limits that one line would pass, that of the objects
-        (limits(139, 279, 2, 1), full(Limit::Entities, 2)),
-        // a line that can't be taken goes before the limit that it would pass
-        (limits(138, 140, 3, 2), Status::Unbuilt(1)),
+        (
+            limits(139, 279, 2, 1),
+            full(Limit::Entities, 2),
+            b"".as_slice(),
+        ),
     ];
-    for (limits, status) in rows {
-        let (ended, written) = run(
-            &rt,
-            &limits,
-            "back 2",
-            log_of(&rt, &[FORK, WRITE, FEED])?,
-            &[],
-            &[],
-        )?;
+    for (limits, status, text) in rows {
+        let log = log_of(&rt, &[FORK, WRITE, FEED])?;
+        let (ended, written) = run(&rt, &limits, "back 2", log, &[], &[])?;
         assert_eq!(rt; ended, status);
-        assert_eq!(rt; written.as_slice().is_empty(), status != Status::Done);
+        assert_eq!(rt; written.as_slice(), text);
     }
+    // a line that can't be taken goes before the limit that it would pass
+    let log = log_of(&rt, &[FORK, EARLIER])?;
+    let (ended, _) = run(&rt, &limits(139, 300, 2, 2), "back 2", log, &[], &[])?;
+    assert_eq!(rt; ended, Status::Unbuilt(2));
     Ok(())
 }
 
