@@ -9,7 +9,6 @@ pub mod HeaderLaws
 pub mod PieceLaws
 pub mod WrittenPieces
 pub mod ReadableLemmas
-pub mod PlainSyscalls
 pub mod UsedLaws
 pub mod ClassLaws
 pub mod TallyLaws

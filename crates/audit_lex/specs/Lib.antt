@@ -9,7 +9,6 @@ pub mod Slots
 pub mod LineClass
 pub mod LineFields
 pub mod Lexing
-pub mod SyscallLine
 pub mod Written
 pub mod Pieces
 pub mod UsedLine

@@ -14,7 +14,6 @@ mod lexer;
 mod line_cut;
 mod numbers;
 mod places;
-mod plain_syscall;
 mod slots;
 mod spans;
 mod tally;
@@ -35,7 +34,6 @@ pub use laws::{
 pub use lexer::{Lexed, lex};
 pub use line_cut::{Line, LineCut};
 pub use numbers::{dec32, dec64, handle, hex32, hex64, signed};
-pub use plain_syscall::{syscall_line, syscall_lines_are_plain};
 pub use tally::Tally;
 pub use used_line::UsedLine;
 pub use values::{device, is_bytes, is_text, quoted, yesno};

@@ -497,3 +497,77 @@ fn the_longest_line_is_read_and_a_longer_one_is_not(rt: HostRuntime) -> Result<(
     );
     Ok(())
 }
+
+// A line that spells a record.
+fn used_line(line: &[u8]) -> Option<UsedLine<'_>> {
+    match lex(line, 200) {
+        Lexed::Used(used) => Some(used),
+        _ => None,
+    }
+}
+
+// The process of a used line.
+fn pid(line: &[u8]) -> Option<&[u8]> {
+    used_line(line)?.field(Field::Pid)
+}
+
+#[test]
+fn a_system_call_is_taken_with_its_fields(rt: HostRuntime) {
+    let line =
+        b"type=SYSCALL msg=audit(12.345:67): arch=c000003e syscall=57 success=yes exit=-1 a0=0 a1=F a2=0 a3=0 ppid=1 pid=100 comm=\"a pid=7 b\" exe=\"/a b\"";
+    match used_line(line.as_slice()) {
+        Some(used) => {
+            assert_eq!(rt; used.key.ms, 12_345);
+            assert_eq!(rt; used.key.serial, 67);
+            assert_eq!(rt; used.field(Field::Pid), Some(b"100".as_slice()));
+            assert_eq!(rt; used.field(Field::Exit), Some(b"-1".as_slice()));
+            assert_eq!(rt; used.field(Field::Exe), Some(b"\"/a b\"".as_slice()));
+            assert_eq!(rt; used.field(Field::Name), None);
+        }
+        None => assert!(rt; false),
+    }
+}
+
+#[test]
+fn the_first_token_of_a_name_counts(rt: HostRuntime) {
+    for (line, want) in [
+        // a number in a quoted text is no token
+        (
+            b"type=SYSCALL msg=audit(1.000:1): arch=1 syscall=1 a0=0 a1=0 a2=0 a3=0 ppid=1 comm=\"a pid=7\" pid=8".as_slice(),
+            Some(b"8".as_slice()),
+        ),
+        // a quote that isn't closed runs on to the end
+        (
+            b"type=SYSCALL msg=audit(1.000:1): arch=1 syscall=1 a0=0 a1=0 a2=0 a3=0 ppid=1 comm=\"a pid=7".as_slice(),
+            None,
+        ),
+        (
+            b"type=SYSCALL msg=audit(1.000:1): arch=1 syscall=1 a0=0 a1=0 a2=0 a3=0 ppid=1 pid=7 pid=x".as_slice(),
+            Some(b"7".as_slice()),
+        ),
+        (
+            b"type=SYSCALL msg=audit(1.000:1): arch=1 syscall=1 a0=0 a1=0 a2=0 a3=0 ppid=1 pid=x pid=7".as_slice(),
+            None,
+        ),
+        // no such field, and a field with a fault that nobody asked for
+        (
+            b"type=SYSCALL msg=audit(1.000:1): arch=1 syscall=1 a0=0 a1=0 a2=0 a3=0 ppid=1".as_slice(),
+            None,
+        ),
+        (
+            b"type=SYSCALL msg=audit(1.000:1): arch=1 syscall=1 a0=0 a1=0 a2=0 a3=0x0 ppid=1 pid=7".as_slice(),
+            None,
+        ),
+        // a node, and what a collector adds behind the mark
+        (
+            b"node=web1 type=SYSCALL msg=audit(1.000:1): arch=1 syscall=1 a0=0 a1=0 a2=0 a3=0 ppid=1 pid=7".as_slice(),
+            Some(b"7".as_slice()),
+        ),
+        (
+            b"type=SYSCALL msg=audit(1.000:1): arch=1 syscall=1 a0=0 a1=0 a2=0 a3=0 ppid=1 pid=7\x1dARCH=x86_64 pid=8".as_slice(),
+            Some(b"7".as_slice()),
+        ),
+    ] {
+        assert_eq!(rt; pid(line), want);
+    }
+}
