@@ -10,3 +10,5 @@ pub mod PieceLaws
 pub mod WrittenPieces
 pub mod ReadableLemmas
 pub mod UsedLaws
+pub mod ClassLaws
+pub mod TallyLaws

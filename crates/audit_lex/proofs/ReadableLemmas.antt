@@ -6,8 +6,8 @@ use Rattle.audit_lex.specs.History.{is_long}
 use Rattle.audit_lex.specs.Tokens.{field_of}
 use Rattle.audit_lex.specs.Header.{Head, head_of}
 use Rattle.audit_lex.specs.FieldTable.{name_of, kind_of, rules_of, must, may}
-use Rattle.audit_lex.specs.Values.{dec32_of, signed_of, hex32_of, hex64_of, yesno_of}
-use Rattle.audit_lex.specs.LineFields.{raw_part_of, field_in_line, needed, offered, offered_text, reads_if_there, text_if_there, ReadableSyscall}
+use Rattle.audit_lex.specs.Values.{dec32_of, dec64_of, signed_of, hex32_of, hex64_of, device_of, handle_of, yesno_of, text_of, bytes_of}
+use Rattle.audit_lex.specs.LineFields.{raw_part_of, field_in_line, needed, offered, offered_text, reads_if_there, text_if_there, ReadableSyscall, ReadablePath, ReadablePair, IsReadable}
 use Rattle.audit_lex.specs.LineClass.{Class, Used, Blank, Malformed, spells, fault_of, fault_in, first_fault, is_blank_byte, fields_class, kind_class, head_class, text_class, class_of}
 use Rattle.audit_lex.specs.declared.fields.Kind.{Kind}
 use Rattle.audit_lex.specs.declared.fields.Kind.TheVariants as kind
@@ -128,7 +128,35 @@ call_readable line raw is none =
       exe = offer_text line raw field.Exe is all.1.1.1.1.1.1.1.1.1.1.0;
     }
 
-pub readable_syscall : (line : List ℕ) (key : EventKey) → text_class line ≡ Used key kind.Syscall → ReadableSyscall line
-readable_syscall line key is =
-    let found = faultless line key kind.Syscall is in
-    call_readable line found.head.raw (rw found.is refl) found.none
+path_readable : (line raw : List ℕ) → raw_part_of line ≡ Some raw → first_fault raw (rules_of kind.Path) ≡ None → ReadablePath line
+path_readable line raw is none =
+    let all = no_faults raw (rules_of kind.Path) none in
+    record {
+      item = need dec32_of value.Dec32 line raw field.Item is (λ text. refl) all.0;
+      name = need text_of value.Text line raw field.Name is (λ text. refl) all.1.0;
+      inode = offer dec64_of value.Dec64 line raw field.Inode is (λ text. refl) all.1.1.0;
+      device = offer device_of value.Device line raw field.Dev is (λ text. refl) all.1.1.1.0;
+    }
+
+pair_readable : (line raw : List ℕ) → raw_part_of line ≡ Some raw → first_fault raw (rules_of kind.FdPair) ≡ None → ReadablePair line
+pair_readable line raw is none =
+    let all = no_faults raw (rules_of kind.FdPair) none in
+    record {
+      first = need dec32_of value.Dec32 line raw field.Fd0 is (λ text. refl) all.0;
+      second = need dec32_of value.Dec32 line raw field.Fd1 is (λ text. refl) all.1.0;
+    }
+
+raw_readable : (k : Kind) (line raw : List ℕ) → raw_part_of line ≡ Some raw → first_fault raw (rules_of k) ≡ None → IsReadable k line
+raw_readable kind.Syscall line raw is none = call_readable line raw is none
+raw_readable kind.Path line raw is none = path_readable line raw is none
+raw_readable kind.Cwd line raw is none = need text_of value.Text line raw field.Cwd is (λ text. refl) (no_faults raw (rules_of kind.Cwd) none).0
+raw_readable kind.Sockaddr line raw is none = need bytes_of value.Bytes line raw field.Saddr is (λ text. refl) (no_faults raw (rules_of kind.Sockaddr) none).0
+raw_readable kind.FdPair line raw is none = pair_readable line raw is none
+raw_readable kind.Mmap line raw is none = need handle_of value.Handle line raw field.Fd is (λ text. refl) (no_faults raw (rules_of kind.Mmap) none).0
+raw_readable kind.Proctitle line raw is none = tt
+raw_readable kind.Eoe line raw is none = tt
+
+pub readable : (line : List ℕ) (key : EventKey) (k : Kind) → text_class line ≡ Used key k → IsReadable k line
+readable line key k is =
+    let found = faultless line key k is in
+    raw_readable k line found.head.raw (rw found.is refl) found.none

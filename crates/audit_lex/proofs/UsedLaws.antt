@@ -29,17 +29,17 @@ passed : (test : Bool) (f : LineFault) → (if test then None else Some f) ≡ N
 passed true f none = refl
 passed false f none = cc none
 
-spelled_without_fault : (rule : Rule) (found : Option (List ℕ)) → fault_of rule found ≡ None → IsSpelledBy rule found
+pub spelled_without_fault : (rule : Rule) (found : Option (List ℕ)) → fault_of rule found ≡ None → IsSpelledBy rule found
 spelled_without_fault rule None none = no_must rule.must (fault.Missing rule.field) none
 spelled_without_fault rule (Some value) none = passed (spells rule.value value) (value_fault rule.value rule.field) none
 
-no_fault_spelled : (rule : Rule) (found : Option (List ℕ)) → IsSpelledBy rule found → fault_of rule found ≡ None
+pub no_fault_spelled : (rule : Rule) (found : Option (List ℕ)) → IsSpelledBy rule found → fault_of rule found ≡ None
 no_fault_spelled rule None is = rw is refl
 no_fault_spelled rule (Some value) is = rw is refl
 
 -- ---- all fields
 
-all_spelled : (tokens : List NameValue) (raw : List ℕ) (rules : List Rule) → tokens_of raw ≡ tokens → first_fault raw rules ≡ None → AllByRecursion (IsSpelledField tokens) rules
+pub all_spelled : (tokens : List NameValue) (raw : List ℕ) (rules : List Rule) → tokens_of raw ≡ tokens → first_fault raw rules ≡ None → AllByRecursion (IsSpelledField tokens) rules
 all_spelled tokens raw [] is none = tt
 all_spelled tokens raw (rule ∷ rules) is none =
     let parts = or_none (fault_in raw rule) (first_fault raw rules) none in

@@ -33,6 +33,7 @@ none_in_front byte (b ∷ front) back none = (none.0, none_in_front byte front b
 
 -- ---- a value
 
+-- a text as a value and what stands behind it
 pub record ValueWritten (tail : List ℕ) : Type 0 where
   pub value : List ℕ
   pub rest : List ℕ
@@ -88,6 +89,7 @@ value_written (b ∷ tail) = value_by b tail (b == 34) refl
 
 -- ---- a piece
 
+-- a text as a piece and what stands behind it
 pub record PieceWritten (text : List ℕ) : Type 0 where
   pub piece : Piece
   pub rest : List ℕ
@@ -136,6 +138,7 @@ piece_by b tail false is = word_written b tail (eqb-false b 32 is)
 
 -- ---- a raw part
 
+-- a text as pieces
 pub record PiecesWritten (text : List ℕ) : Type 0 where
   pub pieces : List Piece
   pub are : ArePieces pieces

@@ -13,3 +13,5 @@ pub mod SyscallLine
 pub mod Written
 pub mod Pieces
 pub mod UsedLine
+pub mod Classes
+pub mod Tally

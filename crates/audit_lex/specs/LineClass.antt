@@ -59,17 +59,21 @@ pub data Class : Type 0 where
   Blank : Class
   Malformed : LineFault → Class
 
+-- a space, a tab or a carriage return
 abbrev pub is_blank_byte : ℕ → Bool
 is_blank_byte byte = byte == 32 || (byte == 9 || byte == 13)
 
+-- the class of a line of a kind that is read, by its first fault
 abbrev pub fields_class : Head → Kind → Option LineFault → Class
 fields_class head kind None = Used head.key kind
 fields_class head kind (Some fault) = Malformed fault
 
+-- the class of a line with a header, by its kind
 abbrev pub kind_class : Head → Option Kind → Class
 kind_class head None = Other
 kind_class head (Some kind) = fields_class head kind (first_fault head.raw (rules_of kind))
 
+-- the class of a line that isn't blank, by its header
 abbrev pub head_class : Option Head → Class
 head_class None = Malformed fault.Header
 head_class (Some head) = kind_class head (kind_of head.name)

@@ -1,10 +1,12 @@
 -- The fields of a line, and what they spell.
-use Rattle.std.specs.Prelude.{ℕ, List, Option, None, Some, IsSome, option_map}
+use Rattle.std.specs.Prelude.{ℕ, List, Option, None, Some, IsSome, option_map, ⊤}
 use Rattle.std.specs.Option.{option_and_then}
 use Rattle.audit_lex.specs.Header.{head_of}
 use Rattle.audit_lex.specs.Tokens.{field_of}
 use Rattle.audit_lex.specs.FieldTable.{name_of}
-use Rattle.audit_lex.specs.Values.{dec32_of, signed_of, hex32_of, hex64_of, yesno_of, text_of}
+use Rattle.audit_lex.specs.Values.{dec32_of, dec64_of, signed_of, hex32_of, hex64_of, device_of, handle_of, yesno_of, text_of, bytes_of}
+use Rattle.audit_lex.specs.declared.fields.Kind.{Kind}
+use Rattle.audit_lex.specs.declared.fields.Kind.TheVariants as kind
 use Rattle.audit_lex.specs.declared.fields.Field.{Field}
 use Rattle.audit_lex.specs.declared.fields.Field.TheVariants as field
 
@@ -51,3 +53,26 @@ pub record ReadableSyscall (line : List ℕ) : Type 0 where
   pub ppid : IsSome (needed dec32_of line field.Ppid)
   pub pid : IsSome (needed dec32_of line field.Pid)
   pub exe : IsSome (offered_text line field.Exe)
+
+-- each field of a path can be read
+pub record ReadablePath (line : List ℕ) : Type 0 where
+  pub item : IsSome (needed dec32_of line field.Item)
+  pub name : IsSome (needed text_of line field.Name)
+  pub inode : IsSome (offered dec64_of line field.Inode)
+  pub device : IsSome (offered device_of line field.Dev)
+
+-- both descriptors can be read
+pub record ReadablePair (line : List ℕ) : Type 0 where
+  pub first : IsSome (needed dec32_of line field.Fd0)
+  pub second : IsSome (needed dec32_of line field.Fd1)
+
+-- each field of a line of this kind can be read
+abbrev pub IsReadable : Kind → List ℕ → Type 0
+IsReadable kind.Syscall line = ReadableSyscall line
+IsReadable kind.Path line = ReadablePath line
+IsReadable kind.Cwd line = IsSome (needed text_of line field.Cwd)
+IsReadable kind.Sockaddr line = IsSome (needed bytes_of line field.Saddr)
+IsReadable kind.FdPair line = ReadablePair line
+IsReadable kind.Mmap line = IsSome (needed handle_of line field.Fd)
+IsReadable kind.Proctitle line = ⊤
+IsReadable kind.Eoe line = ⊤

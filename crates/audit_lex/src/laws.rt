@@ -1,13 +1,15 @@
 //! What the definitions promise, for callers to use.
 //!
 //! The functions do nothing. Their contracts are laws about histories, headers, tokens and used lines.
-ghost use Rattle.std.specs.Prelude.{◌≡◌, ◌↔◌, ◌≤◌, ◌++◌, [], ◌∷◌, List, ℕ, Some, length};
-ghost use Rattle.std.specs.List.{position_or_len};
+ghost use Rattle.std.specs.Prelude.{◌≡◌, ◌↔◌, ◌≤◌, ◌+◌, ◌++◌, [], ◌∷◌, List, ℕ, Some, length};
+ghost use Rattle.std.specs.List.{fold, position_or_len};
 ghost use Rattle.memchr.specs.Find.{is_byte};
+ghost use Rattle.audit_lex.specs.Classes.{IsOfClass};
 ghost use Rattle.audit_lex.specs.Header.{Head, head_of};
 ghost use Rattle.audit_lex.specs.History.{History, Settle, settled, cuts_of, lines_of, tail_of, with_bytes};
-ghost use Rattle.audit_lex.specs.LineClass.{Used, text_class, class_of};
-ghost use Rattle.audit_lex.specs.LineFields.{ReadableSyscall};
+ghost use Rattle.audit_lex.specs.LineClass.{Class, Used, text_class, class_of};
+ghost use Rattle.audit_lex.specs.LineFields.{ReadableSyscall, IsReadable};
+ghost use Rattle.audit_lex.specs.Tally.{Classed, nothing_counted, one_counted, tally_of};
 ghost use Rattle.audit_lex.specs.Tokens.{tokens_of};
 ghost use Rattle.audit_lex.specs.Pieces.{Piece, ArePieces, pieces_text, named_pieces};
 ghost use Rattle.audit_lex.specs.UsedLine.{IsUsedLine};
@@ -63,8 +65,25 @@ pub fn used_lines_are_written()
     ensures { (line : List ℕ) (key : EventKey) (kind : Kind) → (text_class line ≡ Used key kind) ↔ IsUsedLine line key kind }
 {}
 
+/// A line has a class exactly where it can be written as one of that class, so it has one class and one fault at most.
+pub fn lines_have_one_class()
+    ensures { (limit : ℕ) (line : List ℕ) (class : Class) → (class_of limit line ≡ class) ↔ IsOfClass limit line class }
+{}
+
+/// The fields of a used line can be read, but for those that it may leave out.
+pub fn used_lines_are_readable()
+    ensures { (line : List ℕ) (key : EventKey) (kind : Kind) → text_class line ≡ Used key kind → IsReadable kind line }
+{}
+
 /// The fields of a used line of a system call can be read, but for those that it may leave out.
 pub fn used_syscalls_are_readable()
     ensures text { (line : List ℕ) (key : EventKey) → text_class line ≡ Used key kind.Syscall → ReadableSyscall line }
     ensures line { (limit : ℕ) (line : List ℕ) (key : EventKey) → class_of limit line ≡ Used key kind.Syscall → ReadableSyscall line }
+{}
+
+/// Lines that are counted one after the other are all counted, each in its class, and the first malformed ones are listed.
+pub fn lines_are_counted()
+    ensures counted { (shown : ℕ) (lines : List Classed) → fold (one_counted shown) nothing_counted lines ≡ tally_of shown lines }
+    ensures each { (shown : ℕ) (lines : List Classed)
+        → (tally_of shown lines).used + (tally_of shown lines).other + (tally_of shown lines).blank + (tally_of shown lines).malformed ≡ length lines }
 {}

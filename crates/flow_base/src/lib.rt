@@ -16,7 +16,7 @@ pub use faults::NoMemory;
 pub use limits::{Full, Limit, Limits};
 pub use list::List;
 pub use types::{
-    Device, EntityId, FileId, Flow, How, Key, Stamp, equal_files_are_one, equal_keys_are_one,
+    Bad, Device, EntityId, FileId, Flow, How, Key, Stamp, equal_files_are_one, equal_keys_are_one,
 };
 
 #[cfg(test)]

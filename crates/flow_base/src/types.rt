@@ -74,6 +74,13 @@ pub struct Flow {
     pub serial: u32,
 }
 
+/// A malformed line, by its number from 1 on, and its fault, by the number that reports give it.
+#[derive(Clone, Copy, Debug, PartialEq, Eq)]
+pub struct Bad {
+    pub line: u64,
+    pub fault: u8,
+}
+
 /// Keys that compare equal are one key, so a map by keys tells objects apart exactly.
 pub fn equal_keys_are_one()
     ensures exact { (a b : Key) → ⟦<Key as PartialEq>⟧.eq a b ≡ true → a ≡ b }

@@ -1,0 +1,76 @@
+//! Sources and sinks in memory, and a sink that takes less than it is given.
+ghost use Rattle.std.specs.Prelude.{◌≡◌, ◌-◌, ◌^◌, Some};
+
+use super::*;
+use flow_base::{Bytes, List};
+use std::test::Fail;
+
+// A sink that takes at most three bytes a call.
+#[derive(Drop)]
+struct Narrow {
+    sink: MemSink,
+}
+
+impl Sink for Narrow {
+    ghost written = { λ s. Some s.sink.written };
+
+    ghost faults = { λ s. s.sink.faults };
+
+    ghost spent = { λ s. s.sink.faults ≡ 2 ^ 64 - 1 };
+
+    fn write(&mut self, piece: &[u8]) -> Result<usize, Failed> {
+        let count = piece.len().min(3);
+        self.sink.write(&piece[..count])
+    }
+}
+
+// What is written of seven bytes, and how it ended, where the calls of these numbers fail.
+fn written_with(
+    rt: &HostRuntime,
+    fails: List<u64>,
+) -> Result<(Result<(), WriteFault>, Bytes), Fail> {
+    let mut sink = Narrow {
+        sink: MemSink::new(Bytes::new(rt.alloc()), fails),
+    };
+    let result = put_all(&mut sink, b"forensic".as_slice());
+    Ok((result, Bytes::from_slice(rt.alloc(), sink.sink.written())?))
+}
+
+#[test]
+fn a_short_write_goes_on_with_the_rest(rt: HostRuntime) -> Result<(), Fail> {
+    let (result, written) = written_with(&rt, List::new(rt.alloc()))?;
+    assert_eq!(rt; result, Ok(()));
+    assert_eq!(rt; written.as_slice(), b"forensic".as_slice());
+    Ok(())
+}
+
+#[test]
+fn a_fault_says_how_much_was_written(rt: HostRuntime) -> Result<(), Fail> {
+    for (call, done) in [(0u64, 0usize), (1, 3), (2, 6)] {
+        let mut fails = List::new(rt.alloc());
+        fails.push(call)?;
+        let (result, written) = written_with(&rt, fails)?;
+        assert_eq!(rt; result, Err(WriteFault { done }), "call {call}");
+        assert_eq!(rt; written.as_slice().len(), done, "call {call}");
+    }
+    Ok(())
+}
+
+#[test]
+fn a_source_gives_its_bytes_in_pieces_and_then_none(rt: HostRuntime) -> Result<(), Fail> {
+    let alloc = rt.alloc();
+    let mut fails = List::new(alloc);
+    fails.push(1)?;
+    let mut source = MemSource::new(Bytes::from_slice(alloc, b"audit".as_slice())?, fails);
+    let mut buf = [0u8; 4];
+    assert_eq!(rt; source.read(&mut buf), Ok(4));
+    assert_eq!(rt; buf.as_slice(), b"audi".as_slice());
+    assert_eq!(rt; source.read(&mut buf), Err(Failed));
+    assert_eq!(rt; source.read(&mut buf), Ok(1));
+    assert_eq!(rt; buf[0], b't');
+    assert_eq!(rt; source.read(&mut buf), Ok(0));
+    let mut clean = CleanSource::new(Bytes::from_slice(alloc, b"log".as_slice())?);
+    assert_eq!(rt; clean.read(&mut buf), Ok(3));
+    assert_eq!(rt; clean.read(&mut buf), Ok(0));
+    Ok(())
+}

@@ -1,0 +1,11 @@
+pub mod Flows
+pub mod Numbers
+pub mod Paths
+pub mod Ids
+pub mod Marks
+pub mod Sources
+pub mod Rows
+pub mod ByRows
+pub mod Versions
+pub mod SourceSets
+pub mod Laws
