@@ -6,7 +6,7 @@ use Rattle.audit_lex.specs.Pieces.{named_pieces}
 use Rattle.audit_lex.specs.Tokens.{NameValue, tokens_of}
 use Rattle.audit_lex.specs.Values.{text_of, bytes_of, handle_of}
 use Rattle.audit_lex.specs.LineClass.{Used, text_class}
-use Rattle.audit_lex.specs.LineFields.{ReadableSyscall}
+use Rattle.audit_lex.specs.LineFields.{IsReadable, ReadableSyscall, ReadablePath}
 use Rattle.audit_lex.specs.UsedLine.{IsUsedLine}
 use Rattle.audit_lex.specs.declared.fields.Field.{Field}
 use Rattle.audit_lex.specs.declared.fields.Field.TheVariants as field
@@ -14,16 +14,16 @@ use Rattle.audit_lex.specs.declared.fields.Kind.{Kind}
 use Rattle.audit_lex.specs.declared.fields.Kind.TheVariants as kind
 use Rattle.audit_lex.specs.declared.header.EventKey.{EventKey}
 use Rattle.audit_lex.proofs.HeaderLaws.{read_where_written}
-use Rattle.audit_lex.proofs.ReadableLemmas.{readable_syscall}
+use Rattle.audit_lex.proofs.ReadableLemmas.{readable}
 use Rattle.audit_lex.proofs.UsedLaws.{used_is_written, written_is_used}
-use Rattle.audit_record.specs.Records.{first_value, value_in_line, Says, ReadablePath, SpellsSyscall, SpellsPath, SpellsPair, SpellsBody, Spells, IsUsed, file_from, name_kind_from}
+use Rattle.audit_record.specs.Records.{first_value, value_in_line, Says, SpellsSyscall, SpellsPath, SpellsPair, SpellsBody, Spells, IsUsed, file_from, name_kind_from}
 use Rattle.audit_record.specs.declared.types.NameKind.{NameKind}
 use Rattle.audit_record.specs.declared.types.Syscall.{Syscall}
 use Rattle.audit_record.specs.declared.types.PathItem.{PathItem}
 use Rattle.audit_record.specs.declared.types.Body.{Body}
 use Rattle.audit_record.specs.declared.types.Body.TheVariants as body
 use Rattle.audit_record.specs.declared.types.Record.{Record}
-use Rattle.audit_record.proofs.ReadableLemmas.{tokens_are, same_values, readable_path, readable_cwd, readable_sockaddr, readable_first, readable_second, readable_fd}
+use Rattle.audit_record.proofs.ValueLemmas.{tokens_are, same_values}
 
 inner : {A : Type 0} {a b : A} (o : Option A) → o ≡ Some a → o ≡ Some b → a ≡ b
 inner o p q = cc (p, q)
@@ -164,29 +164,29 @@ syscall_there line can =
       record { arch = arch.1; number = number.1; success = success.1; exit = exit.1; a0 = a0.1; a1 = a1.1; a2 = a2.1; a3 = a3.1; ppid = ppid.1; pid = pid.1; exe = exe.1 },
     )
 
-path_there : (value : Field → Option (List ℕ)) → ReadablePath value → (path : PathItem) × SpellsPath value path
-path_there value can =
+path_there : (line : List ℕ) → ReadablePath line → (path : PathItem) × SpellsPath (value_in_line line) path
+path_there line can =
     let item = value_there _ can.item in
     let name = value_there _ can.name in
     let inode = value_there _ can.inode in
     let device = value_there _ can.device in
-    let kind = name_kind_from (value field.Nametype) (value field.Objtype) in (
+    let kind = name_kind_from (value_in_line line field.Nametype) (value_in_line line field.Objtype) in (
       record { item = item.0; name = name.0; file = file_from inode.0 device.0; kind = kind },
       record { item = item.1; name = name.1; inode = inode.0; inode_is = inode.1; device = device.0; device_is = device.1; file = refl; kind = refl },
     )
 
-body_there : (line : List ℕ) (key : EventKey) (k : Kind) → text_class line ≡ Used key k → (said : Body) × SpellsBody k (value_in_line line) said
-body_there line key kind.Syscall is = let call = syscall_there line (readable_syscall line key is) in (body.Syscall call.0, call.1)
-body_there line key kind.Path is = let path = path_there (value_in_line line) (readable_path line key is) in (body.Path path.0, path.1)
-body_there line key kind.Cwd is = let text = value_there _ (readable_cwd line key is) in (body.Cwd text.0, text.1)
-body_there line key kind.Sockaddr is = let bytes = value_there _ (readable_sockaddr line key is) in (body.Sockaddr bytes.0, bytes.1)
-body_there line key kind.FdPair is =
-    let first = value_there _ (readable_first line key is) in
-    let second = value_there _ (readable_second line key is) in
+body_there : (line : List ℕ) (k : Kind) → IsReadable k line → (said : Body) × SpellsBody k (value_in_line line) said
+body_there line kind.Syscall can = let call = syscall_there line can in (body.Syscall call.0, call.1)
+body_there line kind.Path can = let path = path_there line can in (body.Path path.0, path.1)
+body_there line kind.Cwd can = let text = value_there _ can in (body.Cwd text.0, text.1)
+body_there line kind.Sockaddr can = let bytes = value_there _ can in (body.Sockaddr bytes.0, bytes.1)
+body_there line kind.FdPair can =
+    let first = value_there _ can.first in
+    let second = value_there _ can.second in
     (body.FdPair first.0 second.0, record { first_is = first.1; second_is = second.1 })
-body_there line key kind.Mmap is = let fd = value_there _ (readable_fd line key is) in (body.Mmap fd.0, fd.1)
-body_there line key kind.Proctitle is = (body.Proctitle, tt)
-body_there line key kind.Eoe is = (body.Eoe, tt)
+body_there line kind.Mmap can = let fd = value_there _ can in (body.Mmap fd.0, fd.1)
+body_there line kind.Proctitle can = (body.Proctitle, tt)
+body_there line kind.Eoe can = (body.Eoe, tt)
 
 -- a used line spells the record of its key, its text and what its fields spell
 pub spells_where_used : (line : List ℕ) (key : EventKey) (k : Kind) (copy : List ℕ) (said : Body) → text_class line ≡ Used key k
@@ -202,7 +202,7 @@ spells_where_used line key k copy said is same spelled =
 
 pub used_spells : (line : List ℕ) (key : EventKey) → IsUsed line key → (made : Record) × Spells line made
 used_spells line key (k, is) =
-    let said = body_there line key k is in
+    let said = body_there line k (readable line key k is) in
     (record { key = key; line = line; body = said.0 }, spells_where_used line key k line said.0 is refl said.1)
 
 pub spelled_is_used : (line : List ℕ) (said : Record) → Spells line said → IsUsed line said.key

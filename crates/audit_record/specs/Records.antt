@@ -1,5 +1,5 @@
 -- The record that a line spells, as a relation between the whole line and the record.
-use Rattle.std.specs.Prelude.{◌≡◌, ℕ, List, Option, None, Some, IsSome, codes, if◌then◌else◌, ⊤}
+use Rattle.std.specs.Prelude.{◌≡◌, ℕ, List, Option, None, Some, codes, if◌then◌else◌, ⊤}
 use Rattle.std.specs.Option.{option_and_then}
 use Rattle.std.specs.Str.{bytes_eq}
 use Rattle.flow_base.specs.declared.types.Device.{Device}
@@ -113,10 +113,3 @@ IsUsed line key = (kind : Kind) × (text_class line ≡ Used key kind)
 -- the value of a field in a line
 abbrev pub value_in_line : List ℕ → Field → Option (List ℕ)
 value_in_line line field = field_in_line line (name_of field)
-
--- each field of a path can be read
-pub record ReadablePath (value : Field → Option (List ℕ)) : Type 0 where
-  pub item : IsSome (option_and_then dec32_of (value field.Item))
-  pub name : IsSome (option_and_then text_of (value field.Name))
-  pub inode : IsSome (reads_if_there dec64_of (value field.Inode))
-  pub device : IsSome (reads_if_there device_of (value field.Dev))

@@ -1,8 +1,8 @@
 //! Records from used lines, one kind after the other.
 ghost use Rattle.std.specs.Prelude.{◌≡◌, IfOk};
-ghost use Rattle.audit_lex.specs.LineFields.{ReadableSyscall};
+ghost use Rattle.audit_lex.specs.LineFields.{ReadableSyscall, ReadablePath};
 ghost use Rattle.audit_lex.specs.declared.fields.Field.TheVariants.{Nametype, Objtype};
-ghost use Rattle.audit_record.specs.Records.{value_in_line, ReadablePath, SpellsSyscall, SpellsPath, SpellsBody, Spells, name_kind, name_kind_from, file_from};
+ghost use Rattle.audit_record.specs.Records.{value_in_line, SpellsSyscall, SpellsPath, SpellsBody, Spells, name_kind, name_kind_from, file_from};
 
 use crate::fields::{
     needed_dec32, needed_handle, needed_hex32, needed_hex64, offered_dec64, offered_device,
@@ -80,7 +80,7 @@ fn read_syscall(alloc: Global, used: &UsedLine<'_>) -> Result<Syscall, NoMemory>
 }
 
 fn read_path(alloc: Global, used: &UsedLine<'_>) -> Result<PathItem, NoMemory>
-    requires { ReadablePath (value_in_line used.now.line.now) }
+    requires { ReadablePath used.now.line.now }
     ensures { IfOk result (λ path. SpellsPath (value_in_line used.now.line.now) path) }
 {
     let name = needed_text(alloc, used, Field::Name)?;
