@@ -22,6 +22,7 @@ abbrev pub seen_time : Option ℕ → ℕ → Option ℕ
 seen_time None ms = Some ms
 seen_time (Some seen) ms = Some (max seen ms)
 
+-- the clock, once a record of this time has come
 abbrev pub saw : JoinClock → ℕ → JoinClock
 saw clock ms = record clock { seen = seen_time clock.seen ms }
 
@@ -34,6 +35,7 @@ greater_key (Some released) key = if is_below key released then released else ke
 abbrev pub event_time : JoinClock → EventKey → ℕ
 event_time clock key = max clock.effective key.ms
 
+-- the clock, once the event of this key is released
 abbrev pub let_go : JoinClock → EventKey → JoinClock
 let_go clock key = record clock { released = Some (greater_key clock.released key); effective = event_time clock key }
 
@@ -42,6 +44,7 @@ abbrev pub is_above : Option EventKey → EventKey → Bool
 is_above None key = false
 is_above (Some released) key = is_below key released
 
+-- an event of this key is late, where it is released now
 abbrev pub is_late : JoinClock → EventKey → Bool
 is_late clock key = is_above clock.released key
 
@@ -52,8 +55,8 @@ is_past (Some seen) ms = nat_lt PATIENCE (seen - ms)
 
 -- ---- what waits
 
--- records that wait in the order of arrival, the keys among them whose end has come, the clock,
--- and how many records were in excess
+-- records that wait in the order of arrival, the keys among them whose end has come, the clock, and how many records
+-- were in excess
 pub record Joining : Type 0 where
   pub waiting : List Record
   pub closed : List EventKey
@@ -112,6 +115,7 @@ enter limits s r =
     let now = record s { clock = saw s.clock r.key.ms } in
     if ends_event r then close now r.key else put limits now r
 
+-- what is answered: an end closes, another record is in excess or held
 abbrev pub taken_as : Limits → Joining → Record → Taken
 taken_as limits s r =
     if ends_event r then Closed
@@ -130,11 +134,12 @@ is_ripe_at limits s key =
     is_among key s.closed || is_past s.clock.seen key.ms
     || nat_lt limits.groups (count_keys s.waiting) || nat_lt limits.text (text_of s.waiting)
 
--- the key of the least group, where that is ripe
+-- a key, where the group of it is ripe
 abbrev pub only_ripe : Limits → Joining → Option EventKey → Option EventKey
 only_ripe limits s None = None
 only_ripe limits s (Some key) = if is_ripe_at limits s key then Some key else None
 
+-- the key of the least group, where that is ripe
 abbrev pub ripe_key : Limits → Joining → Option EventKey
 ripe_key limits s = only_ripe limits s (least_key s.waiting)
 
@@ -150,17 +155,20 @@ without s key = record s {
   clock = let_go s.clock key;
 }
 
+-- the event of a key, where there is one to release
 abbrev pub event_at : Joining → Option EventKey → Option Event
 event_at s None = None
 event_at s (Some key) = Some (event_of s key)
 
+-- what is left once the group of a key is released, where there is one to release
 abbrev pub left_at : Joining → Option EventKey → Joining
 left_at s None = s
 left_at s (Some key) = without s key
 
--- the next event, and what is left then; where nothing is ripe, no event and the same
+-- the event that is released next; none where the least group isn't ripe
 abbrev pub next_event : Limits → Joining → Option Event
 next_event limits s = event_at s (ripe_key limits s)
 
+-- what is left then; where the least group isn't ripe, the same
 abbrev pub next_left : Limits → Joining → Joining
 next_left limits s = left_at s (ripe_key limits s)

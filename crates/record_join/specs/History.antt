@@ -19,11 +19,12 @@ pub data Step : Type 0 where
 abbrev pub start : Joining
 start = record { waiting = []; closed = []; clock = record { seen = None; released = None; effective = 0 }; excess = 0 }
 
--- the releases while the least group is ripe, at most so many; what is left then
+-- the releases while the least group is ripe, at most so many
 abbrev pub released : ℕ → Limits → Joining → List Event
 released zero limits s = []
 released (suc n) limits s = option_to_list (next_event limits s) ++ released n limits (next_left limits s)
 
+-- what is left after at most so many releases
 abbrev pub left : ℕ → Limits → Joining → Joining
 left zero limits s = s
 left (suc n) limits s = left n limits (next_left limits s)
@@ -33,18 +34,20 @@ abbrev pub told : Limits → Joining → Step → Joining
 told limits s (Came r) = enter limits s r
 told limits s Settle = settled s
 
--- each release takes a record, so there are at most as many as records wait
+-- all releases while the least group is ripe: each takes a record, so there are at most as many as records wait
 abbrev pub released_after : Limits → Joining → List Event
 released_after limits s = released (length s.waiting) limits s
 
+-- what is left after all of them
 abbrev pub left_after : Limits → Joining → Joining
 left_after limits s = left (length s.waiting) limits s
 
--- the events of a list of steps, and what waits then
+-- the events of a list of steps: after each step, all that is ripe is released
 abbrev pub events : Limits → Joining → List Step → List Event
 events limits s [] = []
 events limits s (step ∷ steps) = released_after limits (told limits s step) ++ events limits (left_after limits (told limits s step)) steps
 
+-- what is left after a list of steps
 abbrev pub state : Limits → Joining → List Step → Joining
 state limits s [] = s
 state limits s (step ∷ steps) = state limits (left_after limits (told limits s step)) steps
@@ -55,6 +58,7 @@ kept [] = []
 kept (Came r ∷ steps) = if ends_event r then kept steps else r ∷ kept steps
 kept (Settle ∷ steps) = kept steps
 
+-- the keys of events in their order
 abbrev pub keys_of_events : List Event → List EventKey
 keys_of_events events = map (λ e. e.key) events
 

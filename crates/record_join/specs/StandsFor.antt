@@ -59,12 +59,13 @@ abbrev pub grown : Option Group → Record → Group
 grown None r = record { closed = false; records = r ∷ [] }
 grown (Some group) r = record group { records = group.records ++ r ∷ [] }
 
--- the least group, where it is ripe
+-- a group that is the first is ripe: closed, past, or too much waits
 abbrev pub is_ripe_group : Joiner → EventKey → Group → Bool
 is_ripe_group join key group =
     group.closed || is_past join.clock.seen key.ms
     || nat_lt join.limits.groups (length join.groups) || nat_lt join.limits.text join.text
 
+-- the first group, where it is ripe
 abbrev pub ripe_first : Joiner → List (EventKey × Group) → Option (EventKey × Group)
 ripe_first join [] = None
 ripe_first join (e ∷ rest) = if is_ripe_group join e.0 e.1 then Some e else None
