@@ -1,0 +1,18 @@
+//! The records that used lines spell.
+//!
+//! A line is a header and a raw part of tokens; a record is the header's key, the line itself, and what the fields
+//! of its kind say: the first token of a name counts. `Spells` in specs/ is this relation between a line and a
+//! record, over the whole line; `read_record` gives the record that a used line spells.
+#![tactic(auto)]
+
+mod fields;
+mod laws;
+mod read;
+#[cfg(test)]
+mod tests;
+mod texts;
+mod types;
+
+pub use laws::one_record_a_line;
+pub use read::read_record;
+pub use types::{Body, NameKind, PathItem, Record, Syscall};

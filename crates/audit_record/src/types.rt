@@ -1,0 +1,63 @@
+//! Records, each with the line that spells it.
+//!
+//! A record keeps what later steps ask for and nothing else of its line: the fields of the table of its kind.
+ghost use Rattle.std.specs.Prelude.{◌≡◌};
+
+use audit_lex::EventKey;
+use flow_base::{Bytes, FileId};
+
+/// A system call. `success` and `exit` aren't there where the call didn't return.
+#[derive(PartialEq, Eq, Drop)]
+pub struct Syscall {
+    pub arch: u32,
+    pub number: u32,
+    pub success: Option<bool>,
+    pub exit: Option<i64>,
+    pub a0: u64,
+    pub a1: u64,
+    pub a2: u64,
+    pub a3: u64,
+    pub ppid: u32,
+    pub pid: u32,
+    pub exe: Option<Bytes>,
+}
+
+/// What a path was to its call.
+#[derive(Clone, Copy, Debug, PartialEq, Eq)]
+pub enum NameKind {
+    Normal,
+    Parent,
+    Delete,
+    Create,
+    Unknown,
+}
+
+/// A path of a call. The file is there where the line has its inode and its device.
+#[derive(PartialEq, Eq, Drop)]
+pub struct PathItem {
+    pub item: u32,
+    pub name: Option<Bytes>,
+    pub file: Option<FileId>,
+    pub kind: NameKind,
+}
+
+/// What a record says.
+#[derive(PartialEq, Eq, Drop)]
+pub enum Body {
+    Syscall(Syscall),
+    Path(PathItem),
+    Cwd(Option<Bytes>),
+    Sockaddr(Bytes),
+    FdPair { first: u32, second: u32 },
+    Mmap { fd: u32 },
+    Proctitle,
+    Eoe,
+}
+
+/// A record with its line. Records of one key belong to one event.
+#[derive(PartialEq, Eq, Drop)]
+pub struct Record {
+    pub key: EventKey,
+    pub line: Bytes,
+    pub body: Body,
+}

@@ -1,0 +1,178 @@
+//! The joiner: groups that wait in the order of their keys, and what is released of them.
+ghost use Rattle.std.specs.Prelude.{◌≡◌, [], OnOk, OnErr, IfOk, Some, None, option_map, OnSome, IfNone, is_some, length, suc};
+ghost use Rattle.record_join.specs.Events.{Joining, enter, taken_as, settled, ripe_key, next_event, next_left, count_keys};
+ghost use Rattle.record_join.specs.History.{start};
+ghost use Rattle.record_join.specs.PutBack.{fresh};
+ghost use Rattle.record_join.specs.StandsFor.{StandsFor, WhereStands, event_seen, ripe_first};
+
+use crate::clock::JoinClock;
+use crate::event::{Event, EventView, Taken};
+use crate::group::{Group, Groups, close, close_all, hold, is_excess, text_without};
+use crate::kinds::ends_event;
+use crate::parts::Parts;
+use audit_lex::EventKey;
+use audit_record::Record;
+use flow_base::{Limits, NoMemory};
+use std::alloc::Global;
+use std::collections::BTreeMap;
+use std::marker::Model;
+
+/// Joins records into events. Only `take` takes memory.
+#[derive(Drop)]
+pub struct Join {
+    alloc: Global,
+    groups: Groups,
+    /// The bytes of all waiting lines.
+    text: usize,
+    clock: JoinClock,
+    limits: Limits,
+}
+
+impl Model for Join {
+    ghost use Rattle.record_join.specs.StandsFor.{Joiner};
+
+    ghost Value = { Joiner };
+
+    ghost view = { λ j. record { groups = j.groups.entries; text = j.text; clock = j.clock; limits = j.limits } };
+}
+
+impl Join {
+    /// A joiner that has seen nothing.
+    pub fn new(alloc: Global, limits: &Limits) -> Join
+        ensures { StandsFor limits.now result start }
+    {
+        let clock = JoinClock {
+            seen: None,
+            released: None,
+            effective: 0,
+        };
+        Join::resume(alloc, limits, clock)
+    }
+
+    /// A joiner without groups that has come as far as another. Its groups are put back by `take` of their records, and
+    /// of an EOE behind those that were closed.
+    pub fn resume(alloc: Global, limits: &Limits, clock: JoinClock) -> Join
+        ensures { StandsFor limits.now result (fresh clock) }
+    {
+        Join {
+            alloc,
+            groups: BTreeMap::new(alloc),
+            text: 0,
+            clock,
+            limits: *limits,
+        }
+    }
+
+    /// How far joining has come.
+    pub fn clock(&self) -> JoinClock
+        ensures { result ≡ self.now.clock }
+    {
+        self.clock
+    }
+
+    /// How many groups wait.
+    pub fn waiting(&self) -> usize
+        ensures { WhereStands self.now (λ limits s. result ≡ count_keys s.waiting) }
+    {
+        self.groups.len()
+    }
+
+    /// The waiting groups, the least key first.
+    pub fn parts(&self) -> Parts<'_>
+        ensures { result ≡ self.now.groups }
+    {
+        Parts::over(self.groups.iter())
+    }
+
+    /// Takes one more record. Where no memory is found nothing has changed, and the record is lost: its caller keeps the
+    /// line. Ends and records in excess need no memory.
+    pub fn take(&mut self, item: Record) -> Result<Taken, NoMemory>
+        ensures ok { IfOk result (λ taken. WhereStands self.old (λ limits s. taken ≡ taken_as limits s item)) }
+        ensures stands { OnOk result (WhereStands self.old (λ limits s. StandsFor limits self.new (enter limits s item))) }
+        ensures err { OnErr result (self.new ≡ self.old) }
+        ensures memory { OnErr result (WhereStands self.old (λ limits s. taken_as limits s item ≡ Taken.Held)) }
+    {
+        let key = item.key;
+        if ends_event(&item) {
+            close(&mut self.groups, &key);
+            self.clock.see(key.ms);
+            return Ok(Taken::Closed);
+        }
+        if is_excess(&self.groups, &self.limits, &item) {
+            self.clock.see(key.ms);
+            return Ok(Taken::Excess);
+        }
+        // The sum is kept exact, so that it never drifts from the lines that wait. So many bytes are in no memory.
+        let Some(text) = self.text.checked_add(item.line.as_slice().len()) else {
+            return Err(NoMemory);
+        };
+        hold(self.alloc, &mut self.groups, item)?;
+        self.text = text;
+        self.clock.see(key.ms);
+        Ok(Taken::Held)
+    }
+
+    /// Whether an event can be released.
+    pub fn ripe(&self) -> bool
+        ensures { WhereStands self.now (λ limits s. result ≡ is_some (ripe_key limits s)) }
+    {
+        self.least_ripe().is_some()
+    }
+
+    /// Lends the event that is released next.
+    pub fn peek(&self) -> Option<EventView<'_>>
+        ensures { WhereStands self.now (λ limits s. option_map event_seen result ≡ next_event limits s) }
+    {
+        match self.least_ripe() {
+            Some((key, group)) => Some(EventView {
+                key: *key,
+                ms: self.clock.time_of(*key),
+                late: self.clock.is_late(*key),
+                records: group.records.as_slice(),
+            }),
+            None => None,
+        }
+    }
+
+    /// Releases the least group, where it is ripe.
+    pub fn next(&mut self) -> Option<Event>
+        ensures event { WhereStands self.old (λ limits s. result ≡ next_event limits s) }
+        ensures stands { WhereStands self.old (λ limits s. StandsFor limits self.new (next_left limits s)) }
+        ensures some { OnSome result (length self.old.groups ≡ suc (length self.new.groups)) }
+        ensures none { IfNone result (self.new ≡ self.old) }
+    {
+        if !self.ripe() {
+            return None;
+        }
+        let (key, group) = self.groups.pop_first()?;
+        let event = Event {
+            key,
+            ms: self.clock.time_of(key),
+            late: self.clock.is_late(key),
+            records: group.records,
+        };
+        self.text = text_without(self.text, event.records.as_slice());
+        self.clock.release(key);
+        Some(event)
+    }
+
+    /// Marks every waiting group closed.
+    pub fn settle(&mut self)
+        ensures { WhereStands self.old (λ limits s. StandsFor limits self.new (settled s)) }
+    {
+        close_all(&mut self.groups);
+    }
+
+    /// The least group, where it is ripe.
+    fn least_ripe(&self) -> Option<(&EventKey, &Group)>
+        ensures { option_map (λ p. (p.0.now, p.1.now)) result ≡ ripe_first self.now self.now.groups }
+    {
+        let (key, group) = self.groups.first_key_value()?;
+        let crowded = self.groups.len() > self.limits.groups || self.text > self.limits.text;
+        if group.closed || self.clock.is_past(key.ms) || crowded {
+            Some((key, group))
+        } else {
+            None
+        }
+    }
+}
