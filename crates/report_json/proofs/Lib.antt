@@ -1,0 +1,5 @@
+pub mod AskLaws
+pub mod Cuts
+pub mod DigitLemmas
+pub mod Floats
+pub mod PlaceLemmas
