@@ -10,9 +10,8 @@ use Rattle.std.proofs.lemmas.Slice.Eq.{bytes_eq-Decides}
 use Rattle.flow_base.specs.declared.types.EntityId.{EntityId}
 use Rattle.report_json.specs.declared.ask.Ask.{Ask}
 use Rattle.report_json.specs.declared.ask.Ask.TheVariants as ask
-use Rattle.report_json.specs.declared.questions.Question.{Question}
 use Rattle.report_json.specs.declared.questions.Question.TheVariants as question
-use Rattle.report_json.specs.Asks.{Spells, IsId, IsTime, IsBounded, IsQuestion, IsAsk}
+use Rattle.report_json.specs.Asks.{Spells, IsId, IsTime, IsBounded, IsAsk}
 use Rattle.report_json.specs.Reading.{cut_at, number_of, id_from, id_of, time_from, time_in, time_of, bounded_from, bounded_in, bounded_of, word_of, back_from, words_of, ask_in, ask_of}
 use Rattle.report_json.proofs.Cuts.{HasNo, passing_has_no, cut_here, no_cut, chosen_some, cut_is}
 use Rattle.report_json.proofs.DigitLemmas.{digits_are, digits_pass}
@@ -39,7 +38,7 @@ id_read text of is = ap id_from (spelled 10 text of.0 is.0) ∙ cond-true (nat_l
 time_read : (text : List ℕ) (ms : ℕ) → IsTime text ms → time_of text ≡ Some ms
 time_read text ms is =
     let numbers = ap (time_from (number_of 15 is.seconds)) (number_read 3 is.millis is.part (omega (arith, is.three)))
-        ∙ ap (λ o. time_from o (Some (digits_value 10 is.millis))) (number_read 15 is.seconds is.whole is.short) in
+    ∙ ap (λ o. time_from o (Some (digits_value 10 is.millis))) (number_read 15 is.seconds is.whole is.short) in
     ap time_of is.written
     ∙ ap (option_and_then time_in) (cut_here 46 is.seconds is.millis (no_in_digits 46 is.seconds refl is.whole))
     ∙ cond-true (length is.millis == 3) (time_from (number_of 15 is.seconds) (number_of 3 is.millis)) None (eq-eqb _ _ is.three)
@@ -188,8 +187,8 @@ words_written line word rest asked is made =
     elim (chosen_or (bytes_eq word (codes "take")) _ _ asked made) [
       | inl take ↦ take_written (number_of 15 rest) line rest asked (is ∙ ap (λ w. w ++ 32 ∷ rest) (same_word _ _ take.0)) refl take.1
       | inr others ↦
-        let chosen = if_some (bytes_eq word (codes "back")) (option_map back_from (bounded_of rest)) asked others in
-        back_written (bounded_of rest) line rest asked (is ∙ ap (λ w. w ++ 32 ∷ rest) (same_word _ _ chosen.0)) refl chosen.1
+          let chosen = if_some (bytes_eq word (codes "back")) (option_map back_from (bounded_of rest)) asked others in
+          back_written (bounded_of rest) line rest asked (is ∙ ap (λ w. w ++ 32 ∷ rest) (same_word _ _ chosen.0)) refl chosen.1
     ]
 
 ask_written : (found : Option (List ℕ × List ℕ)) (line : List ℕ) (asked : Ask) → cut_at 32 line ≡ found → ask_in line found ≡ Some asked → IsAsk line asked

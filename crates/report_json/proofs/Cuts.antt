@@ -1,6 +1,6 @@
 -- A text that is cut at a byte: the part before has none of it, and a text without it isn't cut.
-use Rattle.std.proofs.Common.{◌≡◌, ◌≢◌, ◌<◌, ◌+◌, ◌==◌, ◌∙◌, sym, refl, ap, subst, ℕ, Bool, true, false, not, cond, List, [], ◌∷◌, ◌++◌, length, take, drop, get_or, Option, None, Some, if◌then◌else◌, nat_lt, arith, suc, length-append}
-use Rattle.std.specs.List.{AllByRecursion, list_all, position_or_len, before_first}
+use Rattle.std.proofs.Common.{◌≡◌, ◌≢◌, ◌<◌, ◌+◌, ◌==◌, ◌∙◌, refl, ap, ℕ, Bool, true, false, not, cond, List, [], ◌∷◌, ◌++◌, length, take, drop, get_or, None, Some, if◌then◌else◌, nat_lt, arith, suc, length-append}
+use Rattle.std.specs.List.{AllByRecursion, list_all, position_or_len}
 use Rattle.std.proofs.lemmas.Bool.{and_parts, ne_eqb, eq-eqb, eqb-true, lt-ltb, le-ltb, ltb-true, both_ways, cond-true, cond-false}
 use Rattle.std.proofs.Math.Seq.{take-append_seam, drop-append-add}
 use Rattle.std.proofs.lemmas.List.Sums.{split_at_first, passes_at_first}

@@ -2,4 +2,5 @@ pub mod AskLaws
 pub mod Cuts
 pub mod DigitLemmas
 pub mod Floats
+pub mod OneLine
 pub mod PlaceLemmas

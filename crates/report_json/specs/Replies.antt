@@ -1,5 +1,6 @@
 -- Replies as JSON, and their lines.
-use Rattle.std.specs.Prelude.{ℕ, List, [], ◌∷◌, ◌++◌, map, fold, codes, true}
+use Rattle.std.specs.Prelude.{◌≡◌, ◌≢◌, ℕ, List, [], ◌∷◌, ◌++◌, map, fold, codes, true}
+use Rattle.std.specs.List.{AllByRecursion}
 use Rattle.flow_base.specs.declared.types.Bad.{Bad}
 use Rattle.flow_base.specs.declared.types.EntityId.{EntityId}
 use Rattle.serde_json.specs.Data.{Data, boolean, number, unsigned, string, array, object, item, no_items, Members, member, no_members, put}
@@ -25,6 +26,7 @@ settle_data count = object (member (codes "settle") (count_data count) no_member
 abbrev pub id_data : EntityId → Data
 id_data id = number (unsigned id.0)
 
+-- the numbers of objects
 abbrev pub ids_data : List EntityId → Data
 ids_data ids = array (items_of (map id_data ids))
 
@@ -36,6 +38,7 @@ back_data of ids = object (member (codes "back") (id_data of) (member (codes "id
 abbrev pub bad_data : Bad → Data
 bad_data bad = array (item (count_data bad.line) (item (count_data bad.fault) no_items))
 
+-- malformed lines
 abbrev pub bads_data : List Bad → Data
 bads_data bads = array (items_of (map bad_data bads))
 
@@ -62,6 +65,7 @@ stat_data counts = object (
 abbrev pub with_number : Members → List ℕ × ℕ → Members
 with_number members named = put named.0 (count_data named.1) members
 
+-- the members with more counts
 abbrev pub with_numbers : Members → List (List ℕ × ℕ) → Members
 with_numbers members named = fold with_number members named
 
@@ -74,6 +78,7 @@ numbers_of counts =
     (codes "malformed", counts.malformed) ∷ (codes "other", counts.other) ∷
     (codes "unmapped", counts.unmapped) ∷ (codes "used", counts.used) ∷ (codes "waiting", counts.waiting) ∷ []
 
+-- the questions have ended
 abbrev pub end_data : Data
 end_data = object (member (codes "end") (boolean true) no_members)
 
@@ -98,3 +103,7 @@ line_of value = compact_text value ++ 10 ∷ []
 -- the line of a reply
 abbrev pub text_of : Reply → List ℕ
 text_of said = line_of (data_of said)
+
+-- the text's only line feed is its last byte
+abbrev pub IsLine : List ℕ → Type 0
+IsLine text = (front : List ℕ) × (text ≡ front ++ 10 ∷ []) × AllByRecursion (λ byte. byte ≢ 10) front

@@ -13,4 +13,4 @@ mod tests;
 pub use ask::{Ask, BadQuestion, a_line_asks_one_thing, read_question};
 pub use counts::Counts;
 pub use questions::Question;
-pub use reply::{Reply, reply_text};
+pub use reply::{Reply, replies_are_lines, reply_text};

@@ -3,7 +3,7 @@ ghost use Rattle.std.specs.Prelude.{◌≡◌, IfOk, false, codes};
 ghost use Rattle.serde_json.specs.Data.{string, object, member, no_members};
 ghost use Rattle.serde_json.specs.View.{view};
 ghost use Rattle.serde_json.specs.Written.{has_float};
-ghost use Rattle.report_json.specs.Replies.{id_data, ids_data, back_data, take_data, settle_data, end_data, error_data, data_of, line_of, text_of};
+ghost use Rattle.report_json.specs.Replies.{id_data, ids_data, back_data, take_data, settle_data, end_data, error_data, data_of, line_of, text_of, IsLine};
 
 use crate::counts::{Counts, stat_value};
 use flow_base::{Bytes, EntityId, List, NoMemory};
@@ -109,3 +109,8 @@ fn line(alloc: Global, value: &Value) -> Result<Bytes, NoMemory>
     made.append(b"\n")?;
     Ok(made)
 }
+
+/// A reply is one line: its only line feed is its last byte.
+pub fn replies_are_lines()
+    ensures { (reply : Reply) → IsLine (text_of reply) }
+{}
