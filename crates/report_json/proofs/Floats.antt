@@ -1,0 +1,26 @@
+-- No reply has a float.
+use Rattle.std.proofs.Common.{◌≡◌, List, [], ◌∷◌, map, false, refl}
+use Rattle.flow_base.specs.declared.types.Bad.{Bad}
+use Rattle.flow_base.specs.declared.types.EntityId.{EntityId}
+use Rattle.serde_json.specs.View.{items_of}
+use Rattle.serde_json.specs.Written.{has_float, items_have_float}
+use Rattle.report_json.specs.Replies.{id_data, bad_data, data_of}
+use Rattle.report_json.specs.declared.reply.Reply.{Reply}
+use Rattle.report_json.specs.declared.reply.Reply.TheVariants as reply
+
+no_float_in_ids : (ids : List EntityId) → items_have_float (items_of (map id_data ids)) ≡ false
+no_float_in_ids [] = refl
+no_float_in_ids (id ∷ ids) = no_float_in_ids ids
+
+no_float_in_bads : (bads : List Bad) → items_have_float (items_of (map bad_data bads)) ≡ false
+no_float_in_bads [] = refl
+no_float_in_bads (bad ∷ bads) = no_float_in_bads bads
+
+pub no_float : (said : Reply) → has_float (data_of said) ≡ false
+no_float (reply.Take count) = refl
+no_float (reply.Settle count) = refl
+no_float (reply.Back of ids) = rw (no_float_in_ids ids) refl
+no_float (reply.Stat counts) = rw (no_float_in_bads counts.malformed_lines) refl
+no_float reply.End = refl
+no_float reply.BadQuestion = refl
+no_float reply.Unknown = refl

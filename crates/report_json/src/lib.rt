@@ -1,0 +1,16 @@
+//! Question lines and replies: what a line of the questions asks, and the line of JSON that answers it.
+#![tactic(auto)]
+
+mod ask;
+mod counts;
+mod numbers;
+mod parts;
+mod questions;
+mod reply;
+#[cfg(test)]
+mod tests;
+
+pub use ask::{Ask, BadQuestion, a_line_asks_one_thing, read_question};
+pub use counts::Counts;
+pub use questions::Question;
+pub use reply::{Reply, replies_are_lines, reply_text};

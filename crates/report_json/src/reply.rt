@@ -1,0 +1,116 @@
+//! Replies, and their lines: compact JSON with keys in ascending order, and a line feed.
+ghost use Rattle.std.specs.Prelude.{◌≡◌, IfOk, false, codes};
+ghost use Rattle.serde_json.specs.Data.{string, object, member, no_members};
+ghost use Rattle.serde_json.specs.View.{view};
+ghost use Rattle.serde_json.specs.Written.{has_float};
+ghost use Rattle.report_json.specs.Replies.{id_data, ids_data, back_data, take_data, settle_data, end_data, error_data, data_of, line_of, text_of, IsLine};
+
+use crate::counts::{Counts, stat_value};
+use flow_base::{Bytes, EntityId, List, NoMemory};
+use serde_json::{Value, json};
+use std::alloc::{AllocError, Global};
+
+/// What answers a line of the questions.
+#[derive(Drop)]
+pub enum Reply {
+    /// So many bytes of the log were taken.
+    Take(u64),
+    /// So many events have been released so far.
+    Settle(u64),
+    /// The objects from which the contents of this one can have come, ascending.
+    Back { of: EntityId, ids: List<EntityId> },
+    Stat(Counts),
+    /// The questions have ended.
+    End,
+    /// The line asks nothing.
+    BadQuestion,
+    /// An object in the question isn't known.
+    Unknown,
+}
+
+/// The line of a reply.
+pub fn reply_text(alloc: Global, reply: &Reply) -> Result<Bytes, NoMemory>
+    ensures { IfOk result (λ text. text ≡ text_of reply.now) }
+{
+    let value = reply_value(alloc, reply)?;
+    line(alloc, &value)
+}
+
+// The value of a reply.
+fn reply_value(alloc: Global, reply: &Reply) -> Result<Value, AllocError>
+    ensures { IfOk result (λ value. view value ≡ data_of reply.now) }
+{
+    match reply {
+        Reply::Take(count) => take_value(alloc, *count),
+        Reply::Settle(count) => settle_value(alloc, *count),
+        Reply::Back { of, ids } => back_value(alloc, *of, ids.as_slice()),
+        Reply::Stat(counts) => stat_value(alloc, counts),
+        Reply::End => end_value(alloc),
+        Reply::BadQuestion => error_value(alloc, "BadQuestion"),
+        Reply::Unknown => error_value(alloc, "Unknown"),
+    }
+}
+
+fn take_value(alloc: Global, count: u64) -> Result<Value, AllocError>
+    ensures { IfOk result (λ value. view value ≡ take_data count) }
+{
+    json!(in alloc; {"take": count})
+}
+
+fn settle_value(alloc: Global, count: u64) -> Result<Value, AllocError>
+    ensures { IfOk result (λ value. view value ≡ settle_data count) }
+{
+    json!(in alloc; {"settle": count})
+}
+
+fn back_value(alloc: Global, of: EntityId, ids: &[EntityId]) -> Result<Value, AllocError>
+    ensures { IfOk result (λ value. view value ≡ back_data of ids.now) }
+{
+    let ids = ids_value(alloc, ids)?;
+    back_object(alloc, of, ids)
+}
+
+fn back_object(alloc: Global, of: EntityId, ids: Value) -> Result<Value, AllocError>
+    ensures { IfOk result (λ value. view value ≡ object (member (codes "back") (id_data of) (member (codes "ids") (view ids) no_members))) }
+{
+    json!(in alloc; {"back": of.0, "ids": ids})
+}
+
+// The numbers of objects.
+fn ids_value(alloc: Global, ids: &[EntityId]) -> Result<Value, AllocError>
+    ensures { IfOk result (λ value. view value ≡ ids_data ids.now) }
+{
+    let mut list = Vec::new(alloc);
+    for id in ids {
+        list.push(Value::from(id.0))?;
+    }
+    Ok(Value::Array(list))
+}
+
+fn end_value(alloc: Global) -> Result<Value, AllocError>
+    ensures { IfOk result (λ value. view value ≡ end_data) }
+{
+    json!(in alloc; {"end": true})
+}
+
+fn error_value(alloc: Global, name: &str) -> Result<Value, AllocError>
+    ensures { IfOk result (λ value. view value ≡ error_data name.now) }
+{
+    json!(in alloc; {"error": name})
+}
+
+// The compact text of a value, and a line feed.
+fn line(alloc: Global, value: &Value) -> Result<Bytes, NoMemory>
+    requires { has_float (view value.now) ≡ false }
+    ensures { IfOk result (λ text. text ≡ line_of (view value.now)) }
+{
+    let text = value.to_string(alloc)?;
+    let mut made = Bytes::from_slice(alloc, text.as_bytes())?;
+    made.append(b"\n")?;
+    Ok(made)
+}
+
+/// A reply is one line: its only line feed is its last byte.
+pub fn replies_are_lines()
+    ensures { (reply : Reply) → IsLine (text_of reply) }
+{}
