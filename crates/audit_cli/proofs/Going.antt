@@ -1,6 +1,6 @@
 -- Lines that stop no run tell calls that could follow each other.
 use Rattle.std.proofs.Common.{◌≡◌, ◌≢◌, ◌&&◌, ◌++◌, sym, subst, ℕ, not, nat_lt, ◌==◌, List, [], ◌∷◌, Bool, true, false, Option, None, Some, refl, if◌then◌else◌, ◌%◌, ◌^◌, ℤ, pos, negsuc}
-use Rattle.std.specs.Prelude.{option_map}
+use Rattle.std.specs.Prelude.{option_map, IsSome}
 use Rattle.std.specs.Option.{option_or}
 use Rattle.flow_base.specs.declared.limits.Limits.{Limits}
 use Rattle.audit_lex.specs.declared.header.EventKey.{EventKey}
@@ -9,7 +9,7 @@ use Rattle.audit_cli.specs.declared.call_line.Fields.{Fields}
 use Rattle.audit_cli.specs.declared.call_line.Deed.{Deed}
 use Rattle.audit_cli.specs.declared.call_line.Deed.TheVariants.{Nothing, Reads, Writes, Forks}
 use Rattle.audit_cli.specs.declared.refusal.Refusal.{Refusal}
-use Rattle.audit_cli.specs.CallLine.{read_deed, write_deed, child_deed, fork_deed, deed_of, is_ok, call_from, call_at, fields_of, X86_64, has_moved, said_if, said_by, said_in, said_of}
+use Rattle.audit_cli.specs.CallLine.{fields_from, read_deed, write_deed, child_deed, fork_deed, deed_of, is_ok, call_from, call_at, fields_of, X86_64, has_moved, said_if, said_by, said_in, said_of}
 use Rattle.audit_lex.specs.LineClass.{Class, Used, Other, Blank, Malformed, class_of}
 use Rattle.audit_lex.specs.declared.fields.Kind.{Kind}
 use Rattle.audit_lex.specs.declared.fields.Kind.TheVariants as kind
@@ -130,3 +130,16 @@ going_taken limits (line ∷ before) none =
     let parts = or_none (first_stop limits before) (stop_at limits before line) none in
     line_taken limits (calls_of limits.line before) (said_of limits.line line) (fine_said limits.line line)
     (map_none _ (said_refusal limits (calls_of limits.line before) (said_of limits.line line)) parts.1) (going_taken limits before parts.0)
+
+-- the fields are there where each of them is
+pub all_fields : (arch number : Option ℕ) (success : Option (Option Bool)) (exit : Option (Option ℤ)) (a0 ppid pid : Option ℕ)
+    → IsSome arch → IsSome number → IsSome success → IsSome exit → IsSome a0 → IsSome ppid → IsSome pid
+    → IsSome (fields_from arch number success exit a0 ppid pid)
+all_fields (Some arch) (Some number) (Some success) (Some exit) (Some a0) (Some ppid) (Some pid) a b c d e f g = refl
+all_fields None number success exit a0 ppid pid a b c d e f g = let wrong : false ≡ true = a in cc
+all_fields (Some arch) None success exit a0 ppid pid a b c d e f g = let wrong : false ≡ true = b in cc
+all_fields (Some arch) (Some number) None exit a0 ppid pid a b c d e f g = let wrong : false ≡ true = c in cc
+all_fields (Some arch) (Some number) (Some success) None a0 ppid pid a b c d e f g = let wrong : false ≡ true = d in cc
+all_fields (Some arch) (Some number) (Some success) (Some exit) None ppid pid a b c d e f g = let wrong : false ≡ true = e in cc
+all_fields (Some arch) (Some number) (Some success) (Some exit) (Some a0) None pid a b c d e f g = let wrong : false ≡ true = f in cc
+all_fields (Some arch) (Some number) (Some success) (Some exit) (Some a0) (Some ppid) None a b c d e f g = let wrong : false ≡ true = g in cc

@@ -9,6 +9,7 @@
 mod answer;
 mod call_line;
 mod halt;
+mod laws;
 mod log;
 mod real;
 mod refusal;
@@ -21,6 +22,7 @@ mod taking;
 mod tests;
 mod words;
 
+pub use laws::fields_of_calls_are_there;
 use outside::put_all;
 use real::{Reading, Writing};
 pub use reply::Reply;
