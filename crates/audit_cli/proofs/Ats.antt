@@ -41,7 +41,7 @@ at_line limits old new stage now before after text at stands same e tables allow
     record { cut = stands; limit = same ∙ at.limit; tables = rw lines tables; going = rw (lines, at.going) allowed }
 
 -- a stop stays where more lines come
-still : (limits : Limits) (later lines : List (List ℕ)) (stop : Halt) → first_stop limits lines ≡ Some stop → first_stop limits (later ++ lines) ≡ Some stop
+pub still : (limits : Limits) (later lines : List (List ℕ)) (stop : Halt) → first_stop limits lines ≡ Some stop → first_stop limits (later ++ lines) ≡ Some stop
 still limits [] lines stop is = is
 still limits (line ∷ later) lines stop is = rw (still limits later lines stop is) refl
 

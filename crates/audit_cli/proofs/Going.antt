@@ -106,7 +106,7 @@ fine_in (Malformed fault) line = tt
 fine_said : (limit : ℕ) (line : List ℕ) → IsFineSaid (said_of limit line)
 fine_said limit line = fine_in (class_of limit line) line
 
-or_none : {A : Type 0} (first second : Option A) → option_or first second ≡ None → (first ≡ None) × (second ≡ None)
+pub or_none : {A : Type 0} (first second : Option A) → option_or first second ≡ None → (first ≡ None) × (second ≡ None)
 or_none None second e = (refl, e)
 or_none (Some x) second e = let wrong : Some x ≡ None = e in cc
 

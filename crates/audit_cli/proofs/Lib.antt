@@ -6,4 +6,5 @@ pub mod Going
 pub mod KeyNumbers
 pub mod LawfulFlows
 pub mod Numbers
+pub mod Stopping
 pub mod Within

@@ -7,6 +7,7 @@ pub mod Replies
 pub mod Stage
 pub mod Standard
 pub mod Statuses
+pub mod Stops
 pub mod Tables
 pub mod Taken
 pub mod Taking

@@ -12,6 +12,7 @@ use Rattle.audit_cli.specs.declared.call_line.Said.TheVariants as said
 use Rattle.audit_cli.specs.CallLine.{said_of}
 use Rattle.audit_cli.specs.Refusals.{refusal_of}
 
+-- the call that a line tells, where it tells one
 abbrev pub calls_told : Said → List Call
 calls_told said.PassedOver = []
 calls_told (said.Tells call) = call ∷ []

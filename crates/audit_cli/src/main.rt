@@ -22,7 +22,7 @@ mod taking;
 mod tests;
 mod words;
 
-pub use laws::fields_of_calls_are_there;
+pub use laws::{fields_of_calls_are_there, runs_stop_at_the_first_line};
 use outside::put_all;
 use real::{Reading, Writing};
 pub use reply::Reply;
