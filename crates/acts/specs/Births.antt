@@ -16,11 +16,15 @@ abbrev pub has_number : Option FileId → FileId → Bool
 has_number None id = false
 has_number (Some file) id = same_file file id
 
+-- the act is a birth of this file number
+abbrev pub is_birth_of : Act → FileId → Bool
+is_birth_of (Birth file) id = has_number file.file id
+is_birth_of other id = false
+
 -- how many acts are a birth of this file number
 abbrev pub born : List Act → FileId → ℕ
 born [] id = 0
-born (Birth file ∷ before) id = if has_number file.file id then born before id + 1 else born before id
-born (other ∷ before) id = born before id
+born (act ∷ before) id = if is_birth_of act id then born before id + 1 else born before id
 
 -- the path, or no bytes
 abbrev pub path_or_none : Option (List ℕ) → List ℕ
