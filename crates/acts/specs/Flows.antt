@@ -1,5 +1,5 @@
 -- The flows that acts make. Acts stand with the newest first, objects and flows with the oldest first.
-use Rattle.std.specs.Prelude.{◌&&◌, ◌||◌, ◌++◌, ℕ, Bool, true, false, not, List, [], ◌∷◌, length, map, if◌then◌else◌, Option, None, Some}
+use Rattle.std.specs.Prelude.{⊤, ◌≤◌, ◌&&◌, ◌||◌, ◌++◌, ℕ, Bool, true, false, not, List, [], ◌∷◌, length, map, if◌then◌else◌, Option, None, Some}
 use Rattle.std.specs.List.{position_or_len}
 use Rattle.flow_base.specs.declared.types.Key.{Key}
 use Rattle.flow_base.specs.declared.types.Flow.{Flow}
@@ -74,3 +74,13 @@ abbrev pub flows : List Taken → List Flow
 flows [] = []
 flows (taken ∷ before) =
     flows before ++ flow_if (objects (taken.act ∷ acts_of before)) taken (length (flows before)) (link_of (acts_of before) taken.act)
+
+-- the time of the newest act
+abbrev pub latest : List Taken → ℕ
+latest [] = 0
+latest (taken ∷ before) = taken.ms
+
+-- the time of no act is below that of the act before it
+abbrev pub TimesNeverFall : List Taken → Type 0
+TimesNeverFall [] = ⊤
+TimesNeverFall (taken ∷ before) = (latest before ≤ taken.ms) × TimesNeverFall before
