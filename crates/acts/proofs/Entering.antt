@@ -87,11 +87,13 @@ pub record IsNext (seen now : List Key) (n : ℕ) : Type 0 where
 
 entered_by : AreOne → (b : Bool) (seen : List Key) (key : Key) → list_any (ghosts.eq key) seen ≡ b
     → WasThere seen (if b then seen else seen ++ key ∷ []) (number_in (if b then seen else seen ++ key ∷ []) key)
-        ⊎ IsNext seen (if b then seen else seen ++ key ∷ []) (number_in (if b then seen else seen ++ key ∷ []) key)
+    ⊎ IsNext seen (if b then seen else seen ++ key ∷ []) (number_in (if b then seen else seen ++ key ∷ []) key)
 entered_by one true seen key there = inl (record { same = refl; within = found_within (ghosts.eq key) seen there })
 entered_by one false seen key new =
-    inr (record { longer = length-append seen (key ∷ []) ∙ (let e : length seen + 1 ≡ suc (length seen) = omega arith in e);
-      last = last_place (ghosts.eq key) seen key new (one.same key) })
+    inr (record {
+      longer = length-append seen (key ∷ []) ∙ (let e : length seen + 1 ≡ suc (length seen) = omega arith in e);
+      last = last_place (ghosts.eq key) seen key new (one.same key);
+    })
 
 pub entered : AreOne → (seen : List Key) (key : Key)
     → WasThere seen (put_new ghosts.eq seen key) (number_in (put_new ghosts.eq seen key) key) ⊎ IsNext seen (put_new ghosts.eq seen key) (number_in (put_new ghosts.eq seen key) key)
@@ -176,7 +178,7 @@ second_by one false same seen from to new is = rw (list_any-append (ghosts.eq to
 -- how many ends of a link are new
 pub new_ends : AreOne → (seen : List Key) (from to : Key)
     → length (put_new ghosts.eq (put_new ghosts.eq seen from) to)
-        ≡ length seen + (as_number (not (list_any (ghosts.eq from) seen)) + as_number (not (list_any (ghosts.eq to) seen) && not (ghosts.eq to from)))
+    ≡ length seen + (as_number (not (list_any (ghosts.eq from) seen)) + as_number (not (list_any (ghosts.eq to) seen) && not (ghosts.eq to from)))
 new_ends one seen from to =
     let mid = put_new ghosts.eq seen from in
     let first = longer seen from in

@@ -103,6 +103,7 @@ apart_by before (Fork pid child) = apart_if _ _ (λ linked. two_pids pid child _
     fork_apart here false awaits was linked = refl
     fork_apart true true awaits was linked = sym linked
     fork_apart false true awaits was linked = absurd (let wrong : false ≡ true = linked in cc)
+
     sym_eq : (a b : ℕ) → (b == a) ≡ false → (a == b) ≡ false
     sym_eq a b apart = grind (arith, common_steps, apart)
 apart_by before (Move pid inward how what) = between_apart inward _ _ how (thing_apart _ pid _ (things_are_none before pid what))
@@ -135,7 +136,7 @@ step one grows seen F ms (Some link) taken apart good later =
     record {
       lawful = one_more_flow one grows seen F link taken apart good.lawful earlier;
       no_later = λ g there. elim (Contains-append_cases F (f ∷ []) g there) [
-        inl before ↦ earlier g before
+        | inl before ↦ earlier g before
         | inr last ↦ let h : time f ≡ time g = ap time (alone f g last) in omega arith
       ];
     }

@@ -14,8 +14,8 @@ mod look_back;
 pub use act::{Act, FileRef, Opens, Taken, Thing};
 pub use held::{Held, Object, copy_key};
 pub use laws::{
-    each_beginning_is_an_act, flows_of_acts_are_lawful, forks_hand_on, live_pids_were_begun, only_live_pids_hold,
-    sees_hand_on, sockets_are_of_acts, unopened_acts_hold_nothing,
+    each_beginning_is_an_act, flows_of_acts_are_lawful, forks_hand_on, live_pids_were_begun,
+    only_live_pids_hold, sees_hand_on, sockets_are_of_acts, unopened_acts_hold_nothing,
 };
 pub use link::Link;
-pub use look_back::{Refused, Standing, is_live, link_of, stands_after};
+pub use look_back::{Plain, Refused, Standing, is_live, link_of, stands_after};

@@ -12,6 +12,7 @@ ghost use Rattle.acts.specs.LookBack.{as_number, full_by, full_with};
 
 use crate::act::Taken;
 use crate::link::Link;
+use crate::look_back::room::put_last;
 use flow_base::{EntityId, Flow, Full, Key, Limit, NoMemory, Stamp, equal_keys_are_one};
 use std::alloc::{AllocError, Global};
 use std::marker::Model;
@@ -199,18 +200,6 @@ fn enter(objects: &mut Vec<Key>, key: Key) -> EntityId
         put_last(objects, key);
     }
     EntityId(place as u32)
-}
-
-// Puts an item last in the room that was made for it.
-fn put_last<T: Drop>(items: &mut Vec<T>, item: T)
-    requires room { vec_len items.old < vec_capacity items.old }
-    ensures last { items.new.items ≡ items.old.items ++ item ∷ [] }
-    ensures len { vec_len items.new ≡ vec_len items.old + 1 }
-    ensures room { vec_capacity items.old ≤ vec_capacity items.new }
-{
-    if items.push(item).is_err() {
-        unreachable!();
-    }
 }
 
 // The first place of a key, or else the number of all.

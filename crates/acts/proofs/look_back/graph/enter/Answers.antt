@@ -12,7 +12,7 @@ returns-clause-objects c =
     let place = c.place_of-place.ensures.place ∙ ap (λ xs. number_in xs c.args.key) c.as_slice.ensures.value in
     let end : c.len.result ≡ length items = c.len.ensures ∙ sym c.as_slice.ensures.len ∙ ap length c.as_slice.ensures.value in
     elim c.if-place-len.branch [
-      then-place-len w ↦ ap (λ o. o.items) w.objects-is ∙ w.put_last.ensures.last ∙ sym (put_at_end items c.args.key c.place_of-place.result place (w.if-place-len.true ∙ end))
+      | then-place-len w ↦ ap (λ o. o.items) w.objects-is ∙ w.put_last.ensures.last ∙ sym (put_at_end items c.args.key c.place_of-place.result place (w.if-place-len.true ∙ end))
       | else-place-len w ↦ ap (λ o. o.items) w.objects-is ∙ sym (put_inside items c.args.key c.place_of-place.result place (λ here. w.if-place-len.false (here ∙ sym end)))
     ]
 
