@@ -1,5 +1,5 @@
 -- Keys that are entered one after the other.
-use Rattle.std.proofs.Common.{◌≡◌, ◌≢◌, ◌<◌, ◌≤◌, ◌+◌, ◌++◌, ◌∙◌, ◌⊎◌, inl, inr, ap, not, nat_lt, Option, Some, None, ◌==◌, ◌||◌, ◌&&◌, cond, suc, ℕ, List, [], ◌∷◌, length, length-append, Bool, true, false, refl, sym, if◌then◌else◌, get_or, arith}
+use Rattle.std.proofs.Common.{◌≡◌, ◌≢◌, ◌<◌, ◌≤◌, ◌+◌, ◌++◌, ◌∙◌, ◌⊎◌, inl, inr, ap, not, nat_lt, Some, None, ◌==◌, ◌||◌, ◌&&◌, cond, suc, ℕ, List, [], ◌∷◌, length, length-append, Bool, true, false, refl, sym, if◌then◌else◌, get_or, arith}
 use Rattle.std.proofs.lemmas.Grind.{common_steps}
 use Rattle.std.specs.List.{list_any, position, position_or_len}
 use Rattle.std.proofs.lemmas.List.Folds.{list_any-append}

@@ -4,7 +4,6 @@ use Rattle.std.specs.List.{list_any, position_or_len}
 use Rattle.flow_base.specs.declared.types.Key.{Key}
 use Rattle.flow_base.specs.contracts.types.KeyPartialEq.TheImpl.{ghosts}
 use Rattle.flow_base.specs.declared.types.Flow.{Flow}
-use Rattle.flow_base.specs.declared.types.How.{How}
 use Rattle.flow_base.specs.declared.types.EntityId.{EntityId}
 use Rattle.acts.specs.declared.act.Taken.{Taken}
 use Rattle.acts.specs.declared.link.Link.{Link}

@@ -8,8 +8,8 @@ use Rattle.flow_base.specs.declared.types.Key.TheVariants.{Process}
 use Rattle.flow_base.specs.declared.types.How.{How}
 use Rattle.flow_base.specs.declared.types.Flow.{Flow}
 use Rattle.flow_base.specs.contracts.types.KeyPartialEq.TheImpl.{ghosts}
-use Rattle.reach_model.specs.Flows.{source, target, time}
-use Rattle.reach_model.specs.Numbers.{IsLawfulWith, MayFollow, known, beyond}
+use Rattle.reach_model.specs.Flows.{time}
+use Rattle.reach_model.specs.Numbers.{IsLawfulWith, MayFollow, beyond}
 use Rattle.acts.specs.declared.act.Act.{Act}
 use Rattle.acts.specs.declared.act.Act.TheVariants.{See, Fork, End, Exec, Set, SetBoth, Copy, Close, Mark, Address, Birth, Move}
 use Rattle.acts.specs.declared.act.Taken.{Taken}

@@ -1,10 +1,10 @@
 -- Where nothing was put at a descriptor, nothing is held.
-use Rattle.std.proofs.Common.{◌≡◌, refl, ℕ, ◌==◌, ◌||◌, Bool, true, false, List, [], ◌∷◌, Option, None, if◌then◌else◌, arith}
+use Rattle.std.proofs.Common.{◌≡◌, refl, ℕ, true, false, List, [], ◌∷◌, None, arith}
 use Rattle.std.proofs.lemmas.Grind.{common_steps}
 use Rattle.acts.specs.declared.act.Act.{Act}
 use Rattle.acts.specs.declared.act.Act.TheVariants.{See, Fork, End, Exec, Set, SetBoth, Copy, Close, Mark, Address, Birth, Move}
 use Rattle.acts.specs.Holding.{holds}
-use Rattle.acts.specs.LookBack.{opens, any_opens}
+use Rattle.acts.specs.LookBack.{any_opens}
 
 pub nothing_held : (acts : List Act) (p n : ℕ) → any_opens acts ≡ false → holds acts p n ≡ None
 nothing_held [] p n none = refl

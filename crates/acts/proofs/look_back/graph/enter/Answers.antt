@@ -1,4 +1,4 @@
-use Rattle.std.proofs.Common.{◌∙◌, sym, ap, length, ◌≡◌, true}
+use Rattle.std.proofs.Common.{◌∙◌, sym, ap, length, ◌≡◌}
 use Rattle.std.specs.List.{list_any}
 use Rattle.flow_base.specs.contracts.types.KeyPartialEq.TheImpl.{ghosts}
 use Rattle.acts.specs.Flows.{number_in}

@@ -1,4 +1,4 @@
-use Rattle.std.proofs.Common.{◌∙◌, sym, ◌≤◌, rules, arith}
+use Rattle.std.proofs.Common.{◌∙◌, sym, arith}
 use Rattle.flow_base.specs.contracts.types.KeyPartialEq.TheImpl.{ghosts}
 use Rattle.acts.proofs.Entering.{some_place, none_place, within}
 use Rattle.acts.proofs.look_back.graph.place_of.Goals as goal
