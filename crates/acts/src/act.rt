@@ -107,7 +107,7 @@ pub enum Act {
 #[derive(Drop)]
 pub struct Taken {
     pub act: Act,
-    /// The effective time of its event, which is the greatest time among the events so far.
+    /// The effective time of its event: the greatest time among its own and those of the events before it.
     pub ms: u64,
     /// The serial number of its event.
     pub serial: u32,

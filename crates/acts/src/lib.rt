@@ -15,7 +15,8 @@ pub use act::{Act, FileRef, Opens, Taken, Thing};
 pub use held::{Held, Object, copy_key};
 pub use laws::{
     each_beginning_is_an_act, flows_of_acts_are_lawful, forks_hand_on, live_pids_were_begun,
-    only_live_pids_hold, sees_hand_on, sockets_are_of_acts, unopened_acts_hold_nothing,
+    only_live_pids_hold, pids_are_linked_when_begun_or_claimed, pids_await_the_named_parent,
+    sees_hand_on, sockets_are_of_acts, unopened_acts_hold_nothing,
 };
 pub use link::Link;
 pub use look_back::{Plain, Refused, Standing, is_live, link_of, stands_after};
