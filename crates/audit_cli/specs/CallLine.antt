@@ -63,6 +63,7 @@ call_from key fields =
     (deed_of fields.number (is_ok fields.success) fields.exit fields.a0 fields.pid)
     else None
 
+-- the fields, where each of them is read
 abbrev pub fields_from : (arch number : Option ℕ) → Option (Option Bool) → Option (Option ℤ) → (a0 ppid pid : Option ℕ) → Option Fields
 fields_from (Some arch) (Some number) (Some success) (Some exit) (Some a0) (Some ppid) (Some pid) =
     Some (record { arch = arch; number = number; success = success; exit = exit; a0 = a0; ppid = ppid; pid = pid })

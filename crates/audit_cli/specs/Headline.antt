@@ -24,10 +24,11 @@ lines_in bytes = newest_lines (with_bytes [] bytes ++ Settle ∷ [])
 abbrev pub calls_in : Limits → List ℕ → List Call
 calls_in limits bytes = calls_of limits.line (lines_in bytes)
 
--- the flows of all lines of a log, and how many objects they know
+-- the flows of all lines of a log
 abbrev pub flows_in : Limits → List ℕ → List Flow
 flows_in limits bytes = flows (calls_in limits bytes)
 
+-- how many objects they know
 abbrev pub known_in : Limits → List ℕ → ℕ
 known_in limits bytes = length (objects (calls_in limits bytes))
 

@@ -12,6 +12,7 @@ use Rattle.audit_lex.specs.LineCut.{Cutter}
 use Rattle.audit_cli.specs.Tables.{Tables}
 use Rattle.audit_cli.specs.Taking.{IsAt, newest_lines}
 
+-- the refusal of a byte past the limit
 abbrev pub input_full : Limits → Full
 input_full limits = record { limit = limit.Input; number = limits.input }
 

@@ -8,9 +8,11 @@ use Rattle.audit_cli.specs.declared.refusal.Refusal.{Refusal}
 use Rattle.audit_cli.specs.declared.refusal.Refusal.TheVariants as refusal
 use Rattle.audit_cli.specs.Stage.{may_follow, objects, flows}
 
+-- the refusal of an object past the limit
 abbrev pub entities_full : Limits → Full
 entities_full limits = record { limit = limit.Entities; number = limits.entities }
 
+-- the refusal of a flow past the limit
 abbrev pub flows_full : Limits → Full
 flows_full limits = record { limit = limit.Flows; number = limits.flows }
 

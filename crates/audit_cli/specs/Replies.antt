@@ -28,6 +28,7 @@ IsReply known F of reply.Unknown = known ≤ of.0
 abbrev pub id_data : EntityId → Data
 id_data id = number (unsigned id.0)
 
+-- the numbers of objects
 abbrev pub ids_data : List EntityId → Data
 ids_data ids = array (items_of (map id_data ids))
 
@@ -35,6 +36,7 @@ ids_data ids = array (items_of (map id_data ids))
 abbrev pub back_data : EntityId → List EntityId → Data
 back_data of ids = object (member (codes "back") (id_data of) (member (codes "ids") (ids_data ids) no_members))
 
+-- the refusal of an object that is not known
 abbrev pub unknown_data : Data
 unknown_data = object (member (codes "error") (string (codes "Unknown")) no_members)
 

@@ -57,10 +57,11 @@ pub record Link : Type 0 where
   pub to : Key
   pub how : How
 
--- the first life of a pid, and a descriptor that it wasn't seen to open
+-- the first life of a pid
 abbrev pub process : ℕ → Key
 process pid = Process pid 0
 
+-- a descriptor that the pid wasn't seen to open
 abbrev pub descriptor : ℕ → ℕ → Key
 descriptor pid fd = Lost pid 0 fd
 
@@ -100,6 +101,7 @@ flow_at seen key place link =
       serial = key.serial;
     }
 
+-- the flow of a link, where there is one
 abbrev pub flow_if : List Key → EventKey → ℕ → Option Link → List Flow
 flow_if seen key place None = []
 flow_if seen key place (Some link) = flow_at seen key place link ∷ []

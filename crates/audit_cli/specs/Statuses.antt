@@ -17,6 +17,7 @@ number_of status.WriteFault = 5
 number_of (status.Full full) = 9
 number_of (status.Unbuilt line) = 11
 
+-- the name of a limit
 abbrev pub limit_name : Limit → List ℕ
 limit_name limit.Input = codes "input"
 limit_name limit.Entities = codes "entities"

@@ -18,6 +18,7 @@ pub record Tables : Type 0 where
   pub most_keys : ℕ
   pub most_flows : ℕ
 
+-- the key of the last call
 abbrev pub last_key : List Call → Option EventKey
 last_key [] = None
 last_key (call ∷ before) = Some call.key
