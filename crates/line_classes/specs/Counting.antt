@@ -1,5 +1,5 @@
 -- What is counted of the lines of a log.
-use Rattle.std.specs.Prelude.{◌≡◌, ◌+◌, ◌++◌, ℕ, List, [], ◌∷◌, length, take, drop, Option, Some}
+use Rattle.std.specs.Prelude.{◌≡◌, ◌+◌, ◌++◌, ℕ, List, [], ◌∷◌, take, drop, Option, Some}
 use Rattle.audit_lex.specs.History.{History, Settle, lines_of, with_bytes}
 use Rattle.audit_lex.specs.LineClass.{class_of}
 use Rattle.audit_lex.specs.LineCut.{Cutter, StandsFor}

@@ -7,6 +7,7 @@
 //!     9        Full          full
 ghost use Rattle.std.specs.Prelude.{◌≡◌};
 ghost use Rattle.line_classes.specs.declared.fault.Fault.TheVariants as fault;
+ghost use Rattle.line_classes.specs.Faults.{number_of, text_of};
 
 use flow_base::NoMemory;
 use std::alloc::AllocError;
@@ -41,7 +42,9 @@ impl From<AllocError> for Fault {
 }
 
 /// The number with which the program ends.
-pub fn fault_number(fault: Fault) -> u8 {
+pub fn fault_number(fault: Fault) -> u8
+    ensures { result ≡ number_of fault }
+{
     match fault {
         Fault::NoMemory => 3,
         Fault::ReadFault => 4,
@@ -51,7 +54,9 @@ pub fn fault_number(fault: Fault) -> u8 {
 }
 
 /// What the program says of its end.
-pub fn fault_text(fault: Fault) -> &'static str {
+pub fn fault_text(fault: Fault) -> &'static str
+    ensures { result.now ≡ text_of fault }
+{
     match fault {
         Fault::NoMemory => "no memory",
         Fault::ReadFault => "read fault",

@@ -7,6 +7,10 @@
 //! read to its end it prints nothing, says why on standard error, and ends with the fault's number.
 #![tactic(auto)]
 
+ghost use Rattle.std.specs.Prelude.{◌≡◌, ℕ, List, Some, string_bytes, IfOk};
+ghost use Rattle.line_classes.specs.Counting.{tally_of_log};
+ghost use Rattle.line_classes.specs.Report.{report_of};
+
 mod counting;
 mod fault;
 mod reading;
@@ -15,10 +19,12 @@ mod report;
 use fault::{Fault, fault_number, fault_text};
 use reading::tally_of_log;
 use report::report_text;
+use std::alloc::Global;
+use std::io::Read;
 use std::process::ExitCode;
 
 fn main(rt: HostRuntime) -> ExitCode {
-    let fault = match text_of_log(&rt) {
+    let fault = match text_of_log(rt.alloc(), &mut rt.stdin()) {
         Ok(text) => {
             if println!(rt; "{text}").is_ok() {
                 return ExitCode::from(0);
@@ -32,9 +38,11 @@ fn main(rt: HostRuntime) -> ExitCode {
     ExitCode::from(fault_number(fault))
 }
 
-// What is printed of the log on standard input.
-fn text_of_log(rt: &HostRuntime) -> Result<String, Fault> {
-    let mut log = rt.stdin();
-    let tally = tally_of_log(rt.alloc(), &mut log)?;
-    report_text(rt.alloc(), &tally)
+// What is printed of a log.
+fn text_of_log<R: Read>(alloc: Global, log: &mut R) -> Result<String, Fault>
+    ensures { (bytes : List ℕ) → R.remaining log.old ≡ Some bytes → IfOk result (λ text. string_bytes text ≡ report_of (tally_of_log bytes)) }
+{
+    let tally = tally_of_log(alloc, log)?;
+    let text = report_text(alloc, &tally)?;
+    Ok(text)
 }

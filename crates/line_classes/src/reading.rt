@@ -39,6 +39,7 @@ fn count_some(cut: &mut LineCut, tally: &mut Tally, heard: u64, piece: &[u8]) ->
     requires heard { heard ≤ 2 ^ 59 }
     requires total { total tally.old ≤ cut.old.lines }
     ensures fits { OnOk result (heard + length piece.now ≤ 2 ^ 59) }
+    ensures full { IfErr result (λ why. why ≡ fault.Full → 2 ^ 59 < heard + length piece.now) }
     ensures lines { OnOk result (cut.new.lines ≤ heard + length piece.now) }
     ensures total { OnOk result (total tally.new ≤ cut.new.lines) }
     ensures at { (history : History) → IsAt cut.old tally.old history → OnOk result (IsAt cut.new tally.new (with_bytes history piece.now)) }

@@ -1,4 +1,4 @@
-use Rattle.std.proofs.Common.{◌≡◌, ◌≤◌, ◌+◌, [], take, drop, length, ap, arith}
+use Rattle.std.proofs.Common.{◌≡◌, ◌+◌, [], take, drop, length, ap, arith}
 use Rattle.std.proofs.lemmas.List.{drop-drop, length-drop, take_all}
 use Rattle.audit_lex.specs.History.{with_bytes}
 use Rattle.line_classes.proofs.Counts.{more_taken}
