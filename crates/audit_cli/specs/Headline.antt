@@ -10,6 +10,8 @@ use Rattle.audit_cli.specs.declared.halt.Halt.TheVariants as halt
 use Rattle.audit_cli.specs.declared.reply.Reply.{Reply}
 use Rattle.audit_cli.specs.declared.status.Status.{Status}
 use Rattle.audit_cli.specs.declared.status.Status.TheVariants as status
+use Rattle.audit_cli.specs.declared.words.Job.TheVariants as job
+use Rattle.audit_cli.specs.Words.{job_of}
 use Rattle.audit_cli.specs.Lines.{calls_of}
 use Rattle.audit_cli.specs.Logs.{stop_of}
 use Rattle.audit_cli.specs.Replies.{IsReply, text_of}
@@ -31,6 +33,10 @@ flows_in limits bytes = flows (calls_in limits bytes)
 -- how many objects they know
 abbrev pub known_in : Limits → List ℕ → ℕ
 known_in limits bytes = length (objects (calls_in limits bytes))
+
+-- the claim holds of the object that the words ask about and of the bytes that the log tells
+abbrev pub WhereTold : List (List ℕ) → Option (List ℕ) → (EntityId → List ℕ → Type 0) → Type 0
+WhereTold words left claim = (of : EntityId) (bytes : List ℕ) → job_of words ≡ Some (job.Back of.0) → left ≡ Some bytes → claim of bytes
 
 -- a reply to `back` over the flows of all lines of the log
 abbrev pub Answers : Limits → List ℕ → EntityId → Reply → Type 0

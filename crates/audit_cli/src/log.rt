@@ -29,7 +29,8 @@ fn take_some(
 ) -> Result<(), Halt>
     requires lines { cut.old.lines ≤ heard }
     requires heard { heard ≤ limits.now.input }
-    ensures at { (history : History) → IsAt limits.now cut.old stage.old history → OnOk result (IsAt limits.now cut.new stage.new (with_bytes history piece.now)) }
+    ensures at { (history : History) → IsAt limits.now cut.old stage.old history
+        → OnOk result (IsAt limits.now cut.new stage.new (with_bytes history piece.now)) }
     ensures fits { OnOk result (heard + length piece.now ≤ limits.now.input) }
     ensures lines { OnOk result (cut.new.lines ≤ heard + length piece.now) }
     ensures halts { (history : History) (rest : List ℕ) → IsAt limits.now cut.old stage.old history
@@ -53,8 +54,11 @@ fn take_some(
 fn read_some<L: Source>(log: &mut L, buf: &mut [u8]) -> Result<usize, Halt>
     requires { 0 < length buf.old }
     ensures within { IfOk result (λ n. n ≤ length buf.new) }
-    ensures read { (bytes : List ℕ) → L.left log.old ≡ Some bytes → IfOk result (λ n. (bytes ≡ take n buf.new ++ drop n bytes) × (L.left log.new ≡ Some (drop n bytes))) }
-    ensures some { (bytes : List ℕ) → L.left log.old ≡ Some bytes → IfOk result (λ n. (n ≤ length bytes) × (n ≡ 0 → bytes ≡ [])) }
+    ensures read { (bytes : List ℕ) → L.left log.old ≡ Some bytes
+        → IfOk result (λ n. (bytes ≡ take n buf.new ++ drop n bytes)
+        × (L.left log.new ≡ Some (drop n bytes))) }
+    ensures some { (bytes : List ℕ) → L.left log.old ≡ Some bytes
+        → IfOk result (λ n. (n ≤ length bytes) × (n ≡ 0 → bytes ≡ [])) }
     ensures fault { IfErr result (λ why. why ≡ Halt.ReadFault) }
     ensures causes { IfErr result (HasCauses (Rose (L.faults log.old) (L.faults log.new) (L.spent log.new)) ⊥) }
     ensures counts { GoesUp (L.faults log.old) (L.faults log.new) (L.spent log.old) (L.spent log.new) }
@@ -79,11 +83,14 @@ fn take_read<L: Source>(
     requires room { 0 < length buf.old }
     ensures fits { IfOk result (λ n. heard + n ≤ limits.now.input) }
     ensures lines { IfOk result (λ n. cut.new.lines ≤ heard + n) }
-    ensures took { (history : History) (bytes : List ℕ) → L.left log.old ≡ Some bytes → IsAt limits.now cut.old stage.old history
+    ensures took { (history : History) (bytes : List ℕ) → L.left log.old ≡ Some bytes
+        → IsAt limits.now cut.old stage.old history
         → IfOk result (λ n. Took limits.now cut.new stage.new (L.left log.new) history bytes n) }
     ensures goes { (history : History) → IsAt limits.now cut.old stage.old history
-        → IfOk result (λ n. (piece : List ℕ) × IsAt limits.now cut.new stage.new (with_bytes history piece)) }
-    ensures halts { (history : History) (bytes : List ℕ) → L.left log.old ≡ Some bytes → IsAt limits.now cut.old stage.old history
+        → IfOk result (λ n. (piece : List ℕ)
+        × IsAt limits.now cut.new stage.new (with_bytes history piece)) }
+    ensures halts { (history : History) (bytes : List ℕ) → L.left log.old ≡ Some bytes
+        → IsAt limits.now cut.old stage.old history
         → IfErr result (MayHalt (stop_within limits.now history (limits.now.input - heard) bytes)) }
     ensures causes { IfErr result (HasCauses (Rose (L.faults log.old) (L.faults log.new) (L.spent log.new)) ⊥) }
     ensures counts { GoesUp (L.faults log.old) (L.faults log.new) (L.spent log.old) (L.spent log.new) }
@@ -102,13 +109,17 @@ pub fn take_log<L: Source>(
 ) -> Result<(), Halt>
     requires { cut.old.lines ≡ 0 }
     ensures lines { OnOk result (cut.new.lines ≤ limits.now.input) }
-    ensures took { (bytes : List ℕ) → L.left log.old ≡ Some bytes → IsAt limits.now cut.old stage.old []
+    ensures took { (bytes : List ℕ) → L.left log.old ≡ Some bytes
+        → IsAt limits.now cut.old stage.old []
         → OnOk result (IsAt limits.now cut.new stage.new (with_bytes [] bytes)) }
     // Whatever the source is, the tables stand for some log.
-    ensures goes { IsAt limits.now cut.old stage.old [] → OnOk result ((bytes : List ℕ) × IsAt limits.now cut.new stage.new (with_bytes [] bytes)) }
-    ensures whole { (bytes : List ℕ) → L.left log.old ≡ Some bytes → IsAt limits.now cut.old stage.old []
+    ensures goes { IsAt limits.now cut.old stage.old [] → OnOk result ((bytes : List ℕ)
+        × IsAt limits.now cut.new stage.new (with_bytes [] bytes)) }
+    ensures whole { (bytes : List ℕ) → L.left log.old ≡ Some bytes
+        → IsAt limits.now cut.old stage.old []
         → OnOk result ((L.left log.new ≡ Some []) × (length bytes ≤ limits.now.input)) }
-    ensures halts { (bytes : List ℕ) → L.left log.old ≡ Some bytes → IsAt limits.now cut.old stage.old []
+    ensures halts { (bytes : List ℕ) → L.left log.old ≡ Some bytes
+        → IsAt limits.now cut.old stage.old []
         → IfErr result (MayHalt (stop_of limits.now bytes)) }
     ensures causes { IfErr result (HasCauses (Rose (L.faults log.old) (L.faults log.new) (L.spent log.new)) ⊥) }
     ensures counts { GoesUp (L.faults log.old) (L.faults log.new) (L.spent log.old) (L.spent log.new) }

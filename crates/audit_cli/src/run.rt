@@ -11,7 +11,7 @@ ghost use Rattle.audit_cli.specs.Logs.{stop_of, MayHalt, HasCauses, GoesUp};
 ghost use Rattle.audit_cli.specs.Replies.{text_of, SaidInPart};
 ghost use Rattle.audit_cli.specs.Statuses.{status_for};
 ghost use Rattle.audit_cli.specs.Standard.{IsStandard, WithStandard};
-ghost use Rattle.audit_cli.specs.Headline.{calls_in, Answers, WritesReply, Writes, Ends, StatusCause};
+ghost use Rattle.audit_cli.specs.Headline.{WhereTold, calls_in, Answers, WritesReply, Writes, Ends, StatusCause};
 
 use crate::answer::answer;
 use crate::halt::Halt;
@@ -29,10 +29,13 @@ use std::alloc::Global;
 
 // Takes a log whole.
 fn take_whole<L: Source>(alloc: Global, limits: &Limits, log: &mut L) -> Result<Stage, Halt>
-    ensures stands { (bytes : List ℕ) → L.left log.old ≡ Some bytes → IfOk result (λ stage. StandsFor limits.now stage (calls_in limits.now bytes)) }
-    ensures whole { (bytes : List ℕ) → L.left log.old ≡ Some bytes → OnOk result ((L.left log.new ≡ Some []) × (stop_of limits.now bytes ≡ None)) }
+    ensures stands { (bytes : List ℕ) → L.left log.old ≡ Some bytes
+        → IfOk result (λ stage. StandsFor limits.now stage (calls_in limits.now bytes)) }
+    ensures whole { (bytes : List ℕ) → L.left log.old ≡ Some bytes
+        → OnOk result ((L.left log.new ≡ Some []) × (stop_of limits.now bytes ≡ None)) }
     ensures lawful { IfOk result (λ stage. IsLawfulWith (length stage.keys) stage.flows) }
-    ensures halts { (bytes : List ℕ) → L.left log.old ≡ Some bytes → IfErr result (MayHalt (stop_of limits.now bytes)) }
+    ensures halts { (bytes : List ℕ) → L.left log.old ≡ Some bytes
+        → IfErr result (MayHalt (stop_of limits.now bytes)) }
     ensures causes { IfErr result (HasCauses (Rose (L.faults log.old) (L.faults log.new) (L.spent log.new)) ⊥) }
     ensures counts { GoesUp (L.faults log.old) (L.faults log.new) (L.spent log.old) (L.spent log.new) }
 {
@@ -67,10 +70,14 @@ fn run<L: Source, O: Sink>(
     log: &mut L,
     out: &mut O,
 ) -> Result<(), Halt>
-    ensures written { (bytes : List ℕ) → L.left log.old ≡ Some bytes → Writes limits.now bytes of (O.written out.old) (O.written out.new) (status_for result) }
-    ensures ends { (bytes : List ℕ) → L.left log.old ≡ Some bytes → Ends limits.now bytes (status_for result) }
-    ensures whole { (bytes : List ℕ) → L.left log.old ≡ Some bytes → OnOk result (L.left log.new ≡ Some []) }
-    ensures causes { IfErr result (HasCauses (Rose (L.faults log.old) (L.faults log.new) (L.spent log.new)) (Rose (O.faults out.old) (O.faults out.new) (O.spent out.new))) }
+    ensures written { (bytes : List ℕ) → L.left log.old ≡ Some bytes
+        → Writes limits.now bytes of (O.written out.old) (O.written out.new) (status_for result) }
+    ensures ends { (bytes : List ℕ) → L.left log.old ≡ Some bytes
+        → Ends limits.now bytes (status_for result) }
+    ensures whole { (bytes : List ℕ) → L.left log.old ≡ Some bytes
+        → OnOk result (L.left log.new ≡ Some []) }
+    ensures causes { IfErr result (HasCauses (Rose (L.faults log.old) (L.faults log.new) (L.spent log.new))
+        (Rose (O.faults out.old) (O.faults out.new) (O.spent out.new))) }
 {
     let stage = take_whole(alloc, limits, log)?;
     let reply = answer(alloc, &stage, of)?;
@@ -87,21 +94,25 @@ pub fn audit_run<L: Source, O: Sink>(
     out: &mut O,
 ) -> Status
     ensures bad_words { (result ≡ Status.BadWords) ↔ (job_of (map string_bytes words.now) ≡ None) }
-    ensures untouched { job_of (map string_bytes words.now) ≡ None → (log.new ≡ log.old) × (out.new ≡ out.old) }
-    ensures causes { StatusCause (Rose (L.faults log.old) (L.faults log.new) (L.spent log.new)) (Rose (O.faults out.old) (O.faults out.new) (O.spent out.new)) result }
+    ensures untouched { job_of (map string_bytes words.now) ≡ None
+        → (log.new ≡ log.old) × (out.new ≡ out.old) }
+    ensures causes { StatusCause (Rose (L.faults log.old) (L.faults log.new) (L.spent log.new))
+        (Rose (O.faults out.old) (O.faults out.new) (O.spent out.new)) result }
     // At Done exactly the text of the right reply was written.
-    ensures headline { (of : EntityId) (bytes : List ℕ) → job_of (map string_bytes words.now) ≡ Some (Job.Back of.0) → L.left log.old ≡ Some bytes → result ≡ Status.Done
-        → WritesReply limits.now bytes of (O.written out.old) (O.written out.new) }
+    ensures headline { WhereTold (map string_bytes words.now) (L.left log.old) (λ of bytes.
+        result ≡ Status.Done → WritesReply limits.now bytes of (O.written out.old) (O.written out.new)) }
     // With any status what was written is a front of it.
-    ensures prefix { (of : EntityId) (bytes : List ℕ) → job_of (map string_bytes words.now) ≡ Some (Job.Back of.0) → L.left log.old ≡ Some bytes
-        → Writes limits.now bytes of (O.written out.old) (O.written out.new) result }
+    ensures prefix { WhereTold (map string_bytes words.now) (L.left log.old) (λ of bytes.
+        Writes limits.now bytes of (O.written out.old) (O.written out.new) result) }
     // Full and Unbuilt come exactly where the log has them.
-    ensures exact { (of : EntityId) (bytes : List ℕ) → job_of (map string_bytes words.now) ≡ Some (Job.Back of.0) → L.left log.old ≡ Some bytes → Ends limits.now bytes result }
-    ensures whole { (of : EntityId) (bytes : List ℕ) → job_of (map string_bytes words.now) ≡ Some (Job.Back of.0) → L.left log.old ≡ Some bytes → result ≡ Status.Done
-        → L.left log.new ≡ Some [] }
-    ensures complete { (of : EntityId) (bytes : List ℕ) → job_of (map string_bytes words.now) ≡ Some (Job.Back of.0) → L.left log.old ≡ Some bytes
-        → ¬ Rose (L.faults log.old) (L.faults log.new) (L.spent log.new) → ¬ Rose (O.faults out.old) (O.faults out.new) (O.spent out.new)
-        → stop_of limits.now bytes ≡ None → (result ≡ Status.Done) ⊎ (result ≡ Status.NoMemory) }
+    ensures exact { WhereTold (map string_bytes words.now) (L.left log.old) (λ of bytes.
+        Ends limits.now bytes result) }
+    ensures whole { WhereTold (map string_bytes words.now) (L.left log.old) (λ of bytes.
+        result ≡ Status.Done → L.left log.new ≡ Some []) }
+    ensures complete { WhereTold (map string_bytes words.now) (L.left log.old) (λ of bytes.
+        ¬ Rose (L.faults log.old) (L.faults log.new) (L.spent log.new)
+        → ¬ Rose (O.faults out.old) (O.faults out.new) (O.spent out.new)
+        → stop_of limits.now bytes ≡ None → (result ≡ Status.Done) ⊎ (result ≡ Status.NoMemory)) }
 {
     match read_words(words) {
         Err(WordsFault::BadWords) => Status::BadWords,
@@ -118,19 +129,22 @@ pub fn audit_main<L: Source, O: Sink>(
     out: &mut O,
 ) -> Status
     ensures bad_words { (result ≡ Status.BadWords) ↔ (job_of (map string_bytes words.now) ≡ None) }
-    ensures untouched { job_of (map string_bytes words.now) ≡ None → (log.new ≡ log.old) × (out.new ≡ out.old) }
-    ensures causes { StatusCause (Rose (L.faults log.old) (L.faults log.new) (L.spent log.new)) (Rose (O.faults out.old) (O.faults out.new) (O.spent out.new)) result }
-    ensures headline { (of : EntityId) (bytes : List ℕ) → job_of (map string_bytes words.now) ≡ Some (Job.Back of.0) → L.left log.old ≡ Some bytes → result ≡ Status.Done
-        → WithStandard (λ limits. WritesReply limits bytes of (O.written out.old) (O.written out.new)) }
-    ensures prefix { (of : EntityId) (bytes : List ℕ) → job_of (map string_bytes words.now) ≡ Some (Job.Back of.0) → L.left log.old ≡ Some bytes
-        → WithStandard (λ limits. Writes limits bytes of (O.written out.old) (O.written out.new) result) }
-    ensures exact { (of : EntityId) (bytes : List ℕ) → job_of (map string_bytes words.now) ≡ Some (Job.Back of.0) → L.left log.old ≡ Some bytes
-        → WithStandard (λ limits. Ends limits bytes result) }
-    ensures whole { (of : EntityId) (bytes : List ℕ) → job_of (map string_bytes words.now) ≡ Some (Job.Back of.0) → L.left log.old ≡ Some bytes → result ≡ Status.Done
-        → L.left log.new ≡ Some [] }
-    ensures complete { (of : EntityId) (bytes : List ℕ) → job_of (map string_bytes words.now) ≡ Some (Job.Back of.0) → L.left log.old ≡ Some bytes
-        → ¬ Rose (L.faults log.old) (L.faults log.new) (L.spent log.new) → ¬ Rose (O.faults out.old) (O.faults out.new) (O.spent out.new)
-        → WithStandard (λ limits. stop_of limits bytes ≡ None → (result ≡ Status.Done) ⊎ (result ≡ Status.NoMemory)) }
+    ensures untouched { job_of (map string_bytes words.now) ≡ None
+        → (log.new ≡ log.old) × (out.new ≡ out.old) }
+    ensures causes { StatusCause (Rose (L.faults log.old) (L.faults log.new) (L.spent log.new))
+        (Rose (O.faults out.old) (O.faults out.new) (O.spent out.new)) result }
+    ensures headline { WhereTold (map string_bytes words.now) (L.left log.old) (λ of bytes.
+        result ≡ Status.Done → WithStandard (λ limits. WritesReply limits bytes of (O.written out.old) (O.written out.new))) }
+    ensures prefix { WhereTold (map string_bytes words.now) (L.left log.old) (λ of bytes.
+        WithStandard (λ limits. Writes limits bytes of (O.written out.old) (O.written out.new) result)) }
+    ensures exact { WhereTold (map string_bytes words.now) (L.left log.old) (λ of bytes.
+        WithStandard (λ limits. Ends limits bytes result)) }
+    ensures whole { WhereTold (map string_bytes words.now) (L.left log.old) (λ of bytes.
+        result ≡ Status.Done → L.left log.new ≡ Some []) }
+    ensures complete { WhereTold (map string_bytes words.now) (L.left log.old) (λ of bytes.
+        ¬ Rose (L.faults log.old) (L.faults log.new) (L.spent log.new)
+        → ¬ Rose (O.faults out.old) (O.faults out.new) (O.spent out.new)
+        → WithStandard (λ limits. stop_of limits bytes ≡ None → (result ≡ Status.Done) ⊎ (result ≡ Status.NoMemory))) }
 {
     let limits = standard_limits();
     audit_run(alloc, &limits, words, log, out)

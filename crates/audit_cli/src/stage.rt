@@ -74,9 +74,12 @@ impl Stage {
 
     /// Takes the call that comes next. Where it is refused nothing more is said of the tables.
     pub fn take(&mut self, call: &Call) -> Result<(), Refusal>
-        ensures stands { (limits : Limits) (before : List Call) → StandsFor limits self.old before → OnOk result (StandsFor limits self.new (call.now ∷ before)) }
-        ensures allowed { (limits : Limits) (before : List Call) → StandsFor limits self.old before → OnOk result (refusal_of limits before call.now ≡ None) }
-        ensures refused { (limits : Limits) (before : List Call) → StandsFor limits self.old before → IfErr result (IsDue (refusal_of limits before call.now)) }
+        ensures stands { (limits : Limits) (before : List Call) → StandsFor limits self.old before
+            → OnOk result (StandsFor limits self.new (call.now ∷ before)) }
+        ensures allowed { (limits : Limits) (before : List Call) → StandsFor limits self.old before
+            → OnOk result (refusal_of limits before call.now ≡ None) }
+        ensures refused { (limits : Limits) (before : List Call) → StandsFor limits self.old before
+            → IfErr result (IsDue (refusal_of limits before call.now)) }
     {
         if !self.may_take(call) {
             return Err(Refusal::Unbuilt);
@@ -88,7 +91,8 @@ impl Stage {
 
     // Whether the call may come next.
     fn may_take(&self, call: &Call) -> bool
-        ensures { (limits : Limits) (before : List Call) → StandsFor limits self.now before → result ≡ may_follow before call.now }
+        ensures { (limits : Limits) (before : List Call) → StandsFor limits self.now before
+            → result ≡ may_follow before call.now }
     {
         let later = self.is_later(call.key);
         let expected = self.is_expected(call);
@@ -98,7 +102,8 @@ impl Stage {
 
     // Whether the key is above the last one.
     fn is_later(&self, key: EventKey) -> bool
-        ensures { (limits : Limits) (before : List Call) → StandsFor limits self.now before → result ≡ comes_later before key }
+        ensures { (limits : Limits) (before : List Call) → StandsFor limits self.now before
+            → result ≡ comes_later before key }
     {
         match self.last {
             None => true,
@@ -108,14 +113,16 @@ impl Stage {
 
     // Whether the process has appeared, or its parent hasn't.
     fn is_expected(&self, call: &Call) -> bool
-        ensures { (limits : Limits) (before : List Call) → StandsFor limits self.now before → result ≡ is_expected before call.now }
+        ensures { (limits : Limits) (before : List Call) → StandsFor limits self.now before
+            → result ≡ is_expected before call.now }
     {
         self.has_appeared(call.pid) || !self.has_appeared(call.ppid)
     }
 
     // Whether a child of this deed is new.
     fn is_new(&self, deed: Deed) -> bool
-        ensures { (limits : Limits) (before : List Call) → StandsFor limits self.now before → result ≡ begins_new before deed }
+        ensures { (limits : Limits) (before : List Call) → StandsFor limits self.now before
+            → result ≡ begins_new before deed }
     {
         match deed {
             Deed::Nothing => true,
@@ -134,11 +141,13 @@ impl Stage {
 
     // Notes who has appeared, and when.
     fn note(&mut self, call: &Call) -> Result<(), Refusal>
-        ensures pids { OnOk result ((p : ℕ) → list_any (nat_eq p) self.new.pids ≡ ((p == call.now.pid || makes_child call.now.deed p) || list_any (nat_eq p) self.old.pids)) }
+        ensures pids { OnOk result ((p : ℕ)
+            → list_any (nat_eq p) self.new.pids ≡ ((p == call.now.pid || makes_child call.now.deed p) || list_any (nat_eq p) self.old.pids)) }
         ensures last { OnOk result (self.new.last ≡ Some call.now.key) }
         ensures err { IfErr result (λ why. why ≡ refusal.NoMemory) }
         ensures rest { (self.new.keys ≡ self.old.keys) × (self.new.flows ≡ self.old.flows) }
-        ensures most { (self.new.most_keys ≡ self.old.most_keys) × (self.new.most_flows ≡ self.old.most_flows) }
+        ensures most { (self.new.most_keys ≡ self.old.most_keys)
+            × (self.new.most_flows ≡ self.old.most_flows) }
     {
         self.note_child(call.deed)?;
         self.note_pid(call.pid)?;
@@ -148,10 +157,13 @@ impl Stage {
 
     // Notes the child of a fork.
     fn note_child(&mut self, deed: Deed) -> Result<(), Refusal>
-        ensures pids { OnOk result ((p : ℕ) → list_any (nat_eq p) self.new.pids ≡ (makes_child deed p || list_any (nat_eq p) self.old.pids)) }
+        ensures pids { OnOk result ((p : ℕ)
+            → list_any (nat_eq p) self.new.pids ≡ (makes_child deed p || list_any (nat_eq p) self.old.pids)) }
         ensures err { IfErr result (λ why. why ≡ refusal.NoMemory) }
-        ensures rest { (self.new.keys ≡ self.old.keys) × (self.new.flows ≡ self.old.flows) × (self.new.last ≡ self.old.last) }
-        ensures most { (self.new.most_keys ≡ self.old.most_keys) × (self.new.most_flows ≡ self.old.most_flows) }
+        ensures rest { (self.new.keys ≡ self.old.keys) × (self.new.flows ≡ self.old.flows)
+            × (self.new.last ≡ self.old.last) }
+        ensures most { (self.new.most_keys ≡ self.old.most_keys)
+            × (self.new.most_flows ≡ self.old.most_flows) }
     {
         match deed {
             Deed::Forks { child } => self.note_pid(child),
@@ -163,10 +175,13 @@ impl Stage {
 
     // Notes that a pid has appeared.
     fn note_pid(&mut self, pid: u32) -> Result<(), Refusal>
-        ensures pids { OnOk result ((p : ℕ) → list_any (nat_eq p) self.new.pids ≡ (p == pid || list_any (nat_eq p) self.old.pids)) }
+        ensures pids { OnOk result ((p : ℕ)
+            → list_any (nat_eq p) self.new.pids ≡ (p == pid || list_any (nat_eq p) self.old.pids)) }
         ensures err { IfErr result (λ why. why ≡ refusal.NoMemory) }
-        ensures rest { (self.new.keys ≡ self.old.keys) × (self.new.flows ≡ self.old.flows) × (self.new.last ≡ self.old.last) }
-        ensures most { (self.new.most_keys ≡ self.old.most_keys) × (self.new.most_flows ≡ self.old.most_flows) }
+        ensures rest { (self.new.keys ≡ self.old.keys) × (self.new.flows ≡ self.old.flows)
+            × (self.new.last ≡ self.old.last) }
+        ensures most { (self.new.most_keys ≡ self.old.most_keys)
+            × (self.new.most_flows ≡ self.old.most_flows) }
     {
         match self.pids.insert(pid) {
             Ok(_) => Ok(()),
@@ -179,10 +194,13 @@ impl Stage {
         ensures keys { OnOk result (self.new.keys ≡ put_new self.old.keys key) }
         ensures id { IfOk result (λ id. id.0 ≡ number_in self.new.keys key) }
         ensures there { OnOk result (list_any (ghosts.eq key) self.new.keys ≡ true) }
-        ensures full { IfErr result (Passes self.old.most_keys self.old.most_flows ((list_any (ghosts.eq key) self.old.keys ≡ false) × (self.old.most_keys ≤ length self.old.keys)) ⊥) }
+        ensures full { IfErr result (Passes self.old.most_keys self.old.most_flows ((list_any (ghosts.eq key) self.old.keys ≡ false)
+            × (self.old.most_keys ≤ length self.old.keys)) ⊥) }
         ensures few { length self.new.keys ≤ self.new.most_keys }
-        ensures rest { (self.new.pids ≡ self.old.pids) × (self.new.last ≡ self.old.last) × (self.new.flows ≡ self.old.flows) }
-        ensures most { (self.new.most_keys ≡ self.old.most_keys) × (self.new.most_flows ≡ self.old.most_flows) }
+        ensures rest { (self.new.pids ≡ self.old.pids) × (self.new.last ≡ self.old.last)
+            × (self.new.flows ≡ self.old.flows) }
+        ensures most { (self.new.most_keys ≡ self.old.most_keys)
+            × (self.new.most_flows ≡ self.old.most_flows) }
     {
         if let Some(index) = self.keys.get_index_of(&key) {
             return Ok(EntityId(index as u32));
@@ -210,7 +228,8 @@ impl Stage {
             ((length (with_ends self.old.keys (link_by call.now.pid call.now.deed)) ≤ self.old.most_keys)
             × (self.old.most_flows < length (self.old.flows ++ flow_if (with_ends self.old.keys (link_by call.now.pid call.now.deed)) call.now.key (length self.old.flows) (link_by call.now.pid call.now.deed))))) }
         ensures rest { (self.new.pids ≡ self.old.pids) × (self.new.last ≡ self.old.last) }
-        ensures most { (self.new.most_keys ≡ self.old.most_keys) × (self.new.most_flows ≡ self.old.most_flows) }
+        ensures most { (self.new.most_keys ≡ self.old.most_keys)
+            × (self.new.most_flows ≡ self.old.most_flows) }
     {
         let _ = &self.keys;
         match call.deed {
@@ -247,7 +266,8 @@ impl Stage {
             (self.old.most_keys < length (put_new (put_new self.old.keys from) to))
             ((length (put_new (put_new self.old.keys from) to) ≤ self.old.most_keys) × (self.old.most_flows < length self.old.flows + 1))) }
         ensures rest { (self.new.pids ≡ self.old.pids) × (self.new.last ≡ self.old.last) }
-        ensures most { (self.new.most_keys ≡ self.old.most_keys) × (self.new.most_flows ≡ self.old.most_flows) }
+        ensures most { (self.new.most_keys ≡ self.old.most_keys)
+            × (self.new.most_flows ≡ self.old.most_flows) }
     {
         let from = self.enter(from)?;
         let to = self.enter(to)?;
@@ -266,8 +286,10 @@ impl Stage {
         ensures flows { OnOk result (self.new.flows ≡ self.old.flows ++ record { from = from; to = to; how = how; at = record { ms = key.ms; place = length self.old.flows }; serial = key.serial } ∷ []) }
         ensures full { IfErr result (Passes self.old.most_keys self.old.most_flows ⊥ (self.old.most_flows < length self.old.flows + 1)) }
         ensures fits { OnOk result (length self.new.flows ≤ self.new.most_flows) }
-        ensures rest { (self.new.pids ≡ self.old.pids) × (self.new.last ≡ self.old.last) × (self.new.keys ≡ self.old.keys) }
-        ensures most { (self.new.most_keys ≡ self.old.most_keys) × (self.new.most_flows ≡ self.old.most_flows) }
+        ensures rest { (self.new.pids ≡ self.old.pids) × (self.new.last ≡ self.old.last)
+            × (self.new.keys ≡ self.old.keys) }
+        ensures most { (self.new.most_keys ≡ self.old.most_keys)
+            × (self.new.most_flows ≡ self.old.most_flows) }
     {
         let place = self.flows.as_slice().len() as u64;
         if place == self.most_flows {

@@ -16,11 +16,17 @@ use flow_base::Limits;
 
 // Takes a line that has ended.
 fn take_line(stage: &mut Stage, limits: &Limits, line: &Line) -> Result<(), Halt>
-    ensures stands { (before : List (List ℕ)) (text : List ℕ) → StandsFor limits.now stage.old (calls_of limits.now.line before) → line.now ≡ line_of limits.now.line (length before + 1) text
+    ensures stands { (before : List (List ℕ)) (text : List ℕ)
+        → StandsFor limits.now stage.old (calls_of limits.now.line before)
+        → line.now ≡ line_of limits.now.line (length before + 1) text
         → OnOk result (StandsFor limits.now stage.new (calls_of limits.now.line (text ∷ before))) }
-    ensures allowed { (before : List (List ℕ)) (text : List ℕ) → StandsFor limits.now stage.old (calls_of limits.now.line before) → line.now ≡ line_of limits.now.line (length before + 1) text
+    ensures allowed { (before : List (List ℕ)) (text : List ℕ)
+        → StandsFor limits.now stage.old (calls_of limits.now.line before)
+        → line.now ≡ line_of limits.now.line (length before + 1) text
         → OnOk result (stop_at limits.now before text ≡ None) }
-    ensures halts { (before : List (List ℕ)) (text : List ℕ) → StandsFor limits.now stage.old (calls_of limits.now.line before) → line.now ≡ line_of limits.now.line (length before + 1) text
+    ensures halts { (before : List (List ℕ)) (text : List ℕ)
+        → StandsFor limits.now stage.old (calls_of limits.now.line before)
+        → line.now ≡ line_of limits.now.line (length before + 1) text
         → IfErr result (IsDueHalt (stop_at limits.now before text)) }
     ensures causes { IfErr result (HasCauses ⊥ ⊥) }
 {
@@ -36,7 +42,8 @@ fn take_line(stage: &mut Stage, limits: &Limits, line: &Line) -> Result<(), Halt
 
 // What a line says. A line that is too long is passed over, like other malformed ones.
 fn said_in(line: &Line, limits: &Limits) -> Said
-    ensures { (number : ℕ) (text : List ℕ) → line.now ≡ line_of limits.now.line number text → result ≡ said_of limits.now.line text }
+    ensures { (number : ℕ) (text : List ℕ) → line.now ≡ line_of limits.now.line number text
+        → result ≡ said_of limits.now.line text }
 {
     if line.long {
         return Said::PassedOver;
@@ -55,8 +62,10 @@ fn take_next(
     ensures within { IfOk result (λ n. n ≤ length piece.now) }
     ensures some { IfOk result (λ n. 0 < length piece.now → 0 < n) }
     ensures lines { IfOk result (λ n. cut.new.lines ≤ cut.old.lines + n) }
-    ensures at { (history : History) → IsAt limits.now cut.old stage.old history → IfOk result (λ n. IsAt limits.now cut.new stage.new (with_bytes history (take n piece.now))) }
-    ensures halts { (history : History) → IsAt limits.now cut.old stage.old history → IfErr result (IsDueHalt (first_stop limits.now (newest_lines (with_bytes history piece.now)))) }
+    ensures at { (history : History) → IsAt limits.now cut.old stage.old history
+        → IfOk result (λ n. IsAt limits.now cut.new stage.new (with_bytes history (take n piece.now))) }
+    ensures halts { (history : History) → IsAt limits.now cut.old stage.old history
+        → IfErr result (IsDueHalt (first_stop limits.now (newest_lines (with_bytes history piece.now)))) }
     ensures causes { IfErr result (HasCauses ⊥ ⊥) }
 {
     lines_stay();
@@ -79,8 +88,10 @@ pub fn take_piece(
 ) -> Result<(), Halt>
     requires { cut.old.lines + length piece.now < 2 ^ 61 }
     ensures lines { OnOk result (cut.new.lines ≤ cut.old.lines + length piece.now) }
-    ensures at { (history : History) → IsAt limits.now cut.old stage.old history → OnOk result (IsAt limits.now cut.new stage.new (with_bytes history piece.now)) }
-    ensures halts { (history : History) → IsAt limits.now cut.old stage.old history → IfErr result (IsDueHalt (first_stop limits.now (newest_lines (with_bytes history piece.now)))) }
+    ensures at { (history : History) → IsAt limits.now cut.old stage.old history
+        → OnOk result (IsAt limits.now cut.new stage.new (with_bytes history piece.now)) }
+    ensures halts { (history : History) → IsAt limits.now cut.old stage.old history
+        → IfErr result (IsDueHalt (first_stop limits.now (newest_lines (with_bytes history piece.now)))) }
     ensures causes { IfErr result (HasCauses ⊥ ⊥) }
 {
     let mut at = 0;
@@ -93,8 +104,10 @@ pub fn take_piece(
 /// Takes the last line, where bytes stand after the last line feed.
 pub fn take_end(cut: &mut LineCut, stage: &mut Stage, limits: &Limits) -> Result<(), Halt>
     requires { cut.old.lines < 2 ^ 61 }
-    ensures at { (history : History) → IsAt limits.now cut.old stage.old history → OnOk result (IsAt limits.now cut.new stage.new (history ++ Settle ∷ [])) }
-    ensures halts { (history : History) → IsAt limits.now cut.old stage.old history → IfErr result (IsDueHalt (first_stop limits.now (newest_lines (history ++ Settle ∷ [])))) }
+    ensures at { (history : History) → IsAt limits.now cut.old stage.old history
+        → OnOk result (IsAt limits.now cut.new stage.new (history ++ Settle ∷ [])) }
+    ensures halts { (history : History) → IsAt limits.now cut.old stage.old history
+        → IfErr result (IsDueHalt (first_stop limits.now (newest_lines (history ++ Settle ∷ [])))) }
     ensures causes { IfErr result (HasCauses ⊥ ⊥) }
 {
     match cut.finish() {
