@@ -6,11 +6,10 @@ use std::alloc::Global;
 use std::test::Fail;
 
 fn small() -> Limits {
-    Limits {
-        entities: 2,
-        names: 2,
-        ..Limits::standard()
-    }
+    let mut limits = Limits::standard();
+    limits.entities = 2;
+    limits.names = 2;
+    limits
 }
 
 fn process(pid: u32) -> Key {
