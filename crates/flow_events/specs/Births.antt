@@ -1,0 +1,24 @@
+-- The table of births, and what it stands for. Every list of acts has the newest first.
+use Rattle.std.specs.Prelude.{◌≡◌, ◌<◌, ℕ, List, unwrap_or}
+use Rattle.std.specs.Map.{lookup}
+use Rattle.flow_base.specs.declared.types.FileId.{FileId}
+use Rattle.flow_base.specs.contracts.types.FileIdPartialEq.TheImpl.{ghosts}
+use Rattle.acts.specs.declared.act.Act.{Act}
+use Rattle.acts.specs.Births.{born}
+
+-- how often each file number was born, and the room for more numbers
+pub record Table : Type 0 where
+  pub all : List (FileId × ℕ)
+  pub spare : ℕ
+
+-- a number that is not in the table was never born
+abbrev pub born_at : Table → FileId → ℕ
+born_at table id = unwrap_or (lookup (ghosts.eq id) table.all) 0
+
+-- each number has in the table the births that the acts have
+pub record BornAs (table : Table) (acts : List Act) : Type 0 where
+  pub each : (id : FileId) → born_at table id ≡ born acts id
+
+-- no number has so many births
+abbrev pub BornBelow : Table → ℕ → Type 0
+BornBelow table most = (id : FileId) → born_at table id < most

@@ -1,0 +1,27 @@
+-- What a change of descriptors does.
+use Rattle.std.specs.Prelude.{◌==◌, ◌||◌, ℕ, List, length, if◌then◌else◌, Option, None, Some}
+use Rattle.acts.specs.declared.held.Held.{Held}
+use Rattle.acts.specs.declared.held.Object.TheVariants.{Pipe}
+use Rattle.acts.specs.Holding.{is_at, marked, unless_marked}
+use Rattle.fd_table.specs.Table.{entry_at}
+use Rattle.flow_events.specs.declared.change.Change.{Change}
+use Rattle.flow_events.specs.declared.change.Change.TheVariants.{Nothing, Set, Pair, Close, Mark, Exec, Clear, Give}
+
+-- what descriptor n of p holds after the change, where before it descriptors held what `held` says
+abbrev pub changed : Change → (ℕ → ℕ → Option Held) → ℕ → ℕ → Option Held
+changed Nothing held p n = held p n
+changed (Set pid fd what) held p n = if is_at pid fd p n then Some what else held p n
+changed (Pair pid first second act cloexec) held p n =
+    if is_at pid first p n || is_at pid second p n then Some (record { object = Pipe act; cloexec = cloexec }) else held p n
+changed (Close pid fd) held p n = if is_at pid fd p n then None else held p n
+changed (Mark pid fd cloexec) held p n = if is_at pid fd p n then marked cloexec (held p n) else held p n
+changed (Exec pid) held p n = if pid == p then unless_marked (held p n) else held p n
+changed (Clear pid) held p n = if pid == p then None else held p n
+changed (Give pid entries) held p n = if pid == p then entry_at entries n else held p n
+
+-- how many descriptors a change may add
+abbrev pub need : Change → ℕ
+need (Set pid fd what) = 1
+need (Pair pid first second act cloexec) = 2
+need (Give pid entries) = length entries
+need other = 0

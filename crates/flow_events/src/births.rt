@@ -1,0 +1,87 @@
+//! How often each file number was born.
+ghost use Rattle.std.specs.Prelude.{◌≡◌, ◌≤◌, ◌<◌, ◌+◌, ◌-◌, ◌^◌, ◌∷◌, [], List, OnOk, if◌then◌else◌};
+ghost use Rattle.flow_base.specs.declared.types.FileId.{FileId};
+ghost use Rattle.acts.specs.declared.act.Act.{Act};
+ghost use Rattle.acts.specs.Births.{same_file};
+ghost use Rattle.flow_events.specs.Births.{BornAs, born_at, BornBelow};
+
+use acts::Act;
+use flow_base::{FileId, NoMemory, equal_files_are_one};
+use indexmap::IndexMap;
+use std::alloc::Global;
+use std::marker::Model;
+
+/// How often each file number was born.
+#[derive(Drop)]
+pub struct Births {
+    counts: IndexMap<FileId, u64>,
+}
+
+impl Model for Births {
+    ghost use Rattle.flow_events.specs.Births.{Table};
+    ghost use Rattle.indexmap.specs.IndexMap as index;
+
+    ghost Value = { Table };
+
+    ghost view = { λ a. record { all = a.counts.entries; spare = index.spare a.counts } };
+}
+
+impl Births {
+    /// No file was born.
+    pub fn new(alloc: Global) -> Births
+        ensures { BornAs result [] }
+    {
+        Births {
+            counts: IndexMap::new(alloc),
+        }
+    }
+
+    /// Makes the room at least `more`.
+    pub fn reserve(&mut self, more: usize) -> Result<(), NoMemory>
+        ensures same { self.new.all ≡ self.old.all }
+        ensures ok { OnOk result (more ≤ self.new.spare) }
+        ensures spare { self.old.spare ≤ self.new.spare }
+    {
+        self.counts.reserve(more)?;
+        Ok(())
+    }
+
+    /// How often a file number was born.
+    pub fn count(&self, id: FileId) -> u64
+        ensures { result ≡ born_at self.now id }
+    {
+        match self.counts.get(&id) {
+            Some(count) => *count,
+            None => 0,
+        }
+    }
+
+    /// A file with this number was born. It takes no memory.
+    fn add(&mut self, id: FileId)
+        requires room { 1 ≤ self.old.spare }
+        requires fits { born_at self.old id < 2 ^ 64 - 1 }
+        ensures added { (f : FileId) → born_at self.new f ≡ (if same_file id f then born_at self.old f + 1 else born_at self.old f) }
+        ensures spare { self.old.spare ≤ self.new.spare + 1 }
+    {
+        equal_files_are_one();
+        let count = self.count(id) + 1;
+        match self.counts.insert(id, count) {
+            Ok(_) => {}
+            Err(_) => unreachable!(),
+        }
+    }
+
+    /// What an act does to births. It takes no memory.
+    pub fn act(&mut self, act: &Act)
+        requires room { 1 ≤ self.old.spare }
+        requires few { BornBelow self.old (2 ^ 64 - 1) }
+        ensures next { (acts : List Act) → BornAs self.old acts → BornAs self.new (act.now ∷ acts) }
+        ensures spare { self.old.spare ≤ self.new.spare + 1 }
+    {
+        if let Act::Birth { file } = act {
+            if let Some(id) = file.file {
+                self.add(id);
+            }
+        }
+    }
+}

@@ -1,0 +1,11 @@
+//! Flows from events, by tables of lives, descriptors, addresses, births and objects.
+//!
+//! An event is prepared first, which takes all the memory that it needs, and then applied, which cannot fail.
+#![tactic(auto)]
+
+mod births;
+mod change;
+mod lives;
+
+pub use births::Births;
+pub use change::Change;
