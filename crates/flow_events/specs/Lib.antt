@@ -1,3 +1,5 @@
 pub mod Births
 pub mod Changes
+pub mod Entering
 pub mod Lives
+pub mod Standing

@@ -5,7 +5,14 @@
 
 mod births;
 mod change;
+mod given;
 mod lives;
+mod passes;
+mod plan;
+mod tables;
 
 pub use births::Births;
 pub use change::Change;
+pub use given::Given;
+pub use plan::{NewAddress, Plan};
+pub use tables::Tables;

@@ -1,0 +1,34 @@
+-- Lives and births are numbered below the number of acts.
+use Rattle.std.proofs.Common.{◌≡◌, ◌≤◌, ◌<◌, ◌+◌, ◌∙◌, sym, ap, ℕ, Bool, true, false, List, [], ◌∷◌, length, Option, Some, None, if◌then◌else◌, arith}
+use Rattle.std.specs.Prelude.{IfSome}
+use Rattle.std.proofs.lemmas.Grind.{common_steps}
+use Rattle.flow_base.specs.declared.types.FileId.{FileId}
+use Rattle.acts.specs.declared.act.Act.{Act}
+use Rattle.acts.specs.Lives.{beginnings}
+use Rattle.acts.specs.Births.{born, is_birth_of}
+use Rattle.proc_table.specs.declared.life.Life.{Life}
+use Rattle.proc_table.specs.Table.{Table, StandsFor, standing_of, at}
+use Rattle.flow_events.specs.Births.{Table as Counts, BornAs, BornBelow}
+use Rattle.flow_events.specs.Lives.{LivesBelow}
+
+one_below : (life : Option Life) (n most : ℕ) → (standing_of life).beginnings ≡ n → n ≤ most → IfSome life (λ last. last.life < most)
+one_below None n most is few = tt
+one_below (Some last) n most is few = let e : last.life + 1 ≡ n = is in omega (arith, e, few)
+
+-- after fewer acts than these no life has so great a number
+pub lives_below : (table : Table) (acts : List Act) (most : ℕ) → ((acts : List Act) (p : ℕ) → beginnings acts p ≤ length acts) → StandsFor table acts → length acts ≤ most → LivesBelow table most
+lives_below table acts most few stands below = λ p.
+    one_below (at table p) (beginnings acts p) most (ap (λ s. s.beginnings) (stands.each p)) (let h = few acts p in omega (arith, h, below))
+
+one_more : (b : Bool) (n m : ℕ) → n ≤ m → (if b then n + 1 else n) ≤ m + 1
+one_more true n m few = omega (arith, few)
+one_more false n m few = omega (arith, few)
+
+-- no file is born more often than there are acts
+births_are_acts : (acts : List Act) (id : FileId) → born acts id ≤ length acts
+births_are_acts [] id = omega arith
+births_are_acts (act ∷ before) id = let h = one_more (is_birth_of act id) (born before id) (length before) (births_are_acts before id) in grind (arith, common_steps, h)
+
+-- after fewer acts than these no file has so many births
+pub born_below : (table : Counts) (acts : List Act) (most : ℕ) → BornAs table acts → length acts < most → BornBelow table most
+born_below table acts most stands below = λ id. let e = stands.each id in let h = births_are_acts acts id in grind (arith, e, h, below)

@@ -1,0 +1,65 @@
+-- What the tables stand for, and what a plan does to them. Every list of acts has the newest first.
+use Rattle.std.specs.Prelude.{◌≡◌, ◌==◌, ◌≤◌, ◌<◌, ◌+◌, ◌-◌, ◌++◌, ◌^◌, ℕ, List, length, reverse, if◌then◌else◌, Option, None, Some}
+use Rattle.acts.specs.declared.act.Act.{Act}
+use Rattle.acts.specs.declared.act.Taken.{Taken}
+use Rattle.acts.specs.Holding.{holds, address_of}
+use Rattle.acts.specs.Keys.{all_given}
+use Rattle.acts.specs.Flows.{acts_of, objects, flows}
+use Rattle.proc_table.specs.Table.{StandsFor as LivesAs}
+use Rattle.fd_table.specs.Table.{HoldsAs, AddressesAs}
+use Rattle.entity_names.specs.Known.{NamesAs}
+use Rattle.flow_events.specs.declared.plan.NewAddress.{NewAddress}
+use Rattle.flow_events.specs.declared.plan.Plan.{Plan}
+use Rattle.flow_events.specs.declared.tables.Tables.{Tables}
+use Rattle.flow_events.specs.Births.{BornAs}
+use Rattle.flow_events.specs.Changes.{changed, need}
+use Rattle.flow_events.specs.Entering.{Covers, entered, pairs_of}
+
+-- the tables say what these acts say, where an address has this text
+pub record StandsFor (address_text : List ℕ → List ℕ) (tables : Tables) (taken : List Taken) : Type 0 where
+  pub lives_are : LivesAs tables.procs (acts_of taken)
+  pub held_are : HoldsAs tables.fds (acts_of taken)
+  pub addresses_are : AddressesAs tables.fds (acts_of taken)
+  pub births_are : BornAs tables.births (acts_of taken)
+  pub objects_are : tables.entities.keys ≡ objects (acts_of taken)
+  pub names_are : NamesAs tables.entities (all_given address_text (acts_of taken))
+  pub flows_are : tables.flows ≡ length (flows taken)
+  pub acts_are : tables.acts ≡ length taken
+
+-- the address of socket s, where one socket has a new one
+abbrev pub readdressed : Option NewAddress → (ℕ → Option (List ℕ)) → ℕ → Option (List ℕ)
+readdressed None addresses s = addresses s
+readdressed (Some new) addresses s = if s == new.socket then Some new.bytes else addresses s
+
+-- how many addresses are new
+abbrev pub addresses_in : Option NewAddress → ℕ
+addresses_in None = 0
+addresses_in (Some new) = 1
+
+-- the plan does what these acts do after those before
+pub record IsPlanOf (address_text : List ℕ → List ℕ) (plan : Plan) (before now : List Taken) : Type 0 where
+  pub acts_are : acts_of (now ++ before) ≡ reverse plan.acts ++ acts_of before
+  pub held_are : (p n : ℕ) → holds (acts_of (now ++ before)) p n ≡ changed plan.last (changed plan.see (holds (acts_of before))) p n
+  pub addresses_are : (s : ℕ) → address_of (acts_of (now ++ before)) s ≡ readdressed plan.address (address_of (acts_of before)) s
+  pub names_are : all_given address_text (acts_of (now ++ before)) ≡ all_given address_text (acts_of before) ++ pairs_of plan.given
+  pub objects_are : objects (acts_of (now ++ before)) ≡ entered (objects (acts_of before)) plan.keys
+  pub flows_are : flows (now ++ before) ≡ flows before ++ plan.flows
+  pub count_is : length (now ++ before) ≡ length before + length plan.acts
+
+-- there is room in the tables for all that the plan does
+pub record IsReady (tables : Tables) (plan : Plan) : Type 0 where
+  pub lives : length plan.acts ≤ tables.procs.spare
+  pub births : length plan.acts ≤ tables.births.spare
+  pub held : need plan.see + need plan.last ≤ tables.fds.spare
+  pub addresses : addresses_in plan.address ≤ tables.fds.address_spare
+  pub names : Covers tables.entities plan.given
+  pub keys : length plan.keys ≤ tables.entities.spare
+  pub objects_fit : length (entered tables.entities.keys plan.keys) ≤ tables.entities.limit
+  pub flows_fit : tables.flows + length plan.flows < 2 ^ 64
+  pub acts_fit : tables.acts + length plan.acts < 2 ^ 64 - 1
+
+-- the tables stand for some acts
+pub record Stands (tables : Tables) : Type 0 where
+  pub text : List ℕ → List ℕ
+  pub taken : List Taken
+  pub stands : StandsFor text tables taken

@@ -1,0 +1,46 @@
+//! What an event will do, with all the memory for it.
+ghost use Rattle.std.specs.Prelude.{◌≡◌, ◌≤◌, ◌+◌, ℕ};
+ghost use Rattle.fd_table.specs.Table.{address_at};
+ghost use Rattle.flow_events.specs.Standing.{readdressed, addresses_in};
+
+use crate::change::Change;
+use crate::given::Given;
+use acts::Act;
+use fd_table::Fds;
+use flow_base::{Bytes, Flow, Key, List};
+
+/// A socket, by the act that made it, with its new address.
+#[derive(Drop)]
+pub struct NewAddress {
+    pub socket: u64,
+    pub bytes: Bytes,
+}
+
+/// What an event will do to the tables.
+#[derive(Drop)]
+pub struct Plan {
+    /// The acts, the oldest first.
+    pub acts: List<Act>,
+    /// What the first act does to descriptors.
+    pub see: Change,
+    /// What the last act does to descriptors.
+    pub last: Change,
+    pub address: Option<NewAddress>,
+    /// The names that the acts give, the newest first.
+    pub given: List<Given>,
+    /// The objects that are new, the newest first.
+    pub keys: List<Key>,
+    pub flows: List<Flow>,
+    pub unmapped: bool,
+}
+
+/// Gives a socket its new address, where there is one. It takes no memory.
+pub fn readdress(fds: &mut Fds, address: Option<NewAddress>)
+    requires room { addresses_in address ≤ fds.old.address_spare }
+    ensures addresses { (s : ℕ) → address_at fds.new s ≡ readdressed address (address_at fds.old) s }
+    ensures held { fds.new.held ≡ fds.old.held }
+{
+    if let Some(new) = address {
+        fds.set_address(new.socket, new.bytes);
+    }
+}

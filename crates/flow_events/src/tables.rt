@@ -1,0 +1,97 @@
+//! The tables of all that acts are about.
+ghost use Rattle.std.specs.Prelude.{◌≡◌, ◌++◌, ℕ, [], List, length};
+ghost use Rattle.acts.specs.declared.act.Taken.{Taken};
+ghost use Rattle.acts.specs.Keys.{all_given};
+ghost use Rattle.acts.specs.Flows.{acts_of, objects, flows};
+ghost use Rattle.entity_names.specs.Known.{NamesAs};
+ghost use Rattle.flow_events.specs.Standing.{StandsFor, Stands, IsPlanOf, IsReady};
+
+use crate::births::Births;
+use crate::change::make_change;
+use crate::passes::{bear_through, enter_all, give_all, live_through};
+use crate::plan::{Plan, readdress};
+use entity_names::Entities;
+use fd_table::Fds;
+use flow_base::{Flow, Limits, List};
+use proc_table::Procs;
+use std::alloc::Global;
+
+/// Lives, descriptors with addresses, births, and objects with names, after the acts so far.
+#[derive(Drop)]
+pub struct Tables {
+    procs: Procs,
+    fds: Fds,
+    births: Births,
+    entities: Entities,
+    flows: u64,
+    most_flows: u64,
+    acts: u64,
+}
+
+impl Tables {
+    /// No acts.
+    pub fn new(alloc: Global, limits: &Limits) -> Tables
+        ensures { (text : List ℕ → List ℕ) → StandsFor text result [] }
+    {
+        Tables {
+            procs: Procs::new(alloc),
+            fds: Fds::new(alloc),
+            births: Births::new(alloc),
+            entities: Entities::new(alloc, limits),
+            flows: 0,
+            most_flows: limits.flows,
+            acts: 0,
+        }
+    }
+
+    /// The objects by number, and the names of keys.
+    pub fn entities(&self) -> &Entities
+        ensures objects { (text : List ℕ → List ℕ) (taken : List Taken) → StandsFor text self.now taken → result.now.keys ≡ objects (acts_of taken) }
+        ensures names { (text : List ℕ → List ℕ) (taken : List Taken) → StandsFor text self.now taken → NamesAs result.now (all_given text (acts_of taken)) }
+    {
+        &self.entities
+    }
+
+    /// How many flows there were.
+    pub fn flows(&self) -> u64
+        ensures { (text : List ℕ → List ℕ) (taken : List Taken) → StandsFor text self.now taken → result ≡ length (flows taken) }
+    {
+        self.flows
+    }
+
+    /// How many acts there were.
+    pub fn acts(&self) -> u64
+        ensures { (text : List ℕ → List ℕ) (taken : List Taken) → StandsFor text self.now taken → result ≡ length taken }
+    {
+        self.acts
+    }
+
+    /// Does what was planned, and gives its flows. It takes no memory.
+    pub fn apply(&mut self, plan: Plan) -> List<Flow>
+        requires ready { IsReady self.old plan }
+        requires stands { Stands self.old }
+        ensures next { (text : List ℕ → List ℕ) (before now : List Taken) → StandsFor text self.old before → IsPlanOf text plan before now → StandsFor text self.new (now ++ before) }
+        ensures flows { (text : List ℕ → List ℕ) (before now : List Taken) → IsPlanOf text plan before now → flows (now ++ before) ≡ flows before ++ result }
+    {
+        let Plan {
+            acts,
+            see,
+            last,
+            address,
+            given,
+            keys,
+            flows,
+            unmapped: _,
+        } = plan;
+        live_through(&mut self.procs, acts.as_slice());
+        bear_through(&mut self.births, acts.as_slice());
+        make_change(&mut self.fds, see);
+        make_change(&mut self.fds, last);
+        readdress(&mut self.fds, address);
+        give_all(&mut self.entities, given);
+        enter_all(&mut self.entities, keys);
+        self.flows += flows.as_slice().len() as u64;
+        self.acts += acts.as_slice().len() as u64;
+        flows
+    }
+}
