@@ -1,0 +1,34 @@
+use Rattle.std.proofs.Common.{◌≡◌, ◌+◌, ◌++◌, ◌∙◌, ap, sym, subst, length, length-append, reverse}
+use Rattle.acts.specs.Keys.{all_given}
+use Rattle.acts.specs.Flows.{acts_of, flows}
+use Rattle.proc_table.specs.Table.{StandsFor as LivesAs}
+use Rattle.entity_names.specs.Known.{NamesAs}
+use Rattle.flow_events.specs.Births.{BornAs}
+use Rattle.flow_events.specs.Entering.{entered}
+use Rattle.flow_events.proofs.Applying.{held_after, addresses_after, names_kept}
+use Rattle.flow_events.proofs.tables.Tables.apply.Goals as goal
+
+pub returns-clause-next : goal.returns-clause-next
+returns-clause-next c = λ text before now stands plan.
+    let old = c.args.self.now in
+    let done = c.args.plan in
+    let mid = c.give_all.new.entities in
+    record {
+      lives_are = subst (λ acts. LivesAs c.live_through.new.procs acts)
+          (ap (λ acts. reverse acts ++ acts_of before) c.as_slice.ensures ∙ sym plan.acts_are)
+          (c.live_through.ensures.next (acts_of before) stands.lives_are);
+      held_are = held_after old.fds c.make_change.new.fds c.make_change-2.new.fds c.readdress.new.fds done.see done.last (acts_of before) (acts_of (now ++ before))
+          stands.held_are c.make_change.ensures.held c.make_change-2.ensures.held c.readdress.ensures.held plan.held_are;
+      addresses_are = addresses_after old.fds c.make_change.new.fds c.make_change-2.new.fds c.readdress.new.fds done.address (acts_of before) (acts_of (now ++ before))
+          stands.addresses_are c.make_change.ensures.addresses c.make_change-2.ensures.addresses c.readdress.ensures.addresses plan.addresses_are;
+      births_are = subst (λ acts. BornAs c.bear_through.new.births acts)
+          (ap (λ acts. reverse acts ++ acts_of before) c.as_slice-2.ensures ∙ sym plan.acts_are)
+          (c.bear_through.ensures.next (acts_of before) stands.births_are);
+      objects_are = c.enter_all.ensures.keys
+          ∙ ap (λ seen. entered seen done.keys) (ap (λ e. e.keys) c.give_all.ensures.rest ∙ stands.objects_are)
+          ∙ sym plan.objects_are;
+      names_are = subst (λ all. NamesAs c.enter_all.new.entities all) (sym plan.names_are)
+          (names_kept mid c.enter_all.new.entities _ c.enter_all.ensures.rest (c.give_all.ensures.next (all_given text (acts_of before)) stands.names_are));
+      flows_are = (λ i. stands.flows_are i + ap length c.as_slice-3.ensures i) ∙ sym (length-append (flows before) done.flows) ∙ ap length (sym plan.flows_are);
+      acts_are = (λ i. stands.acts_are i + ap length c.as_slice-4.ensures i) ∙ sym plan.count_is;
+    }
