@@ -1,14 +1,14 @@
 -- One more piece of a joined text.
 use Rattle.std.proofs.Common.{◌≡◌, ℕ, ◌+◌, ◌<◌, ◌≤◌, List, [], ◌∷◌, ◌++◌, length, take, map, get_or, refl, sym, ap, ◌∙◌, append_assoc, zero, suc, arith, length-take, Bor}
 use Rattle.std.specs.List.{join_with_byte}
-use Rattle.std.proofs.lemmas.List.{take_more, map_more, append-nil, length-map}
+use Rattle.std.proofs.lemmas.List.{map_more, append-nil, length-map}
 
 join_with_byte-more : (c : ℕ) (first : List ℕ) (rest : List (List ℕ)) (p : List ℕ) → join_with_byte c ((first ∷ rest) ++ p ∷ []) ≡ join_with_byte c (first ∷ rest) ++ c ∷ p
 join_with_byte-more c first [] p = refl
 join_with_byte-more c first (next ∷ rest) p =
     ap (λ t. first ++ (c ∷ t)) (join_with_byte-more c next rest p) ∙ sym (append_assoc first (c ∷ join_with_byte c (next ∷ rest)) (c ∷ p))
 
-join_with_byte-put : (c : ℕ) (pieces : List (List ℕ)) (p : List ℕ) → 0 < length pieces → join_with_byte c (pieces ++ p ∷ []) ≡ join_with_byte c pieces ++ c ∷ p
+pub join_with_byte-put : (c : ℕ) (pieces : List (List ℕ)) (p : List ℕ) → 0 < length pieces → join_with_byte c (pieces ++ p ∷ []) ≡ join_with_byte c pieces ++ c ∷ p
 join_with_byte-put c [] p some = absurd (omega arith)
 join_with_byte-put c (first ∷ rest) p some = join_with_byte-more c first rest p
 

@@ -1,2 +1,5 @@
 pub mod PartLemmas
 pub mod JoinLemmas
+pub mod PlaceLemmas
+pub mod GroupLemmas
+pub mod HalfLemmas

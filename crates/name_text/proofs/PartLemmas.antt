@@ -1,8 +1,7 @@
 -- How the kept parts of a path change when a part is put behind them.
-use Rattle.std.proofs.Common.{◌≡◌, ℕ, ◌+◌, ◌-◌, ◌<◌, ◌≤◌, List, [], ◌∷◌, ◌++◌, length, take, map, Bool, true, false, not, ◌&&◌, if◌then◌else◌, refl, sym, ap, ◌∙◌, append_assoc, arith, Option, Some, slice_get, get_or, Bor, filter, codes, cond}
+use Rattle.std.proofs.Common.{◌≡◌, ℕ, ◌-◌, ◌<◌, ◌≤◌, List, [], ◌∷◌, ◌++◌, length, take, map, Bool, true, false, not, ◌&&◌, if◌then◌else◌, refl, sym, ap, ◌∙◌, append_assoc, arith, Some, slice_get, Bor, filter, codes, cond}
 use Rattle.std.specs.List.{slice_split, onto_first}
 use Rattle.std.proofs.lemmas.List.Splits.{length-slice_split}
-use Rattle.std.specs.Str.{bytes_eq}
 use Rattle.std.proofs.lemmas.Slice.Eq.{bytes_eq-Decides}
 use Rattle.std.proofs.lemmas.List.Elements.{filter-append}
 use Rattle.std.proofs.lemmas.Grind.{common_steps}
@@ -68,7 +67,6 @@ below_root-name (x ∷ xs) p h = ap (λ r. if is_up x then r else x ∷ xs ++ p 
 below_root-up_one : (x : List ℕ) (a : Bool) (up : List ℕ) → is_up up ≡ true → is_up x ≡ a → below_root (with_up (x ∷ []) up) ≡ with_up_at true (below_root (x ∷ [])) up
 below_root-up_one x true up h e = rw e (rw (e, h) refl)
 below_root-up_one x false up h e = rw e (rw e refl)
-
 
 below_root-up_by : (c : Bool) (x n : List ℕ) (rest : List (List ℕ)) (up : List ℕ) → below_root (with_up (n ∷ rest) up) ≡ with_up_at true (below_root (n ∷ rest)) up
     → (if c then below_root (with_up (n ∷ rest) up) else x ∷ with_up (n ∷ rest) up) ≡ with_up_at true (if c then below_root (n ∷ rest) else x ∷ n ∷ rest) up

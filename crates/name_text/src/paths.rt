@@ -40,12 +40,7 @@ fn tidy(alloc: Global, path: &[u8], limit: usize) -> Result<Bytes, NoMemory>
 }
 
 // The same of a path that is given as what stands before a slash, and what stands behind it.
-fn tidy_behind(
-    alloc: Global,
-    front: &[u8],
-    name: &[u8],
-    limit: usize,
-) -> Result<Bytes, NoMemory>
+fn tidy_behind(alloc: Global, front: &[u8], name: &[u8], limit: usize) -> Result<Bytes, NoMemory>
     ensures { IfOk result (λ made. made ≡ take limit (tidied (front.now ++ 47 ∷ name.now))) }
 {
     let absolute = is_root_in_front(front);
@@ -84,11 +79,7 @@ fn put_parts<'a>(
 }
 
 // Puts one part behind the kept ones.
-fn put_part<'a>(
-    parts: &mut Vec<&'a [u8]>,
-    part: &'a [u8],
-    absolute: bool,
-) -> Result<(), AllocError>
+fn put_part<'a>(parts: &mut Vec<&'a [u8]>, part: &'a [u8], absolute: bool) -> Result<(), AllocError>
     ensures { OnOk result (Gains absolute (map (λ p. p.now) parts.old.items) (map (λ p. p.now) parts.new.items) (part.now ∷ [])) }
 {
     if is_up(part) {
@@ -107,11 +98,7 @@ fn is_named(part: &[u8]) -> bool
 }
 
 // Puts a `..` behind the kept parts.
-fn put_up<'a>(
-    parts: &mut Vec<&'a [u8]>,
-    up: &'a [u8],
-    absolute: bool,
-) -> Result<(), AllocError>
+fn put_up<'a>(parts: &mut Vec<&'a [u8]>, up: &'a [u8], absolute: bool) -> Result<(), AllocError>
     requires { paths.is_up up.now ≡ true }
     ensures { OnOk result (Gains absolute (map (λ p. p.now) parts.old.items) (map (λ p. p.now) parts.new.items) (up.now ∷ [])) }
 {
@@ -133,12 +120,7 @@ fn is_up(part: &[u8]) -> bool
 }
 
 // The text of the parts of a path, as far as its first bytes.
-fn cut_path(
-    alloc: Global,
-    parts: &[&[u8]],
-    absolute: bool,
-    limit: usize,
-) -> Result<Bytes, NoMemory>
+fn cut_path(alloc: Global, parts: &[&[u8]], absolute: bool, limit: usize) -> Result<Bytes, NoMemory>
     ensures { IfOk result (λ path. path ≡ take limit (path_of absolute (map (λ p. p.now) parts.now))) }
 {
     let mut path = Vec::new(alloc);

@@ -1,4 +1,4 @@
-use Rattle.std.proofs.Common.{◌≡◌, ap, map, ◌∙◌, sym, List, [], ◌∷◌}
+use Rattle.std.proofs.Common.{ap, map, ◌∙◌, sym, [], ◌∷◌}
 use Rattle.std.proofs.lemmas.List.{map-append}
 use Rattle.name_text.proofs.PartLemmas.{gains_name, now}
 use Rattle.name_text.proofs.paths.put_part.Goals as goal

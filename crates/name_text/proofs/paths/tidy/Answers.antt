@@ -1,5 +1,4 @@
 use Rattle.std.proofs.Common.{◌≡◌, ap, map, ◌∙◌, [], take, IfOk, subst}
-use Rattle.name_text.specs.Paths.{tidied}
 use Rattle.name_text.proofs.PartLemmas.{begun, tidied_is, now}
 use Rattle.name_text.proofs.paths.tidy.Goals as goal
 

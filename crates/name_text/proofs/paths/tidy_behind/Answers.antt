@@ -1,6 +1,6 @@
 use Rattle.std.proofs.Common.{◌≡◌, ap, map, ◌∙◌, [], ◌∷◌, ◌++◌, take, IfOk, subst}
 use Rattle.std.specs.List.{slice_split}
-use Rattle.name_text.specs.Paths.{kept, is_slash, tidied}
+use Rattle.name_text.specs.Paths.{kept, is_slash}
 use Rattle.name_text.proofs.PartLemmas.{begun, gains_both, parts_of-both, tidied_is, now}
 use Rattle.name_text.proofs.paths.tidy_behind.Goals as goal
 
