@@ -1,5 +1,5 @@
 -- Lives and births are numbered below the number of acts.
-use Rattle.std.proofs.Common.{◌≡◌, ◌≤◌, ◌<◌, ◌+◌, ◌∙◌, sym, ap, ℕ, Bool, true, false, List, [], ◌∷◌, length, Option, Some, None, if◌then◌else◌, arith}
+use Rattle.std.proofs.Common.{◌≡◌, ◌≤◌, ◌<◌, ◌+◌, ◌++◌, ◌∙◌, sym, ap, ℕ, Bool, true, false, List, [], ◌∷◌, length, Option, Some, None, if◌then◌else◌, arith}
 use Rattle.std.specs.Prelude.{IfSome}
 use Rattle.std.proofs.lemmas.Grind.{common_steps}
 use Rattle.flow_base.specs.declared.types.FileId.{FileId}
@@ -32,3 +32,12 @@ births_are_acts (act ∷ before) id = let h = one_more (is_birth_of act id) (bor
 -- after fewer acts than these no file has so many births
 pub born_below : (table : Counts) (acts : List Act) (most : ℕ) → BornAs table acts → length acts < most → BornBelow table most
 born_below table acts most stands below = λ id. let e = stands.each id in let h = births_are_acts acts id in grind (arith, e, h, below)
+
+joined_by : (b : Bool) (n m k : ℕ) → n ≡ m + k → (if b then n + 1 else n) ≡ m + (if b then k + 1 else k)
+joined_by true n m k so_far = let e : n + 1 ≡ m + (k + 1) = omega (arith, so_far) in e
+joined_by false n m k so_far = so_far
+
+-- a file is born as often as before the event and in it
+pub born_both : (now before : List Act) (id : FileId) → born (now ++ before) id ≡ born before id + born now id
+born_both [] before id = let e : born before id ≡ born before id + 0 = omega arith in e
+born_both (act ∷ now) before id = joined_by (is_birth_of act id) (born (now ++ before) id) (born before id) (born now id) (born_both now before id)

@@ -3,3 +3,4 @@ pub mod Changes
 pub mod Entering
 pub mod Lives
 pub mod Standing
+pub mod Acting

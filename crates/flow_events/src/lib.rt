@@ -3,6 +3,7 @@
 //! An event is prepared first, which takes all the memory that it needs, and then applied, which cannot fail.
 #![tactic(auto)]
 
+mod acting;
 mod births;
 mod change;
 mod given;
@@ -11,6 +12,7 @@ mod passes;
 mod plan;
 mod tables;
 
+pub use acting::Acting;
 pub use births::Births;
 pub use change::Change;
 pub use given::Given;

@@ -1,0 +1,221 @@
+//! What an event that is under way asks the tables.
+//!
+//! An event sees its process, has births and moves, and then at most one act of another kind. So after its first act
+//! the process is in one life, and holds what one process holds in the tables: itself, or its parent where the see
+//! linked them.
+ghost use Rattle.std.specs.Prelude.{◌≡◌, ◌==◌, ◌<◌, ◌++◌, ◌^◌, ◌-◌, ◌∷◌, ℕ, List, Option, IfOk, false};
+ghost use Rattle.flow_base.specs.declared.types.Key.TheVariants as key;
+ghost use Rattle.acts.specs.declared.act.Act.{Act};
+ghost use Rattle.acts.specs.declared.act.Act.TheVariants as act;
+ghost use Rattle.acts.specs.declared.act.Thing.TheVariants as thing;
+ghost use Rattle.acts.specs.Admitted.{Admitted};
+ghost use Rattle.acts.specs.Lives.{life_of};
+ghost use Rattle.acts.specs.Births.{born, file_key, path_or_none};
+ghost use Rattle.acts.specs.Holding.{holds};
+ghost use Rattle.acts.specs.Keys.{object_key, held_key, thing_key, given};
+ghost use Rattle.acts.specs.Flows.{between, link_of};
+ghost use Rattle.proc_table.specs.Table.{Table, StandsFor};
+ghost use Rattle.fd_table.specs.Table.{AddressesAs, Table as Descriptors};
+ghost use Rattle.flow_events.specs.Lives.{LivesBelow};
+ghost use Rattle.flow_events.specs.Acting.{IsActing, IsBorn, pair_if};
+
+use crate::births::Births;
+use acts::{FileRef, Link, Object, Thing, copy_key, only_live_pids_hold, sees_hand_on};
+use fd_table::Fds;
+use flow_base::{Bytes, FileId, How, Key, NoMemory};
+use proc_table::Procs;
+use std::alloc::Global;
+
+/// The process of an event: its life, and the process whose descriptors it has.
+#[derive(Clone, Copy)]
+pub struct Acting {
+    pub pid: u32,
+    pub life: u64,
+    pub holder: u32,
+}
+
+/// The process once it is seen.
+pub fn see_acting(procs: &Procs, pid: u32, ppid: u32) -> Acting
+    requires few { LivesBelow procs.now (2 ^ 64 - 1) }
+    ensures pid { result.pid ≡ pid }
+    ensures life { (before : List Act) (exe : Option (List ℕ)) → StandsFor procs.now before → life_of (act.See pid ppid exe ∷ before) pid ≡ result.life }
+    ensures held { (before : List Act) (exe : Option (List ℕ)) → StandsFor procs.now before → Admitted before → (n : ℕ) → holds (act.See pid ppid exe ∷ before) pid n ≡ holds before result.holder n }
+{
+    sees_hand_on();
+    only_live_pids_hold();
+    if let Some(life) = procs.life(pid) {
+        return Acting {
+            pid,
+            life,
+            holder: pid,
+        };
+    }
+    let life = match procs.at(pid) {
+        Some(last) => last.life + 1,
+        None => 0,
+    };
+    let is_linked = ppid != pid && procs.life(ppid).is_some();
+    Acting {
+        pid,
+        life,
+        holder: if is_linked { ppid } else { pid },
+    }
+}
+
+/// The link of the see: from its parent, where it begins a life while another pid, the parent, is live.
+pub fn see_link(procs: &Procs, pid: u32, ppid: u32) -> Option<Link>
+    requires few { LivesBelow procs.now (2 ^ 64 - 1) }
+    ensures { (before : List Act) (exe : Option (List ℕ)) → StandsFor procs.now before → result ≡ link_of before (act.See pid ppid exe) }
+{
+    if ppid == pid || procs.life(pid).is_some() {
+        return None;
+    }
+    let parent = procs.life(ppid)?;
+    let life = match procs.at(pid) {
+        Some(last) => last.life + 1,
+        None => 0,
+    };
+    Some(Link {
+        from: Key::Process {
+            pid: ppid,
+            life: parent,
+        },
+        to: Key::Process { pid, life },
+        how: How::Fork,
+    })
+}
+
+// How often a file number was born.
+#[tactic(auto, using(crate::proofs::Numbers::born_both))]
+fn born(births: &Births, fresh: &Births, id: FileId) -> u64
+    requires few { (before now : List Act) × IsBorn births.now fresh.now before now }
+    ensures { (before now : List Act) → IsBorn births.now fresh.now before now → result ≡ born (now ++ before) id }
+{
+    births.count(id) + fresh.count(id)
+}
+
+/// The key of a file.
+pub fn file_key(
+    alloc: Global,
+    births: &Births,
+    fresh: &Births,
+    file: &FileRef,
+) -> Result<Key, NoMemory>
+    requires few { (before now : List Act) × IsBorn births.now fresh.now before now }
+    ensures { (before now : List Act) → IsBorn births.now fresh.now before now → IfOk result (λ made. made ≡ file_key (now ++ before) file.now) }
+{
+    match file.file {
+        Some(id) => Ok(Key::Inode {
+            file: id,
+            born: born(births, fresh, id),
+        }),
+        None => Ok(Key::Path {
+            path: path_or_none(alloc, &file.path)?,
+        }),
+    }
+}
+
+// A copy of the path, or no bytes.
+fn path_or_none(alloc: Global, path: &Option<Bytes>) -> Result<Bytes, NoMemory>
+    ensures { IfOk result (λ made. made ≡ path_or_none path.now) }
+{
+    match path {
+        Some(path) => path.copy(),
+        None => Ok(Bytes::new(alloc)),
+    }
+}
+
+// The key of an object that is held.
+fn object_key(fds: &Fds, object: &Object) -> Result<Key, NoMemory>
+    ensures { (acts : List Act) → AddressesAs fds.now acts → IfOk result (λ made. made ≡ object_key acts object.now) }
+{
+    match object {
+        Object::File(key) => copy_key(key),
+        Object::Pipe(act) => Ok(Key::Made { act: *act }),
+        Object::Sock(act) => match fds.address(*act) {
+            Some(bytes) => Ok(Key::Address {
+                bytes: bytes.copy()?,
+            }),
+            None => Ok(Key::Made { act: *act }),
+        },
+    }
+}
+
+// The key of what a descriptor of the process holds, or of a descriptor of which nothing is known.
+fn held_key(fds: &Fds, acting: &Acting, fd: u32) -> Result<Key, NoMemory>
+    ensures { (procs : Table) (acts : List Act) → IsActing procs fds.now acting.now acts → IfOk result (λ made. made ≡ thing_key acts acting.now.pid (thing.Fd fd)) }
+{
+    match fds.held(acting.holder, fd) {
+        Some(held) => object_key(fds, &held.object),
+        None => Ok(Key::Lost {
+            pid: acting.pid,
+            life: acting.life,
+            fd,
+        }),
+    }
+}
+
+/// The key of a thing that the process names.
+pub fn thing_key(
+    alloc: Global,
+    fds: &Fds,
+    births: &Births,
+    fresh: &Births,
+    acting: &Acting,
+    what: &Thing,
+) -> Result<Key, NoMemory>
+    requires few { (before now : List Act) × IsBorn births.now fresh.now before now }
+    ensures { (procs : Table) (before now : List Act) → IsBorn births.now fresh.now before now → IsActing procs fds.now acting.now (now ++ before) → IfOk result (λ made. made ≡ thing_key (now ++ before) acting.now.pid what.now) }
+{
+    match what {
+        Thing::Fd(fd) => held_key(fds, acting, *fd),
+        Thing::File(file) => file_key(alloc, births, fresh, file),
+        Thing::Address(bytes) => Ok(Key::Address {
+            bytes: bytes.copy()?,
+        }),
+    }
+}
+
+/// Inward is from the thing to the process.
+pub fn between(inward: bool, thing: Key, acting: &Acting, how: How) -> Link
+    ensures { result ≡ between inward thing (key.Process acting.now.pid acting.now.life) how }
+{
+    let process = Key::Process {
+        pid: acting.pid,
+        life: acting.life,
+    };
+    let (from, to) = if inward {
+        (thing, process)
+    } else {
+        (process, thing)
+    };
+    Link { from, to, how }
+}
+
+/// The link of a fork: to the child, unless the child is the caller or had this parent already.
+pub fn fork_link(procs: &Procs, acting: &Acting, child: u32) -> Option<Link>
+    requires few { LivesBelow procs.now (2 ^ 64 - 1) }
+    ensures { (fds : Descriptors) (acts : List Act) → IsActing procs.now fds acting.now acts → result ≡ link_of acts (act.Fork acting.now.pid child) }
+{
+    if child == acting.pid {
+        return None;
+    }
+    let life = match procs.at(child) {
+        None => 0,
+        Some(last) if last.live && last.awaits == Some(acting.pid) => {
+            if last.linked {
+                return None;
+            }
+            last.life
+        }
+        Some(last) => last.life + 1,
+    };
+    Some(Link {
+        from: Key::Process {
+            pid: acting.pid,
+            life: acting.life,
+        },
+        to: Key::Process { pid: child, life },
+        how: How::Fork,
+    })
+}
