@@ -8,7 +8,9 @@ use Rattle.acts.specs.Holding.{holds}
 use Rattle.proc_table.specs.Table.{Table as Procs, standing_of, at}
 use Rattle.fd_table.specs.Table.{Table as Fds, AddressesAs, held_at}
 use Rattle.flow_events.specs.declared.acting.Acting.{Acting}
+use Rattle.flow_events.specs.declared.change.Change.{Change}
 use Rattle.flow_events.specs.declared.given.Given.{Given}
+use Rattle.flow_events.specs.Changes.{changed}
 use Rattle.flow_events.specs.Births.{Table as Births, BornAs, BornBelow}
 use Rattle.flow_events.specs.Entering.{pair_of}
 
@@ -30,3 +32,7 @@ pub record IsBorn (births fresh : Births) (before now : List Act) : Type 0 where
 abbrev pub pair_if : Option Given → List (Key × List ℕ)
 pair_if None = []
 pair_if (Some given) = pair_of given ∷ []
+
+-- the change is what this act does to descriptors after these acts
+abbrev pub DoesAs : Change → List Act → Act → Type 0
+DoesAs change acts act = (p n : ℕ) → holds (act ∷ acts) p n ≡ changed change (holds acts) p n

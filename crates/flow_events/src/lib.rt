@@ -6,6 +6,7 @@
 mod acting;
 mod births;
 mod change;
+mod effects;
 mod given;
 mod lives;
 mod passes;

@@ -1,0 +1,5 @@
+use Rattle.std.proofs.Common.{◌++◌}
+use Rattle.flow_events.proofs.acting.thing_key.Goals as goal
+
+pub returns-in-Fd : goal.returns-in-Fd
+returns-in-Fd c = λ procs before now born acting. c.held_key.ensures procs (now ++ before) acting

@@ -1,0 +1,256 @@
+//! What each act of an event does to descriptors and addresses, and which name it gives.
+ghost use Rattle.std.specs.Prelude.{◌≡◌, ◌==◌, ◌<◌, ◌++◌, ◌^◌, ◌-◌, ◌∷◌, ℕ, List, Option, None, Some, Bool, IfOk, false, length, is_some};
+ghost use Rattle.acts.specs.declared.act.Act.{Act};
+ghost use Rattle.acts.specs.declared.act.Act.TheVariants as act;
+ghost use Rattle.acts.specs.declared.act.Opens.TheVariants as opens;
+ghost use Rattle.acts.specs.declared.act.FileRef.{FileRef};
+ghost use Rattle.acts.specs.Admitted.{Admitted};
+ghost use Rattle.acts.specs.Lives.{life_of, begins};
+ghost use Rattle.acts.specs.Births.{file_key};
+ghost use Rattle.acts.specs.Holding.{holds, opened, object_or, address_of, addressed, socket_held};
+ghost use Rattle.acts.specs.Keys.{given, name_if};
+ghost use Rattle.acts.specs.declared.held.Held.{Held};
+ghost use Rattle.flow_base.specs.declared.types.Key.TheVariants as key;
+ghost use Rattle.name_text.specs.Addresses.{text_of};
+ghost use Rattle.acts.specs.Standing.{is_awaiting};
+ghost use Rattle.proc_table.specs.Table.{Table, StandsFor, standing_of, at};
+ghost use Rattle.fd_table.specs.Table.{HoldsAs, Table as Descriptors};
+ghost use Rattle.flow_events.specs.Acting.{IsActing, IsBorn, DoesAs, pair_if};
+ghost use Rattle.flow_events.specs.Entering.{pair_of};
+ghost use Rattle.flow_events.specs.Standing.{readdressed};
+
+use crate::acting::{Acting, file_key};
+use crate::births::Births;
+use crate::change::Change;
+use crate::given::Given;
+use crate::plan::NewAddress;
+use acts::{
+    FileRef, Held, Object, Opens, copy_key, forks_hand_on, only_live_pids_hold, sees_hand_on,
+    sockets_are_of_acts,
+};
+use fd_table::Fds;
+use flow_base::{Bytes, Key, NoMemory};
+use name_text::address_text;
+use proc_table::Procs;
+use std::alloc::Global;
+
+/// A see that links a process gives it what its parent holds.
+pub fn see_change(procs: &Procs, fds: &Fds, pid: u32, ppid: u32) -> Result<Change, NoMemory>
+    ensures { (before : List Act) (exe : Option (List ℕ)) → StandsFor procs.now before → HoldsAs fds.now before → Admitted before → IfOk result (λ change. DoesAs change before (act.See pid ppid exe)) }
+{
+    sees_hand_on();
+    if ppid == pid || procs.life(pid).is_some() || procs.life(ppid).is_none() {
+        return Ok(Change::Nothing);
+    }
+    Ok(Change::Give {
+        pid,
+        entries: fds.copies(ppid)?,
+    })
+}
+
+/// A fork that begins a life gives it what the caller holds.
+pub fn fork_change(
+    procs: &Procs,
+    fds: &Fds,
+    acting: &Acting,
+    child: u32,
+) -> Result<Change, NoMemory>
+    ensures { (acts : List Act) → IsActing procs.now fds.now acting.now acts → IfOk result (λ change. DoesAs change acts (act.Fork acting.now.pid child)) }
+{
+    forks_hand_on();
+    if child == acting.pid || is_awaiting(procs, child, acting.pid) {
+        return Ok(Change::Nothing);
+    }
+    Ok(Change::Give {
+        pid: child,
+        entries: fds.copies(acting.holder)?,
+    })
+}
+
+// Whether a pid is live and awaits this parent.
+fn is_awaiting(procs: &Procs, child: u32, pid: u32) -> bool
+    ensures { result ≡ is_awaiting (standing_of (at procs.now child)) pid }
+{
+    match procs.at(child) {
+        Some(last) => last.live && last.awaits == Some(pid),
+        None => false,
+    }
+}
+
+/// What a new descriptor opens.
+pub fn opened(
+    alloc: Global,
+    births: &Births,
+    fresh: &Births,
+    number: u64,
+    what: &Opens,
+) -> Result<Object, NoMemory>
+    requires few { (before now : List Act) × IsBorn births.now fresh.now before now }
+    ensures { (before now : List Act) → IsBorn births.now fresh.now before now → number ≡ length (now ++ before) → IfOk result (λ object. object ≡ opened (now ++ before) what.now) }
+{
+    match what {
+        Opens::File(file) => Ok(Object::File(file_key(alloc, births, fresh, file)?)),
+        Opens::Socket { .. } => Ok(Object::Sock(number)),
+    }
+}
+
+/// A copy holds what the first descriptor held, or the lost one.
+pub fn copy_change(
+    fds: &Fds,
+    acting: &Acting,
+    from: u32,
+    to: u32,
+    cloexec: bool,
+) -> Result<Change, NoMemory>
+    ensures { (procs : Table) (acts : List Act) → IsActing procs fds.now acting.now acts → IfOk result (λ change. DoesAs change acts (act.Copy acting.now.pid from to cloexec)) }
+{
+    let object = match fds.held(acting.holder, from) {
+        Some(held) => held.object.copy()?,
+        None => Object::File(Key::Lost {
+            pid: acting.pid,
+            life: acting.life,
+            fd: from,
+        }),
+    };
+    Ok(Change::Set {
+        pid: acting.pid,
+        fd: to,
+        held: Held { object, cloexec },
+    })
+}
+
+// The socket that a descriptor of the process holds.
+fn socket_at(fds: &Fds, acting: &Acting, fd: u32) -> Option<u64>
+    ensures { (procs : Table) (acts : List Act) → IsActing procs fds.now acting.now acts → result ≡ socket_held (holds acts acting.now.pid fd) }
+{
+    match fds.held(acting.holder, fd) {
+        Some(held) => match held.object {
+            Object::Sock(act) => Some(act),
+            _ => None,
+        },
+        None => None,
+    }
+}
+
+/// Where no socket is held, an address puts a new one there.
+pub fn address_change(fds: &Fds, acting: &Acting, fd: u32, number: u64) -> Change
+    ensures { (procs : Table) (acts : List Act) (bytes : List ℕ) → IsActing procs fds.now acting.now acts → number ≡ length acts → DoesAs result acts (act.Address acting.now.pid fd bytes) }
+{
+    match socket_at(fds, acting, fd) {
+        Some(_) => Change::Nothing,
+        None => Change::Set {
+            pid: acting.pid,
+            fd,
+            held: Held {
+                object: Object::Sock(number),
+                cloexec: false,
+            },
+        },
+    }
+}
+
+/// An address is that of the socket that is held, or of the new one.
+pub fn address_at(
+    fds: &Fds,
+    acting: &Acting,
+    fd: u32,
+    number: u64,
+    bytes: &Bytes,
+) -> Result<Option<NewAddress>, NoMemory>
+    ensures { (procs : Table) (acts : List Act) → IsActing procs fds.now acting.now acts → number ≡ length acts → IfOk result (λ new. (s : ℕ) → address_of (act.Address acting.now.pid fd bytes.now ∷ acts) s ≡ readdressed new (address_of acts) s) }
+{
+    Ok(Some(NewAddress {
+        socket: socket_at(fds, acting, fd).unwrap_or(number),
+        bytes: bytes.copy()?,
+    }))
+}
+
+/// A new socket has the address that is stated, or that of its listener.
+pub fn socket_address(
+    fds: &Fds,
+    acting: &Acting,
+    number: u64,
+    address: &Option<Bytes>,
+    listener: Option<u32>,
+) -> Result<Option<NewAddress>, NoMemory>
+    ensures { (procs : Table) (acts : List Act) (fd : ℕ) (cloexec : Bool) → IsActing procs fds.now acting.now acts → number ≡ length acts → IfOk result (λ new. (s : ℕ) → address_of (act.Set acting.now.pid fd (opens.Socket address.now listener) cloexec ∷ acts) s ≡ readdressed new (address_of acts) s) }
+{
+    sockets_are_of_acts();
+    match (address, listener) {
+        (Some(bytes), _) => Ok(Some(NewAddress {
+            socket: number,
+            bytes: bytes.copy()?,
+        })),
+        (None, Some(listener)) => listened(fds, acting, number, listener),
+        (None, None) => Ok(None),
+    }
+}
+
+// The address of a listener, where it is a socket that has one.
+fn listened(
+    fds: &Fds,
+    acting: &Acting,
+    number: u64,
+    listener: u32,
+) -> Result<Option<NewAddress>, NoMemory>
+    ensures { (procs : Table) (acts : List Act) (fd : ℕ) (cloexec : Bool) → IsActing procs fds.now acting.now acts → number ≡ length acts → IfOk result (λ new. (s : ℕ) → address_of (act.Set acting.now.pid fd (opens.Socket None (Some listener)) cloexec ∷ acts) s ≡ readdressed new (address_of acts) s) }
+{
+    sockets_are_of_acts();
+    let Some(socket) = socket_at(fds, acting, listener) else {
+        return Ok(None);
+    };
+    match fds.address(socket) {
+        Some(bytes) => Ok(Some(NewAddress {
+            socket: number,
+            bytes: bytes.copy()?,
+        })),
+        None => Ok(None),
+    }
+}
+
+/// An address is named by its text.
+pub fn address_name(alloc: Global, bytes: &Bytes) -> Result<Given, NoMemory>
+    ensures { IfOk result (λ given. pair_of given ≡ (key.Address bytes.now, text_of bytes.now)) }
+{
+    Ok(Given {
+        key: Key::Address {
+            bytes: bytes.copy()?,
+        },
+        text: address_text(alloc, bytes.as_slice())?,
+    })
+}
+
+/// A file is named by its path, where it has one.
+pub fn file_name(
+    alloc: Global,
+    births: &Births,
+    fresh: &Births,
+    file: &FileRef,
+) -> Result<Option<Given>, NoMemory>
+    requires few { (before now : List Act) × IsBorn births.now fresh.now before now }
+    ensures { (before now : List Act) → IsBorn births.now fresh.now before now → IfOk result (λ given. pair_if given ≡ name_if (file_key (now ++ before) file.now) file.now.path) }
+{
+    match &file.path {
+        None => Ok(None),
+        Some(path) => Ok(Some(Given {
+            key: file_key(alloc, births, fresh, file)?,
+            text: path.copy()?,
+        })),
+    }
+}
+
+/// A process is named by its program, where it is known.
+pub fn see_name(acting: &Acting, exe: &Option<Bytes>) -> Result<Option<Given>, NoMemory>
+    ensures { IfOk result (λ given. pair_if given ≡ name_if (key.Process acting.now.pid acting.now.life) exe.now) }
+{
+    match exe {
+        None => Ok(None),
+        Some(exe) => Ok(Some(Given {
+            key: Key::Process {
+                pid: acting.pid,
+                life: acting.life,
+            },
+            text: exe.copy()?,
+        })),
+    }
+}
