@@ -1,3 +1,4 @@
 pub mod Applying
 pub mod Numbers
 pub mod Rooms
+pub mod Sockets

@@ -4,7 +4,8 @@ use Rattle.flow_base.specs.declared.types.Key.{Key}
 use Rattle.acts.specs.declared.act.Act.{Act}
 use Rattle.acts.specs.Lives.{life_of}
 use Rattle.acts.specs.Standing.{standing}
-use Rattle.acts.specs.Holding.{holds}
+use Rattle.acts.specs.declared.held.Held.{Held}
+use Rattle.acts.specs.Holding.{holds, socket_held}
 use Rattle.proc_table.specs.Table.{Table as Procs, standing_of, at}
 use Rattle.fd_table.specs.Table.{Table as Fds, AddressesAs, held_at}
 use Rattle.flow_events.specs.declared.acting.Acting.{Acting}
@@ -36,3 +37,14 @@ pair_if (Some given) = pair_of given ∷ []
 -- the change is what this act does to descriptors after these acts
 abbrev pub DoesAs : Change → List Act → Act → Type 0
 DoesAs change acts act = (p n : ℕ) → holds (act ∷ acts) p n ≡ changed change (holds acts) p n
+
+-- the address of a socket, where there is one
+abbrev pub address_through : (ℕ → Option (List ℕ)) → Option ℕ → Option (List ℕ)
+address_through addresses None = None
+address_through addresses (Some socket) = addresses socket
+
+-- the address of a new socket: the stated one, or else that of the listener
+abbrev pub stated : (ℕ → Option (List ℕ)) → (ℕ → Option Held) → Option (List ℕ) → Option ℕ → Option (List ℕ)
+stated addresses held (Some address) listener = Some address
+stated addresses held None None = None
+stated addresses held None (Some listener) = address_through addresses (socket_held (held listener))

@@ -1,5 +1,5 @@
 //! What each act of an event does to descriptors and addresses, and which name it gives.
-ghost use Rattle.std.specs.Prelude.{◌≡◌, ◌==◌, ◌<◌, ◌++◌, ◌^◌, ◌-◌, ◌∷◌, ℕ, List, Option, None, Some, Bool, IfOk, false, length, is_some};
+ghost use Rattle.std.specs.Prelude.{◌≡◌, ◌==◌, ◌<◌, ◌++◌, ◌^◌, ◌-◌, ◌∷◌, ℕ, List, Option, None, Some, Bool, IfOk, length, option_copied};
 ghost use Rattle.acts.specs.declared.act.Act.{Act};
 ghost use Rattle.acts.specs.declared.act.Act.TheVariants as act;
 ghost use Rattle.acts.specs.declared.act.Opens.TheVariants as opens;
@@ -15,7 +15,7 @@ ghost use Rattle.name_text.specs.Addresses.{text_of};
 ghost use Rattle.acts.specs.Standing.{is_awaiting};
 ghost use Rattle.proc_table.specs.Table.{Table, StandsFor, standing_of, at};
 ghost use Rattle.fd_table.specs.Table.{HoldsAs, Table as Descriptors};
-ghost use Rattle.flow_events.specs.Acting.{IsActing, IsBorn, DoesAs, pair_if};
+ghost use Rattle.flow_events.specs.Acting.{IsActing, IsBorn, DoesAs, address_through, pair_if, stated};
 ghost use Rattle.flow_events.specs.Entering.{pair_of};
 ghost use Rattle.flow_events.specs.Standing.{readdressed};
 
@@ -39,7 +39,14 @@ pub fn see_change(procs: &Procs, fds: &Fds, pid: u32, ppid: u32) -> Result<Chang
     ensures { (before : List Act) (exe : Option (List ℕ)) → StandsFor procs.now before → HoldsAs fds.now before → Admitted before → IfOk result (λ change. DoesAs change before (act.See pid ppid exe)) }
 {
     sees_hand_on();
-    if ppid == pid || procs.life(pid).is_some() || procs.life(ppid).is_none() {
+    only_live_pids_hold();
+    if procs.life(pid).is_some() {
+        return Ok(Change::Nothing);
+    }
+    if ppid == pid {
+        return Ok(Change::Nothing);
+    }
+    if procs.life(ppid).is_none() {
         return Ok(Change::Nothing);
     }
     Ok(Change::Give {
@@ -160,11 +167,22 @@ pub fn address_at(
     ensures { (procs : Table) (acts : List Act) → IsActing procs fds.now acting.now acts → number ≡ length acts → IfOk result (λ new. (s : ℕ) → address_of (act.Address acting.now.pid fd bytes.now ∷ acts) s ≡ readdressed new (address_of acts) s) }
 {
     Ok(Some(NewAddress {
-        socket: socket_at(fds, acting, fd).unwrap_or(number),
+        socket: socket_or(fds, acting, fd, number),
         bytes: bytes.copy()?,
     }))
 }
 
+// The socket that a descriptor of the process holds, or else the new one.
+fn socket_or(fds: &Fds, acting: &Acting, fd: u32, number: u64) -> u64
+    ensures { (procs : Table) (acts : List Act) → IsActing procs fds.now acting.now acts → number ≡ length acts → result ≡ addressed acts acting.now.pid fd }
+{
+    match socket_at(fds, acting, fd) {
+        Some(socket) => socket,
+        None => number,
+    }
+}
+
+#[tactic(auto, using(crate::proofs::Sockets::set_addresses))]
 /// A new socket has the address that is stated, or that of its listener.
 pub fn socket_address(
     fds: &Fds,
@@ -176,35 +194,38 @@ pub fn socket_address(
     ensures { (procs : Table) (acts : List Act) (fd : ℕ) (cloexec : Bool) → IsActing procs fds.now acting.now acts → number ≡ length acts → IfOk result (λ new. (s : ℕ) → address_of (act.Set acting.now.pid fd (opens.Socket address.now listener) cloexec ∷ acts) s ≡ readdressed new (address_of acts) s) }
 {
     sockets_are_of_acts();
-    match (address, listener) {
-        (Some(bytes), _) => Ok(Some(NewAddress {
-            socket: number,
-            bytes: bytes.copy()?,
-        })),
-        (None, Some(listener)) => listened(fds, acting, number, listener),
-        (None, None) => Ok(None),
-    }
-}
-
-// The address of a listener, where it is a socket that has one.
-fn listened(
-    fds: &Fds,
-    acting: &Acting,
-    number: u64,
-    listener: u32,
-) -> Result<Option<NewAddress>, NoMemory>
-    ensures { (procs : Table) (acts : List Act) (fd : ℕ) (cloexec : Bool) → IsActing procs fds.now acting.now acts → number ≡ length acts → IfOk result (λ new. (s : ℕ) → address_of (act.Set acting.now.pid fd (opens.Socket None (Some listener)) cloexec ∷ acts) s ≡ readdressed new (address_of acts) s) }
-{
-    sockets_are_of_acts();
-    let Some(socket) = socket_at(fds, acting, listener) else {
-        return Ok(None);
-    };
-    match fds.address(socket) {
+    match stated(fds, acting, address, listener) {
         Some(bytes) => Ok(Some(NewAddress {
             socket: number,
             bytes: bytes.copy()?,
         })),
         None => Ok(None),
+    }
+}
+
+// The address that is stated, or that of the listener.
+fn stated<'a>(
+    fds: &'a Fds,
+    acting: &Acting,
+    address: &'a Option<Bytes>,
+    listener: Option<u32>,
+) -> Option<&'a Bytes>
+    ensures { (procs : Table) (acts : List Act) → IsActing procs fds.now acting.now acts → option_copied result ≡ stated (address_of acts) (holds acts acting.now.pid) address.now listener }
+{
+    match (address, listener) {
+        (Some(bytes), _) => Some(bytes),
+        (None, Some(listener)) => heard(fds, acting, listener),
+        (None, None) => None,
+    }
+}
+
+// The address of a listener, where it is a socket that has one.
+fn heard<'a>(fds: &'a Fds, acting: &Acting, listener: u32) -> Option<&'a Bytes>
+    ensures { (procs : Table) (acts : List Act) → IsActing procs fds.now acting.now acts → option_copied result ≡ address_through (address_of acts) (socket_held (holds acts acting.now.pid listener)) }
+{
+    match socket_at(fds, acting, listener) {
+        Some(socket) => fds.address(socket),
+        None => None,
     }
 }
 
