@@ -14,7 +14,7 @@ none_by true x addresses s n test none there = let e : s ≡ n = grind (arith, c
 none_by false x addresses s n test none there = refl
 
 -- a socket that has no address is given none
-unaddressed : (x : Option (List ℕ)) (addresses : ℕ → Option (List ℕ)) (s n : ℕ) → x ≡ None → addresses n ≡ None → (if s == n then x else addresses s) ≡ addresses s
+pub unaddressed : (x : Option (List ℕ)) (addresses : ℕ → Option (List ℕ)) (s n : ℕ) → x ≡ None → addresses n ≡ None → (if s == n then x else addresses s) ≡ addresses s
 unaddressed x addresses s n none there = none_by (s == n) x addresses s n refl none there
 
 through : (addresses : ℕ → Option (List ℕ)) (socket : Option ℕ) → (elim socket [ None ↦ None | Some s ↦ addresses s ]) ≡ address_through addresses socket

@@ -182,7 +182,6 @@ fn socket_or(fds: &Fds, acting: &Acting, fd: u32, number: u64) -> u64
     }
 }
 
-#[tactic(auto, using(crate::proofs::Sockets::set_addresses))]
 /// A new socket has the address that is stated, or that of its listener.
 pub fn socket_address(
     fds: &Fds,
