@@ -4,3 +4,4 @@ pub mod Entering
 pub mod Lives
 pub mod Standing
 pub mod Acting
+pub mod Added

@@ -4,9 +4,11 @@
 #![tactic(auto)]
 
 mod acting;
+mod added;
 mod births;
 mod change;
 mod effects;
+mod fault;
 mod given;
 mod lives;
 mod passes;
@@ -16,6 +18,7 @@ mod tables;
 pub use acting::Acting;
 pub use births::Births;
 pub use change::Change;
+pub use fault::PrepareFault;
 pub use given::Given;
 pub use plan::{NewAddress, Plan};
 pub use tables::Tables;

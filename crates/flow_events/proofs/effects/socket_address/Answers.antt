@@ -18,4 +18,4 @@ returns-in-None c = λ procs acts fd cloexec acting number s.
     let none = c.sockets_are_of_acts.ensures.addressed acts (length acts) (let e : length acts ≤ length acts = omega arith in e) in
     set_addresses acts c.args.acting.now.pid fd c.args.address.now c.args.listener cloexec s none
     ∙ unaddressed (stated (address_of acts) (holds acts c.args.acting.now.pid) c.args.address.now c.args.listener) (address_of acts) s (length acts)
-        (sym (c.stated.ensures procs acts acting) ∙ ap option_copied c.in-None.is) none
+    (sym (c.stated.ensures procs acts acting) ∙ ap option_copied c.in-None.is) none

@@ -1,0 +1,74 @@
+//! The objects and flows that an event adds.
+ghost use Rattle.std.specs.Prelude.{◌≡◌, ◌≤◌, ◌<◌, ◌+◌, ◌++◌, ◌^◌, ◌∷◌, ℕ, [], true, List, Some, Err, length, OnOk, IfOk};
+ghost use Rattle.std.specs.List.{list_any};
+ghost use Rattle.flow_base.specs.declared.types.Key.{Key};
+ghost use Rattle.flow_base.specs.declared.limits.Full.{Full};
+ghost use Rattle.flow_base.specs.contracts.types.KeyPartialEq.TheImpl.{ghosts};
+ghost use Rattle.acts.specs.Keys.{put_new};
+ghost use Rattle.acts.specs.Flows.{number_in, with_ends};
+ghost use Rattle.entity_names.specs.Known.{full_at};
+ghost use Rattle.flow_events.specs.declared.fault.PrepareFault.TheVariants as fault;
+ghost use Rattle.flow_events.specs.Added.{AreNew, flow_of};
+
+use crate::fault::PrepareFault;
+use acts::Link;
+use entity_names::Entities;
+use flow_base::{EntityId, Flow, Full, Key, Limit, List, Stamp, equal_keys_are_one};
+use indexmap::IndexSet;
+use std::alloc::Global;
+use std::marker::Model;
+
+/// The objects and flows that an event adds.
+#[derive(Drop)]
+pub struct Added {
+    keys: IndexSet<Key>,
+    flows: List<Flow>,
+}
+
+impl Model for Added {
+    ghost use Rattle.flow_events.specs.Added.{Additions};
+
+    ghost Value = { Additions };
+
+    ghost view = { λ a. record { keys = a.keys.keys; flows = a.flows } };
+}
+
+impl Added {
+    /// Nothing.
+    pub fn new(alloc: Global) -> Added
+        ensures { result ≡ record { keys = []; flows = [] } }
+    {
+        Added {
+            keys: IndexSet::new(alloc),
+            flows: List::new(alloc),
+        }
+    }
+
+    #[tactic(auto, using(crate::proofs::Numbering::known_number, crate::proofs::Numbering::new_number, crate::proofs::Numbering::known_stays, crate::proofs::Numbering::new_comes))]
+    // The number of a key, which is the next one where the key is new.
+    fn number(&mut self, entities: &Entities, most: u32, key: Key) -> Result<EntityId, PrepareFault>
+        requires limit { most ≡ entities.now.limit }
+        requires fits { length (entities.now.keys ++ self.old.keys) ≤ most }
+        ensures keys { OnOk result (entities.now.keys ++ self.new.keys ≡ put_new ghosts.eq (entities.now.keys ++ self.old.keys) key) }
+        ensures id { IfOk result (λ (id : EntityId). id.0 ≡ number_in (entities.now.keys ++ self.old.keys) key) }
+        ensures full { (full : Full) → result ≡ Err (fault.Full full) → (full ≡ full_at most) × (most < length (put_new ghosts.eq (entities.now.keys ++ self.old.keys) key)) }
+        ensures fits { OnOk result (length (entities.now.keys ++ self.new.keys) ≤ most) }
+        ensures flows { self.new.flows ≡ self.old.flows }
+    {
+        equal_keys_are_one();
+        if let Some(id) = entities.id(&key) {
+            return Ok(id);
+        }
+        let place = match self.keys.insert_full(key) {
+            Ok((index, _)) => entities.count() as usize + index,
+            Err(_) => return Err(PrepareFault::NoMemory),
+        };
+        if place >= most as usize {
+            return Err(PrepareFault::Full(Full {
+                limit: Limit::Entities,
+                number: u64::from(most),
+            }));
+        }
+        Ok(EntityId(place as u32))
+    }
+}
