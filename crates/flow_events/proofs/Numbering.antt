@@ -1,5 +1,5 @@
 -- The numbers of keys among those that are known and those that are new.
-use Rattle.std.proofs.Common.{◌≡◌, ◌<◌, ◌≤◌, ◌+◌, ◌++◌, ◌∙◌, ◌||◌, sym, ap, refl, not, cond, suc, ℕ, Bool, true, false, List, [], ◌∷◌, length, if◌then◌else◌, append_assoc, arith}
+use Rattle.std.proofs.Common.{◌≡◌, ◌<◌, ◌≤◌, ◌+◌, ◌++◌, ◌∙◌, ◌||◌, sym, ap, refl, not, cond, suc, ℕ, Bool, true, false, List, [], ◌∷◌, length, subst, if◌then◌else◌, append_assoc, arith}
 use Rattle.std.proofs.lemmas.Grind.{common_steps}
 use Rattle.std.specs.List.{list_any, position_or_len}
 use Rattle.std.proofs.lemmas.List.Folds.{list_any-append}
@@ -51,3 +51,55 @@ comes_by false known keys key = append_assoc known keys (key ∷ [])
 pub new_comes : (known keys : List Key) (key : Key) → list_any (ghosts.eq key) known ≡ false → put_new ghosts.eq (known ++ keys) key ≡ known ++ put_new ghosts.eq keys key
 new_comes known keys key none =
     rw (list_any-append (ghosts.eq key) known keys, none) (comes_by (list_any (ghosts.eq key) keys) known keys key)
+
+none_step : (b any : Bool) (n m : ℕ) → (any ≡ false → n ≡ m) → (b || any) ≡ false → cond (not b) (1 + n) 0 ≡ suc m
+none_step true any n m same none = let wrong : true ≡ false = none in cc
+none_step false any n m same none = let e : n ≡ m = same none in omega (arith, e)
+
+none_found : {X : Type 0} (p : X → Bool) (xs : List X) → list_any p xs ≡ false → position_or_len p xs ≡ length xs
+none_found p [] none = refl
+none_found p (x ∷ xs) none = none_step (p x) (list_any p xs) (position_or_len p xs) (length xs) (none_found p xs) none
+
+fits_by : (b : Bool) (known keys : List Key) (key : Key) (most : ℕ) → list_any (ghosts.eq key) keys ≡ b → length (known ++ keys) ≤ most → length known + position_or_len (ghosts.eq key) keys < most
+    → length (known ++ (if b then keys else keys ++ key ∷ [])) ≤ most
+fits_by true known keys key most is so_far below = so_far
+fits_by false known keys key most is so_far below =
+    let here : length known + length keys < most = subst (λ n. length known + n < most) (none_found (ghosts.eq key) keys is) below in
+    grind (arith, common_steps, here)
+
+-- a key whose place is within the limit fits
+pub still_fits : (known keys : List Key) (key : Key) (most : ℕ) → length (known ++ keys) ≤ most → length known + position_or_len (ghosts.eq key) keys < most → length (known ++ put_new ghosts.eq keys key) ≤ most
+still_fits known keys key most so_far below = fits_by (list_any (ghosts.eq key) keys) known keys key most refl so_far below
+
+kept_by : (b : Bool) (seen : List Key) (key other : Key) → list_any (ghosts.eq other) seen ≡ true → number_in (if b then seen else seen ++ key ∷ []) other ≡ number_in seen other
+kept_by true seen key other there = refl
+kept_by false seen key other there = place_before (ghosts.eq other) seen (key ∷ []) there
+
+-- a key that has a number keeps it
+pub number_kept : (seen : List Key) (key other : Key) → list_any (ghosts.eq other) seen ≡ true → number_in (put_new ghosts.eq seen key) other ≡ number_in seen other
+number_kept seen key other there = kept_by (list_any (ghosts.eq key) seen) seen key other there
+
+last_passes : (b : Bool) → (b || (true || false)) ≡ true
+last_passes true = refl
+last_passes false = refl
+
+module _ (same : (k : Key) → ghosts.eq k k ≡ true) where
+  there_by : (b : Bool) (seen : List Key) (key : Key) → list_any (ghosts.eq key) seen ≡ b → list_any (ghosts.eq key) (if b then seen else seen ++ key ∷ []) ≡ true
+  there_by true seen key there = there
+  there_by false seen key none = rw (list_any-append (ghosts.eq key) seen (key ∷ []), same key) (last_passes (list_any (ghosts.eq key) seen))
+
+  -- a key that was put is there
+  pub put_is_there : (seen : List Key) (key : Key) → list_any (ghosts.eq key) (put_new ghosts.eq seen key) ≡ true
+  put_is_there seen key = there_by (list_any (ghosts.eq key) seen) seen key refl
+
+  number_by : (b : Bool) (seen : List Key) (key : Key) → list_any (ghosts.eq key) seen ≡ b → number_in (if b then seen else seen ++ key ∷ []) key ≡ number_in seen key
+  number_by true seen key there = refl
+  number_by false seen key none =
+      place_after (ghosts.eq key) seen (key ∷ []) none
+      ∙ ap (λ b. length seen + cond (not b) 1 0) (same key)
+      ∙ (let e : length seen + 0 ≡ length seen = omega arith in e)
+      ∙ sym (none_found (ghosts.eq key) seen none)
+
+  -- and its number is the one that it had, or the next one
+  pub put_number : (seen : List Key) (key : Key) → number_in (put_new ghosts.eq seen key) key ≡ number_in seen key
+  put_number seen key = number_by (list_any (ghosts.eq key) seen) seen key refl

@@ -44,7 +44,7 @@ impl Added {
         }
     }
 
-    #[tactic(auto, using(crate::proofs::Numbering::known_number, crate::proofs::Numbering::new_number, crate::proofs::Numbering::known_stays, crate::proofs::Numbering::new_comes))]
+    #[tactic(auto, using(crate::proofs::Numbering::known_number, crate::proofs::Numbering::new_number, crate::proofs::Numbering::known_stays, crate::proofs::Numbering::new_comes, crate::proofs::Numbering::still_fits))]
     // The number of a key, which is the next one where the key is new.
     fn number(&mut self, entities: &Entities, most: u32, key: Key) -> Result<EntityId, PrepareFault>
         requires limit { most ≡ entities.now.limit }
@@ -70,5 +70,34 @@ impl Added {
             }));
         }
         Ok(EntityId(place as u32))
+    }
+
+    /// Adds the flow of a link, and its ends where they are new.
+    pub fn link(
+        &mut self,
+        entities: &Entities,
+        most: u32,
+        link: Link,
+        at: Stamp,
+        serial: u32,
+    ) -> Result<(), PrepareFault>
+        requires limit { most ≡ entities.now.limit }
+        requires fits { length (entities.now.keys ++ self.old.keys) ≤ most }
+        ensures keys { OnOk result (entities.now.keys ++ self.new.keys ≡ with_ends (entities.now.keys ++ self.old.keys) (Some link)) }
+        ensures flows { OnOk result (self.new.flows ≡ self.old.flows ++ flow_of (entities.now.keys ++ self.new.keys) at.ms serial at.place link ∷ []) }
+        ensures full { (full : Full) → result ≡ Err (fault.Full full) → (full ≡ full_at most) × (most < length (with_ends (entities.now.keys ++ self.old.keys) (Some link))) }
+        ensures fits { OnOk result (length (entities.now.keys ++ self.new.keys) ≤ most) }
+    {
+        equal_keys_are_one();
+        let from = self.number(entities, most, link.from)?;
+        let to = self.number(entities, most, link.to)?;
+        self.flows.push(Flow {
+            from,
+            to,
+            how: link.how,
+            at,
+            serial,
+        })?;
+        Ok(())
     }
 }
