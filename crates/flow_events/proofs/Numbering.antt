@@ -103,3 +103,12 @@ module _ (same : (k : Key) → ghosts.eq k k ≡ true) where
   -- and its number is the one that it had, or the next one
   pub put_number : (seen : List Key) (key : Key) → number_in (put_new ghosts.eq seen key) key ≡ number_in seen key
   put_number seen key = number_by (list_any (ghosts.eq key) seen) seen key refl
+
+  -- once both ends were put, each has the number that it was given
+  pub from_number : (before mid after : List Key) (from to : Key) (n : ℕ) → mid ≡ put_new ghosts.eq before from → after ≡ put_new ghosts.eq mid to → n ≡ number_in before from → n ≡ number_in after from
+  from_number before mid after from to n is_mid is_after number =
+      number ∙ sym (put_number before from) ∙ ap (λ seen. number_in seen from) (sym is_mid)
+      ∙ sym (number_kept mid to from (ap (list_any (ghosts.eq from)) is_mid ∙ put_is_there before from)) ∙ ap (λ seen. number_in seen from) (sym is_after)
+
+  pub to_number : (mid after : List Key) (to : Key) (n : ℕ) → after ≡ put_new ghosts.eq mid to → n ≡ number_in mid to → n ≡ number_in after to
+  to_number mid after to n is_after number = number ∙ sym (put_number mid to) ∙ ap (λ seen. number_in seen to) (sym is_after)
