@@ -1,5 +1,5 @@
 -- What the parts of the tables stand for once a plan is done.
-use Rattle.std.proofs.Common.{◌≡◌, ◌==◌, ◌+◌, ◌++◌, ◌∙◌, subst, sym, ap, refl, ℕ, Bool, true, false, List, length, Option, Some, None, if◌then◌else◌}
+use Rattle.std.proofs.Common.{◌≡◌, ◌==◌, ◌∙◌, subst, sym, ap, ℕ, List, Option, Some, None, if◌then◌else◌}
 use Rattle.acts.specs.declared.held.Held.{Held}
 use Rattle.acts.specs.declared.act.Act.{Act}
 use Rattle.acts.specs.Holding.{is_at, marked, unless_marked, holds, address_of}

@@ -1,9 +1,8 @@
 -- Room for names and keys that are entered one after the other.
-use Rattle.std.proofs.Common.{◌≡◌, ◌≤◌, ◌<◌, ◌+◌, ◌++◌, ◌∙◌, ◌⊎◌, ◌||◌, inl, inr, sym, ap, refl, ℕ, Bool, true, false, List, [], ◌∷◌, length, map, min, if◌then◌else◌, arith, append_assoc, subst, reverse, take}
+use Rattle.std.proofs.Common.{◌≡◌, ◌≤◌, ◌<◌, ◌+◌, ◌++◌, ◌∙◌, ◌⊎◌, ◌||◌, ap, refl, ℕ, Bool, true, false, List, [], ◌∷◌, length, map, min, if◌then◌else◌, arith, append_assoc, subst, reverse, take}
 use Rattle.acts.specs.declared.act.Act.{Act}
 use Rattle.std.specs.List.{list_any}
 use Rattle.std.proofs.lemmas.Grind.{common_steps}
-use Rattle.std.proofs.lemmas.List.Folds.{list_any-append}
 use Rattle.flow_base.specs.declared.types.Key.{Key}
 use Rattle.flow_base.specs.contracts.types.KeyPartialEq.TheImpl.{ghosts}
 use Rattle.acts.specs.Keys.{put_new}

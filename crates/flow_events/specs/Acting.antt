@@ -1,5 +1,5 @@
 -- The process of an event, once it was seen. Every list of acts has the newest first.
-use Rattle.std.specs.Prelude.{◌≡◌, ◌==◌, ◌<◌, ◌++◌, ◌^◌, ℕ, false, List, [], ◌∷◌, Option, None, Some}
+use Rattle.std.specs.Prelude.{◌≡◌, ◌==◌, ◌^◌, ℕ, false, List, [], ◌∷◌, Option, None, Some}
 use Rattle.flow_base.specs.declared.types.Key.{Key}
 use Rattle.acts.specs.declared.act.Act.{Act}
 use Rattle.acts.specs.Lives.{life_of}

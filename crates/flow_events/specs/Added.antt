@@ -1,5 +1,5 @@
 -- What an event adds to the objects and flows.
-use Rattle.std.specs.Prelude.{◌≡◌, ◌++◌, ℕ, List, length, reverse}
+use Rattle.std.specs.Prelude.{◌≡◌, ◌++◌, ℕ, List, reverse}
 use Rattle.flow_base.specs.declared.types.Key.{Key}
 use Rattle.flow_base.specs.declared.types.Flow.{Flow}
 use Rattle.acts.specs.declared.link.Link.{Link}

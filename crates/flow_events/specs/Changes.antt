@@ -1,5 +1,5 @@
 -- What a change of descriptors does.
-use Rattle.std.specs.Prelude.{◌==◌, ◌||◌, ℕ, List, length, if◌then◌else◌, Option, None, Some}
+use Rattle.std.specs.Prelude.{◌==◌, ◌||◌, ℕ, length, if◌then◌else◌, Option, None, Some}
 use Rattle.acts.specs.declared.held.Held.{Held}
 use Rattle.acts.specs.declared.held.Object.TheVariants.{Pipe}
 use Rattle.acts.specs.Holding.{is_at, marked, unless_marked}

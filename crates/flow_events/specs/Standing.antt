@@ -1,6 +1,5 @@
 -- What the tables stand for, and what a plan does to them. Every list of acts has the newest first.
 use Rattle.std.specs.Prelude.{◌≡◌, ◌==◌, ◌≤◌, ◌<◌, ◌+◌, ◌-◌, ◌++◌, ◌^◌, ℕ, List, length, reverse, if◌then◌else◌, Option, None, Some}
-use Rattle.acts.specs.declared.act.Act.{Act}
 use Rattle.acts.specs.declared.act.Taken.{Taken}
 use Rattle.acts.specs.Holding.{holds, address_of}
 use Rattle.acts.specs.Keys.{all_given}

@@ -1,4 +1,4 @@
-use Rattle.std.proofs.Common.{◌≡◌, ◌==◌, ◌≤◌, ◌∙◌, sym, ap, Some, length, if◌then◌else◌, arith}
+use Rattle.std.proofs.Common.{◌==◌, ◌≤◌, ◌∙◌, sym, ap, Some, length, if◌then◌else◌, arith}
 use Rattle.std.specs.Prelude.{option_copied}
 use Rattle.acts.specs.Holding.{holds, address_of}
 use Rattle.flow_events.specs.Acting.{stated}

@@ -1,4 +1,4 @@
-use Rattle.std.proofs.Common.{◌≡◌, ◌≤◌, ◌+◌, ◌++◌, List, length, reverse, take}
+use Rattle.std.proofs.Common.{◌≤◌, ◌+◌, ◌++◌, List, length, reverse, take}
 use Rattle.acts.specs.declared.act.Act.{Act}
 use Rattle.flow_events.specs.Births.{BornAs}
 use Rattle.flow_events.proofs.passes.bear_through.Given as goal

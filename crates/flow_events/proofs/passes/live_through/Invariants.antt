@@ -1,4 +1,4 @@
-use Rattle.std.proofs.Common.{◌≡◌, ◌≤◌, ◌+◌, ◌++◌, List, length, reverse, take}
+use Rattle.std.proofs.Common.{◌≤◌, ◌+◌, ◌++◌, List, length, reverse, take}
 use Rattle.acts.specs.declared.act.Act.{Act}
 use Rattle.proc_table.specs.Table.{StandsFor}
 use Rattle.flow_events.proofs.passes.live_through.Given as goal

@@ -1,5 +1,4 @@
 use Rattle.std.proofs.Common.{◌++◌, ◌∙◌, [], ◌∷◌, ap}
-use Rattle.flow_base.specs.declared.types.Flow.{Flow}
 use Rattle.flow_events.proofs.Numbering.{from_number, to_number}
 use Rattle.flow_events.proofs.added.Added.link.Goals as goal
 

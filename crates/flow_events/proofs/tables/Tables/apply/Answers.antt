@@ -1,4 +1,4 @@
-use Rattle.std.proofs.Common.{◌≡◌, ◌+◌, ◌++◌, ◌∙◌, ap, sym, subst, length, length-append, reverse}
+use Rattle.std.proofs.Common.{◌+◌, ◌++◌, ◌∙◌, ap, sym, subst, length, length-append, reverse}
 use Rattle.acts.specs.Keys.{all_given}
 use Rattle.acts.specs.Flows.{acts_of, flows}
 use Rattle.proc_table.specs.Table.{StandsFor as LivesAs}
