@@ -13,6 +13,7 @@ mod given;
 mod lives;
 mod passes;
 mod plan;
+mod steps;
 mod tables;
 
 pub use acting::Acting;

@@ -1,0 +1,181 @@
+//! What an act of an event does, of whatever kind it is, but for the see that comes first.
+ghost use Rattle.std.specs.Prelude.{◌≡◌, ◌++◌, ◌∷◌, ◌^◌, ◌-◌, ℕ, List, IfOk, length};
+ghost use Rattle.acts.specs.declared.act.Act.{Act};
+ghost use Rattle.acts.specs.Holding.{address_of};
+ghost use Rattle.acts.specs.Keys.{given};
+ghost use Rattle.acts.specs.Flows.{link_of};
+ghost use Rattle.name_text.specs.Addresses.{text_of};
+ghost use Rattle.proc_table.specs.Table.{Table};
+ghost use Rattle.flow_events.specs.Lives.{LivesBelow};
+ghost use Rattle.flow_events.specs.Acting.{IsActing, IsBorn, IsOf, IsNoBirth, DoesAs, pair_if};
+ghost use Rattle.flow_events.specs.Standing.{readdressed};
+
+use crate::acting::{Acting, between, fork_link, thing_key};
+use crate::births::Births;
+use crate::change::Change;
+use crate::effects::{
+    address_at, address_change, address_name, copy_change, file_name, fork_change, opened,
+    socket_address,
+};
+use crate::given::Given;
+use crate::plan::NewAddress;
+use acts::{Act, Held, Link, Opens, Thing};
+use fd_table::Fds;
+use flow_base::NoMemory;
+use proc_table::Procs;
+use std::alloc::Global;
+
+/// What an act links.
+pub fn link_of(
+    alloc: Global,
+    procs: &Procs,
+    fds: &Fds,
+    births: &Births,
+    fresh: &Births,
+    acting: &Acting,
+    act: &Act,
+) -> Result<Option<Link>, NoMemory>
+    requires few { (before now : List Act) × IsBorn births.now fresh.now before now }
+    requires lives { LivesBelow procs.now (2 ^ 64 - 1) }
+    requires of { IsOf acting.now.pid act.now }
+    ensures { (before now : List Act) → IsBorn births.now fresh.now before now → IsActing procs.now fds.now acting.now (now ++ before) → IfOk result (λ link. link ≡ link_of (now ++ before) act.now) }
+{
+    match act {
+        Act::See { .. } => unreachable!(),
+        Act::Fork { child, .. } => Ok(fork_link(procs, acting, *child)),
+        Act::Move {
+            inward,
+            how,
+            what,
+            ..
+        } => {
+            let thing = thing_key(alloc, fds, births, fresh, acting, what)?;
+            Ok(Some(between(*inward, thing, acting, *how)))
+        }
+        _ => Ok(None),
+    }
+}
+
+/// The name that an act gives.
+pub fn name_of(
+    alloc: Global,
+    births: &Births,
+    fresh: &Births,
+    act: &Act,
+) -> Result<Option<Given>, NoMemory>
+    requires few { (before now : List Act) × IsBorn births.now fresh.now before now }
+    requires kind { IsNoBirth act.now }
+    ensures { (before now : List Act) → IsBorn births.now fresh.now before now → IfOk result (λ name. pair_if name ≡ given text_of (now ++ before) act.now) }
+{
+    match act {
+        Act::See { .. } => unreachable!(),
+        Act::Birth { .. } => unreachable!(),
+        Act::Set {
+            what: Opens::File(file),
+            ..
+        } => file_name(alloc, births, fresh, file),
+        Act::Set {
+            what: Opens::Socket {
+                address: Some(bytes),
+                ..
+            },
+            ..
+        } => Ok(Some(address_name(alloc, bytes)?)),
+        Act::Move {
+            what: Thing::File(file),
+            ..
+        } => file_name(alloc, births, fresh, file),
+        Act::Move {
+            what: Thing::Address(bytes),
+            ..
+        } => Ok(Some(address_name(alloc, bytes)?)),
+        Act::Address { bytes, .. } => Ok(Some(address_name(alloc, bytes)?)),
+        _ => Ok(None),
+    }
+}
+
+/// What an act does to descriptors.
+pub fn change_of(
+    alloc: Global,
+    procs: &Procs,
+    fds: &Fds,
+    births: &Births,
+    fresh: &Births,
+    acting: &Acting,
+    act: &Act,
+    number: u64,
+) -> Result<Change, NoMemory>
+    requires few { (before now : List Act) × IsBorn births.now fresh.now before now }
+    requires of { IsOf acting.now.pid act.now }
+    ensures { (before now : List Act) → IsBorn births.now fresh.now before now → IsActing procs.now fds.now acting.now (now ++ before) → number ≡ length (now ++ before) → IfOk result (λ change. DoesAs change (now ++ before) act.now) }
+{
+    let pid = acting.pid;
+    match act {
+        Act::See { .. } => unreachable!(),
+        Act::Birth { .. } | Act::Move { .. } => Ok(Change::Nothing),
+        Act::Set {
+            fd,
+            what,
+            cloexec,
+            ..
+        } => {
+            let object = opened(alloc, births, fresh, number, what)?;
+            Ok(Change::Set {
+                pid,
+                fd: *fd,
+                held: Held {
+                    object,
+                    cloexec: *cloexec,
+                },
+            })
+        }
+        Act::SetBoth {
+            first,
+            second,
+            cloexec,
+            ..
+        } => Ok(Change::Pair {
+            pid,
+            first: *first,
+            second: *second,
+            act: number,
+            cloexec: *cloexec,
+        }),
+        Act::Copy {
+            from,
+            to,
+            cloexec,
+            ..
+        } => copy_change(fds, acting, *from, *to, *cloexec),
+        Act::Close { fd, .. } => Ok(Change::Close { pid, fd: *fd }),
+        Act::Mark { fd, cloexec, .. } => Ok(Change::Mark {
+            pid,
+            fd: *fd,
+            cloexec: *cloexec,
+        }),
+        Act::Exec { .. } => Ok(Change::Exec { pid }),
+        Act::End { .. } => Ok(Change::Clear { pid }),
+        Act::Address { fd, .. } => Ok(address_change(fds, acting, *fd, number)),
+        Act::Fork { child, .. } => fork_change(procs, fds, acting, *child),
+    }
+}
+
+/// The address that an act gives a socket.
+pub fn address_of(
+    fds: &Fds,
+    acting: &Acting,
+    act: &Act,
+    number: u64,
+) -> Result<Option<NewAddress>, NoMemory>
+    requires of { IsOf acting.now.pid act.now }
+    ensures { (procs : Table) (acts : List Act) → IsActing procs fds.now acting.now acts → number ≡ length acts → IfOk result (λ new. (s : ℕ) → address_of (act.now ∷ acts) s ≡ readdressed new (address_of acts) s) }
+{
+    match act {
+        Act::Set {
+            what: Opens::Socket { address, listener },
+            ..
+        } => socket_address(fds, acting, number, address, *listener),
+        Act::Address { fd, bytes, .. } => address_at(fds, acting, *fd, number, bytes),
+        _ => Ok(None),
+    }
+}
