@@ -171,10 +171,12 @@ pub fn address_of(
     ensures { (procs : Table) (acts : List Act) → IsActing procs fds.now acting.now acts → number ≡ length acts → IfOk result (λ new. (s : ℕ) → address_of (act.now ∷ acts) s ≡ readdressed new (address_of acts) s) }
 {
     match act {
-        Act::Set {
-            what: Opens::Socket { address, listener },
-            ..
-        } => socket_address(fds, acting, number, address, *listener),
+        Act::Set { what, .. } => match what {
+            Opens::Socket { address, listener } => {
+                socket_address(fds, acting, number, address, *listener)
+            }
+            Opens::File(_) => Ok(None),
+        },
         Act::Address { fd, bytes, .. } => address_at(fds, acting, *fd, number, bytes),
         _ => Ok(None),
     }

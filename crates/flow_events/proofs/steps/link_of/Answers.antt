@@ -1,0 +1,12 @@
+use Rattle.std.proofs.Common.{◌≡◌, ◌∙◌, ap, subst, sym, Some}
+use Rattle.flow_base.specs.declared.types.Key.TheVariants.{Process}
+use Rattle.acts.specs.Flows.{between}
+use Rattle.flow_events.specs.Acting.{IsOf}
+use Rattle.flow_events.proofs.steps.link_of.Goals as goal
+
+pub returns-in_ok-thing-in-Move : goal.returns-in_ok-thing-in-Move
+returns-in_ok-thing-in-Move c = λ before now born acting.
+    let of : c.in-Move.pid ≡ c.args.acting.now.pid = subst (λ act. IsOf c.args.acting.now.pid act) c.in-Move.is c.requires.of in
+    let thing = c.in_ok-thing-in-Move.ensures c.args.procs.now before now born acting in
+    let life = sym acting.life_is in
+    rw (c.in-Move.is, of) (ap Some (c.between.ensures ∙ (λ i. between c.in-Move.inward (thing i) (Process c.args.acting.now.pid (life i)) c.in-Move.how)))
