@@ -34,6 +34,22 @@ pub struct Plan {
     pub unmapped: bool,
 }
 
+impl Plan {
+    /// The flows that the event will make, in their order.
+    pub fn flows(&self) -> &[Flow]
+        ensures { result.now ≡ self.now.flows }
+    {
+        self.flows.as_slice()
+    }
+
+    /// Whether the call of the event isn't among those that are known.
+    pub fn unmapped(&self) -> bool
+        ensures { result ≡ self.now.unmapped }
+    {
+        self.unmapped
+    }
+}
+
 /// Gives a socket its new address, where there is one. It takes no memory.
 pub fn readdress(fds: &mut Fds, address: Option<NewAddress>)
     requires room { addresses_in address ≤ fds.old.address_spare }
