@@ -7,6 +7,9 @@ use Rattle.flow_base.specs.declared.types.Key.{Key}
 use Rattle.flow_base.specs.contracts.types.KeyPartialEq.TheImpl.{ghosts}
 use Rattle.acts.specs.Keys.{put_new}
 use Rattle.acts.specs.Flows.{number_in}
+use Rattle.std.proofs.lemmas.List.{reverse-append}
+use Rattle.flow_events.specs.Entering.{entered}
+use Rattle.flow_events.specs.Added.{AreNew}
 
 module _ {X : Type 0} (p : X → Bool) where
   before_step : (b any : Bool) (n m : ℕ) → (any ≡ true → n ≡ m) → (b || any) ≡ true → cond (not b) (1 + n) 0 ≡ cond (not b) (1 + m) 0
@@ -112,3 +115,17 @@ module _ (same : (k : Key) → ghosts.eq k k ≡ true) where
 
   pub to_number : (mid after : List Key) (to : Key) (n : ℕ) → after ≡ put_new ghosts.eq mid to → n ≡ number_in mid to → n ≡ number_in after to
   to_number mid after to n is_after number = number ∙ sym (put_number mid to) ∙ ap (λ seen. number_in seen to) (sym is_after)
+
+new_by : (b : Bool) (known keys : List Key) (key : Key) → list_any (ghosts.eq key) keys ≡ b → list_any (ghosts.eq key) known ≡ false → AreNew known keys → AreNew known (if b then keys else keys ++ key ∷ [])
+new_by true known keys key is none new = new
+new_by false known keys key is none new = record {
+  enter =
+      ap (entered known) (reverse-append keys (key ∷ []))
+      ∙ ap (λ seen. put_new ghosts.eq seen key) new.enter
+      ∙ new_comes known keys key none
+      ∙ ap (λ b. known ++ (if b then keys else keys ++ key ∷ [])) is;
+}
+
+-- keys that were new, and one more that is put, were each new when they came
+pub still_new : (known keys : List Key) (key : Key) → list_any (ghosts.eq key) known ≡ false → AreNew known keys → AreNew known (put_new ghosts.eq keys key)
+still_new known keys key none new = new_by (list_any (ghosts.eq key) keys) known keys key refl none new

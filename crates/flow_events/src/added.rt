@@ -44,12 +44,13 @@ impl Added {
         }
     }
 
-    #[tactic(auto, using(crate::proofs::Numbering::known_number, crate::proofs::Numbering::new_number, crate::proofs::Numbering::known_stays, crate::proofs::Numbering::new_comes, crate::proofs::Numbering::still_fits))]
+    #[tactic(auto, using(crate::proofs::Numbering::known_number, crate::proofs::Numbering::new_number, crate::proofs::Numbering::known_stays, crate::proofs::Numbering::new_comes, crate::proofs::Numbering::still_fits, crate::proofs::Numbering::still_new))]
     // The number of a key, which is the next one where the key is new.
     fn number(&mut self, entities: &Entities, most: u32, key: Key) -> Result<EntityId, PrepareFault>
         requires limit { most ≡ entities.now.limit }
         requires fits { length (entities.now.keys ++ self.old.keys) ≤ most }
         ensures keys { OnOk result (entities.now.keys ++ self.new.keys ≡ put_new ghosts.eq (entities.now.keys ++ self.old.keys) key) }
+        ensures new { OnOk result (AreNew entities.now.keys self.old.keys → AreNew entities.now.keys self.new.keys) }
         ensures id { IfOk result (λ (id : EntityId). id.0 ≡ number_in (entities.now.keys ++ self.old.keys) key) }
         ensures full { (full : Full) → result ≡ Err (fault.Full full) → (full ≡ full_at most) × (most < length (put_new ghosts.eq (entities.now.keys ++ self.old.keys) key)) }
         ensures fits { OnOk result (length (entities.now.keys ++ self.new.keys) ≤ most) }
@@ -84,6 +85,7 @@ impl Added {
         requires limit { most ≡ entities.now.limit }
         requires fits { length (entities.now.keys ++ self.old.keys) ≤ most }
         ensures keys { OnOk result (entities.now.keys ++ self.new.keys ≡ with_ends (entities.now.keys ++ self.old.keys) (Some link)) }
+        ensures new { OnOk result (AreNew entities.now.keys self.old.keys → AreNew entities.now.keys self.new.keys) }
         ensures flows { OnOk result (self.new.flows ≡ self.old.flows ++ flow_of (entities.now.keys ++ self.new.keys) at.ms serial at.place link ∷ []) }
         ensures full { (full : Full) → result ≡ Err (fault.Full full) → (full ≡ full_at most) × (most < length (with_ends (entities.now.keys ++ self.old.keys) (Some link))) }
         ensures fits { OnOk result (length (entities.now.keys ++ self.new.keys) ≤ most) }
