@@ -11,6 +11,7 @@ mod effects;
 mod fault;
 mod given;
 mod lives;
+mod parts;
 mod passes;
 mod plan;
 mod steps;

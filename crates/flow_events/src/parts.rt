@@ -1,0 +1,43 @@
+//! The parts of a plan, put in the order in which they are done.
+ghost use Rattle.std.specs.Prelude.{◌≡◌, ◌++◌, ◌∷◌, [], List, IfOk, map, reverse};
+
+use crate::given::Given;
+use acts::copy_key;
+use flow_base::{Key, List, NoMemory};
+use indexmap::IndexSet;
+use std::alloc::Global;
+
+/// The items with the last one first.
+pub fn newest_first<T: Drop>(alloc: Global, items: List<T>) -> Result<List<T>, NoMemory>
+    ensures { IfOk result (λ turned. turned ≡ reverse items) }
+{
+    let mut items = items;
+    let mut turned = List::new(alloc);
+    while let Some(item) = items.pop() {
+        turned.push(item)?;
+    }
+    Ok(turned)
+}
+
+/// The keys with the last one first.
+pub fn newest_keys(alloc: Global, keys: IndexSet<Key>) -> Result<List<Key>, NoMemory>
+    ensures { IfOk result (λ turned. turned ≡ reverse keys.keys) }
+{
+    let mut keys = keys;
+    let mut turned = List::new(alloc);
+    while let Some(key) = keys.pop() {
+        turned.push(key)?;
+    }
+    Ok(turned)
+}
+
+/// The keys that are named.
+pub fn named_keys(alloc: Global, given: &[Given]) -> Result<List<Key>, NoMemory>
+    ensures { IfOk result (λ keys. keys ≡ map (λ g. g.key) given.now) }
+{
+    let mut keys = List::new(alloc);
+    for one in given {
+        keys.push(copy_key(&one.key)?)?;
+    }
+    Ok(keys)
+}
