@@ -6,7 +6,8 @@ use Rattle.acts.specs.Keys.{all_given}
 use Rattle.acts.specs.Flows.{acts_of, objects, flows}
 use Rattle.proc_table.specs.Table.{StandsFor as LivesAs}
 use Rattle.fd_table.specs.Table.{HoldsAs, AddressesAs}
-use Rattle.entity_names.specs.Known.{NamesAs}
+use Rattle.flow_base.specs.declared.types.Key.{Key}
+use Rattle.entity_names.specs.Known.{NamesAs, names_at}
 use Rattle.flow_events.specs.declared.plan.NewAddress.{NewAddress}
 use Rattle.flow_events.specs.declared.plan.Plan.{Plan}
 use Rattle.flow_events.specs.declared.tables.Tables.{Tables}
@@ -62,3 +63,26 @@ pub record Stands (tables : Tables) : Type 0 where
   pub text : List ℕ → List ℕ
   pub taken : List Taken
   pub stands : StandsFor text tables taken
+
+-- there is room for what the plan does to lives, births, descriptors, addresses, names and objects
+pub record HasRooms (tables : Tables) (plan : Plan) : Type 0 where
+  pub lives : length plan.acts ≤ tables.procs.spare
+  pub births : length plan.acts ≤ tables.births.spare
+  pub held : need plan.see + need plan.last ≤ tables.fds.spare
+  pub addresses : 1 ≤ tables.fds.address_spare
+  pub names : Covers tables.entities plan.given
+  pub keys : length plan.keys ≤ tables.entities.spare
+
+-- the tables differ at most in their room
+pub record DiffersInRoom (old new : Tables) : Type 0 where
+  pub lives : new.procs.all ≡ old.procs.all
+  pub births : new.births.all ≡ old.births.all
+  pub held : new.fds.held ≡ old.fds.held
+  pub addresses : new.fds.addresses ≡ old.fds.addresses
+  pub keys : new.entities.keys ≡ old.entities.keys
+  pub limit : new.entities.limit ≡ old.entities.limit
+  pub most_names : new.entities.most_names ≡ old.entities.most_names
+  pub names : (key : Key) → names_at new.entities key ≡ names_at old.entities key
+  pub flows : new.flows ≡ old.flows
+  pub most_flows : new.most_flows ≡ old.most_flows
+  pub acts : new.acts ≡ old.acts

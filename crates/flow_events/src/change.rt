@@ -51,6 +51,18 @@ pub enum Change {
     },
 }
 
+/// How many descriptors a change may add.
+pub fn need(change: &Change) -> usize
+    ensures { result ≡ need change.now }
+{
+    match change {
+        Change::Set { .. } => 1,
+        Change::Pair { .. } => 2,
+        Change::Give { entries, .. } => entries.as_slice().len(),
+        _ => 0,
+    }
+}
+
 /// Does the change. It takes no memory.
 pub fn make_change(fds: &mut Fds, change: Change)
     requires room { need change ≤ fds.old.spare }

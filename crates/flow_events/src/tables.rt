@@ -1,18 +1,19 @@
 //! The tables of all that acts are about.
-ghost use Rattle.std.specs.Prelude.{◌≡◌, ◌++◌, ℕ, [], List, length};
+ghost use Rattle.std.specs.Prelude.{◌≡◌, ◌++◌, ℕ, [], List, OnOk, length};
 ghost use Rattle.acts.specs.declared.act.Taken.{Taken};
 ghost use Rattle.acts.specs.Keys.{all_given};
 ghost use Rattle.acts.specs.Flows.{acts_of, objects, flows};
 ghost use Rattle.entity_names.specs.Known.{NamesAs};
-ghost use Rattle.flow_events.specs.Standing.{StandsFor, Stands, IsPlanOf, IsReady};
+ghost use Rattle.flow_events.specs.Standing.{StandsFor, Stands, IsPlanOf, IsReady, HasRooms, DiffersInRoom};
 
 use crate::births::Births;
-use crate::change::make_change;
+use crate::change::{make_change, need};
+use crate::parts::named_keys;
 use crate::passes::{bear_through, enter_all, give_all, live_through};
 use crate::plan::{Plan, readdress};
 use entity_names::Entities;
 use fd_table::Fds;
-use flow_base::{Flow, Limits, List};
+use flow_base::{Flow, Limits, List, NoMemory};
 use proc_table::Procs;
 use std::alloc::Global;
 
@@ -64,6 +65,24 @@ impl Tables {
         ensures { (text : List ℕ → List ℕ) (taken : List Taken) → StandsFor text self.now taken → result ≡ length taken }
     {
         self.acts
+    }
+
+    /// Makes room for what was planned, and changes nothing else.
+    pub fn make_room(&mut self, alloc: Global, plan: &Plan) -> Result<(), NoMemory>
+        ensures rooms { OnOk result (HasRooms self.new plan.now) }
+        ensures same { DiffersInRoom self.old self.new }
+    {
+        let acts = plan.acts.as_slice().len();
+        let named = named_keys(alloc, plan.given.as_slice())?;
+        let Some(descriptors) = need(&plan.see).checked_add(need(&plan.last)) else {
+            return Err(NoMemory);
+        };
+        self.procs.reserve(acts)?;
+        self.births.reserve(acts)?;
+        self.fds.reserve(descriptors, 1)?;
+        self.entities
+            .reserve(plan.keys.as_slice().len(), named.as_slice())?;
+        Ok(())
     }
 
     /// Does what was planned, and gives its flows. It takes no memory.
