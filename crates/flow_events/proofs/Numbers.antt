@@ -1,11 +1,15 @@
 -- Lives and births are numbered below the number of acts.
-use Rattle.std.proofs.Common.{◌≡◌, ◌≤◌, ◌<◌, ◌+◌, ◌++◌, ap, ℕ, Bool, true, false, List, [], ◌∷◌, length, Option, Some, None, if◌then◌else◌, arith}
+use Rattle.std.proofs.Common.{◌≡◌, ◌≤◌, ◌<◌, ◌+◌, ◌++◌, ◌∙◌, refl, ap, ℕ, Bool, true, false, List, [], ◌∷◌, length, Option, Some, None, if◌then◌else◌, arith}
 use Rattle.std.specs.Prelude.{IfSome}
 use Rattle.std.proofs.lemmas.Grind.{common_steps}
 use Rattle.flow_base.specs.declared.types.FileId.{FileId}
 use Rattle.acts.specs.declared.act.Act.{Act}
 use Rattle.acts.specs.Lives.{beginnings}
-use Rattle.acts.specs.Births.{born, is_birth_of}
+use Rattle.acts.specs.Births.{born, file_key, is_birth_of, same_file}
+use Rattle.acts.specs.declared.act.Act.TheVariants.{Birth}
+use Rattle.acts.specs.declared.act.FileRef.{FileRef}
+use Rattle.flow_base.specs.declared.types.Key.TheVariants.{Inode}
+use Rattle.std.proofs.lemmas.Bool.Decides.{nat_tests}
 use Rattle.proc_table.specs.declared.life.Life.{Life}
 use Rattle.proc_table.specs.Table.{Table, StandsFor, standing_of, at}
 use Rattle.flow_events.specs.Births.{Table as Counts, BornAs, BornBelow}
@@ -41,3 +45,18 @@ joined_by false n m k so_far = so_far
 pub born_both : (now before : List Act) (id : FileId) → born (now ++ before) id ≡ born before id + born now id
 born_both [] before id = let e : born before id ≡ born before id + 0 = omega arith in e
 born_both (act ∷ now) before id = joined_by (is_birth_of act id) (born (now ++ before) id) (born before id) (born now id) (born_both now before id)
+
+same_itself : (id : FileId) → same_file id id ≡ true
+same_itself id = grind (arith, nat_tests)
+
+counted : (b : Bool) (n : ℕ) → b ≡ true → (if b then n + 1 else n) ≡ n + 1
+counted b n is = rw is refl
+
+key_counts : (acts : List Act) (path : Option (List ℕ)) (id : FileId)
+    → file_key (Birth (record { file = Some id; path = path }) ∷ acts) (record { file = Some id; path = path }) ≡ Inode id (born acts id + 1)
+key_counts acts path id = ap (Inode id) (counted (same_file id id) (born acts id) (same_itself id))
+
+-- the key of a file that is born counts its birth
+pub birth_counts : (acts : List Act) (file : FileRef) (id : FileId) → file.file ≡ Some id → file_key (Birth file ∷ acts) file ≡ Inode id (born acts id + 1)
+birth_counts acts file id is =
+    ap (λ number. file_key (Birth (record { file = number; path = file.path }) ∷ acts) (record { file = number; path = file.path })) is ∙ key_counts acts file.path id

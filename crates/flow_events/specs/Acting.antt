@@ -65,8 +65,7 @@ IsOf pid (Address caller fd bytes) = caller ≡ pid
 IsOf pid (Birth file) = ⊤
 IsOf pid (Move caller inward how what) = caller ≡ pid
 
--- the act is no see and no birth
-abbrev pub IsNoBirth : Act → Type 0
-IsNoBirth (See pid ppid exe) = ⊥
-IsNoBirth (Birth file) = ⊥
-IsNoBirth other = ⊤
+-- the act is no see
+abbrev pub IsNoSee : Act → Type 0
+IsNoSee (See pid ppid exe) = ⊥
+IsNoSee other = ⊤

@@ -1,5 +1,5 @@
 -- What an event adds to the objects and flows.
-use Rattle.std.specs.Prelude.{◌≡◌, ◌++◌, ℕ, List, reverse}
+use Rattle.std.specs.Prelude.{◌≡◌, ◌++◌, ℕ, Option, None, Some, List, [], ◌∷◌, reverse}
 use Rattle.flow_base.specs.declared.types.Key.{Key}
 use Rattle.flow_base.specs.declared.types.Flow.{Flow}
 use Rattle.acts.specs.declared.link.Link.{Link}
@@ -25,3 +25,8 @@ flow_of seen ms serial place link =
       at = record { ms = ms; place = place };
       serial = serial;
     }
+
+-- that flow, where there is a link
+abbrev pub flows_if : List Key → ℕ → ℕ → ℕ → Option Link → List Flow
+flows_if seen ms serial place None = []
+flows_if seen ms serial place (Some link) = flow_of seen ms serial place link ∷ []

@@ -89,7 +89,8 @@ pub fn see_link(procs: &Procs, pid: u32, ppid: u32) -> Option<Link>
 #[tactic(auto, using(crate::proofs::Numbers::born_both))]
 fn born(births: &Births, fresh: &Births, id: FileId) -> u64
     requires few { (before now : List Act) × IsBorn births.now fresh.now before now }
-    ensures { (before now : List Act) → IsBorn births.now fresh.now before now → result ≡ born (now ++ before) id }
+    ensures born { (before now : List Act) → IsBorn births.now fresh.now before now → result ≡ born (now ++ before) id }
+    ensures few { result < 2 ^ 64 - 1 }
 {
     births.count(id) + fresh.count(id)
 }
@@ -108,6 +109,28 @@ pub fn file_key(
         Some(id) => Ok(Key::Inode {
             file: id,
             born: born(births, fresh, id),
+        }),
+        None => Ok(Key::Path {
+            path: path_or_none(alloc, &file.path)?,
+        }),
+    }
+}
+
+#[tactic(auto, using(crate::proofs::Numbers::birth_counts))]
+/// The key of a file that is born, once its birth counts.
+pub fn birth_key(
+    alloc: Global,
+    births: &Births,
+    fresh: &Births,
+    file: &FileRef,
+) -> Result<Key, NoMemory>
+    requires few { (before now : List Act) × IsBorn births.now fresh.now before now }
+    ensures { (before now : List Act) → IsBorn births.now fresh.now before now → IfOk result (λ made. made ≡ file_key (act.Birth file.now ∷ (now ++ before)) file.now) }
+{
+    match file.file {
+        Some(id) => Ok(Key::Inode {
+            file: id,
+            born: born(births, fresh, id) + 1,
         }),
         None => Ok(Key::Path {
             path: path_or_none(alloc, &file.path)?,

@@ -19,7 +19,7 @@ ghost use Rattle.flow_events.specs.Acting.{IsActing, IsBorn, DoesAs, address_thr
 ghost use Rattle.flow_events.specs.Entering.{pair_of};
 ghost use Rattle.flow_events.specs.Standing.{readdressed};
 
-use crate::acting::{Acting, file_key};
+use crate::acting::{Acting, birth_key, file_key};
 use crate::births::Births;
 use crate::change::Change;
 use crate::given::Given;
@@ -254,6 +254,25 @@ pub fn file_name(
         None => Ok(None),
         Some(path) => Ok(Some(Given {
             key: file_key(alloc, births, fresh, file)?,
+            text: path.copy()?,
+        })),
+    }
+}
+
+/// A file that is born is named by its path, where it has one, and its birth counts.
+pub fn birth_name(
+    alloc: Global,
+    births: &Births,
+    fresh: &Births,
+    file: &FileRef,
+) -> Result<Option<Given>, NoMemory>
+    requires few { (before now : List Act) × IsBorn births.now fresh.now before now }
+    ensures { (before now : List Act) → IsBorn births.now fresh.now before now → IfOk result (λ given. pair_if given ≡ name_if (file_key (act.Birth file.now ∷ (now ++ before)) file.now) file.now.path) }
+{
+    match &file.path {
+        None => Ok(None),
+        Some(path) => Ok(Some(Given {
+            key: birth_key(alloc, births, fresh, file)?,
             text: path.copy()?,
         })),
     }

@@ -7,6 +7,7 @@ mod acting;
 mod added;
 mod births;
 mod change;
+mod draft;
 mod effects;
 mod fault;
 mod given;

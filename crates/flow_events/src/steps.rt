@@ -7,15 +7,15 @@ ghost use Rattle.acts.specs.Flows.{link_of};
 ghost use Rattle.name_text.specs.Addresses.{text_of};
 ghost use Rattle.proc_table.specs.Table.{Table};
 ghost use Rattle.flow_events.specs.Lives.{LivesBelow};
-ghost use Rattle.flow_events.specs.Acting.{IsActing, IsBorn, IsOf, IsNoBirth, DoesAs, pair_if};
+ghost use Rattle.flow_events.specs.Acting.{IsActing, IsBorn, IsOf, IsNoSee, DoesAs, pair_if};
 ghost use Rattle.flow_events.specs.Standing.{readdressed};
 
 use crate::acting::{Acting, between, fork_link, thing_key};
 use crate::births::Births;
 use crate::change::Change;
 use crate::effects::{
-    address_at, address_change, address_name, copy_change, file_name, fork_change, opened,
-    socket_address,
+    address_at, address_change, address_name, birth_name, copy_change, file_name, fork_change,
+    opened, socket_address,
 };
 use crate::given::Given;
 use crate::plan::NewAddress;
@@ -64,12 +64,12 @@ pub fn name_of(
     act: &Act,
 ) -> Result<Option<Given>, NoMemory>
     requires few { (before now : List Act) × IsBorn births.now fresh.now before now }
-    requires kind { IsNoBirth act.now }
+    requires kind { IsNoSee act.now }
     ensures { (before now : List Act) → IsBorn births.now fresh.now before now → IfOk result (λ name. pair_if name ≡ given text_of (now ++ before) act.now) }
 {
     match act {
         Act::See { .. } => unreachable!(),
-        Act::Birth { .. } => unreachable!(),
+        Act::Birth { file } => birth_name(alloc, births, fresh, file),
         Act::Set {
             what: Opens::File(file),
             ..
