@@ -1,4 +1,5 @@
 pub mod Applying
+pub mod Drafting
 pub mod Numbering
 pub mod Numbers
 pub mod Rooms

@@ -5,3 +5,4 @@ pub mod Lives
 pub mod Standing
 pub mod Acting
 pub mod Added
+pub mod Drafts

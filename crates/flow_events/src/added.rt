@@ -73,6 +73,14 @@ impl Added {
         Ok(EntityId(place as u32))
     }
 
+    /// How many flows were added.
+    pub fn count(&self) -> u64
+        ensures { result ≡ length self.now.flows }
+    {
+        let _ = &self.keys;
+        self.flows.as_slice().len() as u64
+    }
+
     /// Adds the flow of a link, and its ends where they are new.
     pub fn link(
         &mut self,

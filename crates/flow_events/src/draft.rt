@@ -1,19 +1,28 @@
 //! What is worked out of an event, act by act.
-ghost use Rattle.std.specs.Prelude.{◌≡◌, ◌≤◌, ◌<◌, ◌++◌, ◌^◌, ◌∷◌, ℕ, [], List, Err, length, map, OnOk};
+ghost use Rattle.std.specs.Prelude.{◌≡◌, ◌≤◌, ◌<◌, ◌+◌, ◌-◌, ◌++◌, ◌^◌, ◌∷◌, ℕ, [], List, Err, length, map, OnOk};
 ghost use Rattle.flow_base.specs.declared.limits.Full.{Full};
-ghost use Rattle.acts.specs.Flows.{with_ends};
+ghost use Rattle.acts.specs.declared.act.Taken.{Taken};
+ghost use Rattle.acts.specs.Flows.{acts_of, flows, with_ends};
 ghost use Rattle.entity_names.specs.Known.{full_at};
 ghost use Rattle.flow_events.specs.declared.fault.PrepareFault.TheVariants as fault;
-ghost use Rattle.flow_events.specs.Acting.{pair_if};
+ghost use Rattle.flow_events.specs.Acting.{IsActing, IsOf, pair_if};
+ghost use Rattle.flow_events.specs.Drafts.{Drafted};
+ghost use Rattle.flow_events.specs.Lives.{LivesBelow};
 ghost use Rattle.flow_events.specs.Added.{AreNew, flows_if};
 ghost use Rattle.flow_events.specs.Entering.{pair_of};
 
+use crate::acting::Acting;
 use crate::added::Added;
+use crate::births::Births;
 use crate::fault::PrepareFault;
 use crate::given::Given;
-use acts::Link;
+use crate::steps::{link_of, name_of};
+use acts::{Act, Link};
 use entity_names::Entities;
+use fd_table::Fds;
 use flow_base::{List, NoMemory, Stamp};
+use proc_table::Procs;
+use std::alloc::Global;
 
 /// Puts a name last, where there is one.
 pub fn put_name(given: &mut List<Given>, name: Option<Given>) -> Result<(), NoMemory>
@@ -45,5 +54,76 @@ pub fn add_link(
     match link {
         Some(link) => added.link(entities, most, link, at, serial),
         None => Ok(()),
+    }
+}
+
+/// What is worked out of an event.
+#[derive(Drop)]
+pub struct Draft {
+    pub births: Births,
+    pub given: List<Given>,
+    pub added: Added,
+}
+
+/// What an act is worked out from.
+pub struct Ground<'a> {
+    pub alloc: Global,
+    pub procs: &'a Procs,
+    pub fds: &'a Fds,
+    pub births: &'a Births,
+    pub entities: &'a Entities,
+    /// How many objects there may be.
+    pub most: u32,
+    /// How many flows there were before the event.
+    pub flows: u64,
+    pub ms: u64,
+    pub serial: u32,
+}
+
+impl Draft {
+    /// Works out one more act, which is not the see that comes first.
+    pub fn act(
+        &mut self,
+        ground: &Ground<'_>,
+        acting: &Acting,
+        act: &Act,
+    ) -> Result<(), PrepareFault>
+        requires few { (before now : List Taken) × (Drafted ground.now.births.now ground.now.entities.now self.old before now × ((length before < 2 ^ 63 - 1) × (length now < 2 ^ 63 - 1))) }
+        requires lives { LivesBelow ground.now.procs.now (2 ^ 64 - 1) }
+        requires of { IsOf acting.now.pid act.now }
+        requires limit { ground.now.most ≡ ground.now.entities.now.limit }
+        requires fits { length (ground.now.entities.now.keys ++ self.old.added.keys) ≤ ground.now.most }
+        requires room { 1 ≤ self.old.births.spare }
+        requires flows { ground.now.flows + length self.old.added.flows < 2 ^ 64 }
+        ensures next { OnOk result ((before now : List Taken) → ground.now.flows ≡ length (flows before) → IsActing ground.now.procs.now ground.now.fds.now acting.now (acts_of now ++ acts_of before) → Drafted ground.now.births.now ground.now.entities.now self.old before now → Drafted ground.now.births.now ground.now.entities.now self.new before (record { act = act.now; ms = ground.now.ms; serial = ground.now.serial } ∷ now)) }
+        ensures new { OnOk result (AreNew ground.now.entities.now.keys self.old.added.keys → AreNew ground.now.entities.now.keys self.new.added.keys) }
+        ensures fits { OnOk result (length (ground.now.entities.now.keys ++ self.new.added.keys) ≤ ground.now.most) }
+        ensures room { self.old.births.spare ≤ self.new.births.spare + 1 }
+    {
+        let link = link_of(
+            ground.alloc,
+            ground.procs,
+            ground.fds,
+            ground.births,
+            &self.births,
+            acting,
+            act,
+        )?;
+        let name = name_of(ground.alloc, ground.births, &self.births, act)?;
+        let at = Stamp {
+            ms: ground.ms,
+            place: ground.flows + self.added.count(),
+        };
+        put_name(&mut self.given, name)?;
+        add_link(
+            &mut self.added,
+            ground.entities,
+            ground.most,
+            link,
+            at,
+            ground.serial,
+        )?;
+        self.births.act(act);
+        Ok(())
     }
 }

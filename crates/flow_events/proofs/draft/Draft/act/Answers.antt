@@ -1,0 +1,79 @@
+use Rattle.std.proofs.Common.{◌≡◌, ◌+◌, ◌-◌, ◌++◌, ◌^◌, ◌∙◌, ap, sym, length, map, ◌∷◌, append_assoc, arith}
+use Rattle.name_text.specs.Addresses.{text_of}
+use Rattle.acts.specs.Keys.{all_given}
+use Rattle.acts.specs.Flows.{acts_of, objects, flows, link_of, with_ends}
+use Rattle.flow_events.specs.Acting.{IsBorn}
+use Rattle.flow_events.specs.Added.{flows_if}
+use Rattle.flow_events.specs.Entering.{pair_of}
+use Rattle.flow_events.proofs.Drafting.{few_births, joined, flows_after}
+use Rattle.flow_events.proofs.draft.Draft.act.Goals as goal
+
+pub link_of-requires-clause-few : goal.link_of-requires-clause-few
+link_of-requires-clause-few c =
+    let before = c.requires.few.0 in
+    let now = c.requires.few.1 in
+    let drafted = c.requires.few.2.0 in
+    let bounds = c.requires.few.2.1 in (
+      acts_of before,
+      acts_of now,
+      record {
+        before_are = drafted.before_are;
+        now_are = drafted.now_are;
+        births_few = few_births c.args.ground.now.births.now before (2 ^ 63) drafted.before_are (let b = bounds.0 in omega (arith, b));
+        fresh_few = few_births c.args.self.now.births now (2 ^ 63) drafted.now_are (let b = bounds.1 in omega (arith, b));
+      },
+    )
+
+pub name_of-requires-clause-few : goal.name_of-requires-clause-few
+name_of-requires-clause-few c =
+    let before = c.requires.few.0 in
+    let now = c.requires.few.1 in
+    let drafted = c.requires.few.2.0 in
+    let bounds = c.requires.few.2.1 in (
+      acts_of before,
+      acts_of now,
+      record {
+        before_are = drafted.before_are;
+        now_are = drafted.now_are;
+        births_few = few_births c.args.ground.now.births.now before (2 ^ 63) drafted.before_are (let b = bounds.0 in omega (arith, b));
+        fresh_few = few_births c.args.self.now.births now (2 ^ 63) drafted.now_are (let b = bounds.1 in omega (arith, b));
+      },
+    )
+
+pub act-requires-clause-few : goal.act-requires-clause-few
+act-requires-clause-few c =
+    few_births c.args.self.now.births c.requires.few.1 (2 ^ 64 - 1) c.requires.few.2.0.now_are (let b = c.requires.few.2.1.1 in omega (arith, b))
+
+pub returns-clause-next : goal.returns-clause-next
+returns-clause-next c = λ before now base acting so_far.
+    let drafted = c.requires.few.2.0 in
+    let bounds = c.requires.few.2.1 in
+    let born : IsBorn c.args.ground.now.births.now c.args.self.now.births (acts_of before) (acts_of now) = record {
+      before_are = so_far.before_are;
+      now_are = so_far.now_are;
+      births_few = few_births c.args.ground.now.births.now c.requires.few.0 (2 ^ 63) drafted.before_are (let b = bounds.0 in omega (arith, b));
+      fresh_few = few_births c.args.self.now.births c.requires.few.1 (2 ^ 63) drafted.now_are (let b = bounds.1 in omega (arith, b));
+    } in
+    let act = c.args.act.now in
+    let known = c.args.ground.now.entities.now.keys in
+    let acts = acts_of now ++ acts_of before in
+    let link = c.in_ok-link.ensures (acts_of before) (acts_of now) born acting in
+    let name = c.in_ok-name.ensures (acts_of before) (acts_of now) born in
+    let objects_are : objects (act ∷ acts) ≡ known ++ c.add_link.new.added.keys =
+    (λ i. with_ends (so_far.objects_are i) (sym link i)) ∙ sym c.in_ok-add_link.ensures.keys in
+    record {
+      before_are = so_far.before_are;
+      now_are = c.act.ensures.next (acts_of now) so_far.now_are;
+      names_are =
+          (λ i. so_far.names_are i ++ sym name i)
+          ∙ append_assoc (all_given text_of (acts_of before)) (map pair_of c.args.self.now.given) _
+          ∙ ap (λ pairs. all_given text_of (acts_of before) ++ pairs) (sym c.in_ok-put_name.ensures);
+      objects_are = objects_are;
+      flows_are =
+          flows_after before now (record { act = act; ms = c.args.ground.now.ms; serial = c.args.ground.now.serial }) c.args.self.now.added.flows (known ++ c.add_link.new.added.keys) c.in_ok-link.link
+          (c.args.ground.now.flows + length c.args.self.now.added.flows) so_far.flows_are
+          (ap (λ all. objects (act ∷ all)) (joined now before) ∙ objects_are)
+          (ap (λ all. link_of all act) (joined now before) ∙ sym link)
+          (ap (λ n. n + length c.args.self.now.added.flows) base)
+          ∙ ap (λ added. flows before ++ added) (ap (λ n. c.args.self.now.added.flows ++ flows_if (known ++ c.add_link.new.added.keys) c.args.ground.now.ms c.args.ground.now.serial (c.args.ground.now.flows + n) c.in_ok-link.link) (sym c.count.ensures) ∙ sym c.in_ok-add_link.ensures.flows);
+    }

@@ -1,0 +1,18 @@
+-- What is worked out of an event so far. Every list of acts has the newest first, what is added the oldest.
+use Rattle.std.specs.Prelude.{◌≡◌, ◌++◌, List, map}
+use Rattle.name_text.specs.Addresses.{text_of}
+use Rattle.acts.specs.declared.act.Taken.{Taken}
+use Rattle.acts.specs.Keys.{all_given}
+use Rattle.acts.specs.Flows.{acts_of, objects, flows}
+use Rattle.entity_names.specs.Known.{Known}
+use Rattle.flow_events.specs.declared.draft.Draft.{Draft}
+use Rattle.flow_events.specs.Births.{Table as Births, BornAs}
+use Rattle.flow_events.specs.Entering.{pair_of}
+
+-- the draft has the births, names, objects and flows that these acts add to those before
+pub record Drafted (births : Births) (entities : Known) (draft : Draft) (before now : List Taken) : Type 0 where
+  pub before_are : BornAs births (acts_of before)
+  pub now_are : BornAs draft.births (acts_of now)
+  pub names_are : all_given text_of (acts_of now ++ acts_of before) ≡ all_given text_of (acts_of before) ++ map pair_of draft.given
+  pub objects_are : objects (acts_of now ++ acts_of before) ≡ entities.keys ++ draft.added.keys
+  pub flows_are : flows (now ++ before) ≡ flows before ++ draft.added.flows
