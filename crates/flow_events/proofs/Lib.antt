@@ -1,4 +1,5 @@
 pub mod Applying
+pub mod CalmActs
 pub mod Drafting
 pub mod Numbering
 pub mod Numbers

@@ -6,3 +6,4 @@ pub mod Standing
 pub mod Acting
 pub mod Added
 pub mod Drafts
+pub mod Calm
