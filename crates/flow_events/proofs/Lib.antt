@@ -5,3 +5,4 @@ pub mod Numbering
 pub mod Numbers
 pub mod Rooms
 pub mod Sockets
+pub mod UnderWays

@@ -1,11 +1,16 @@
 -- What is worked out of an event so far. Every list of acts has the newest first, what is added the oldest.
-use Rattle.std.specs.Prelude.{◌≡◌, ◌++◌, List, map}
+use Rattle.std.specs.Prelude.{◌≡◌, ◌++◌, ℕ, List, length, map, reverse}
 use Rattle.name_text.specs.Addresses.{text_of}
 use Rattle.acts.specs.declared.act.Taken.{Taken}
 use Rattle.acts.specs.Keys.{all_given}
 use Rattle.acts.specs.Flows.{acts_of, objects, flows}
 use Rattle.entity_names.specs.Known.{Known}
+use Rattle.acts.specs.declared.act.Act.{Act}
 use Rattle.flow_events.specs.declared.draft.Draft.{Draft}
+use Rattle.flow_events.specs.declared.draft.Ground.{Ground}
+use Rattle.flow_events.specs.declared.acting.Acting.{Acting}
+use Rattle.flow_events.specs.Acting.{IsActing, IsOf}
+use Rattle.flow_events.specs.Calm.{IsCalm}
 use Rattle.flow_events.specs.Births.{Table as Births, BornAs}
 use Rattle.flow_events.specs.Entering.{pair_of}
 
@@ -16,3 +21,18 @@ pub record Drafted (births : Births) (entities : Known) (draft : Draft) (before 
   pub names_are : all_given text_of (acts_of now ++ acts_of before) ≡ all_given text_of (acts_of before) ++ map pair_of draft.given
   pub objects_are : objects (acts_of now ++ acts_of before) ≡ entities.keys ++ draft.added.keys
   pub flows_are : flows (now ++ before) ≡ flows before ++ draft.added.flows
+
+-- an event is under way: its draft has these acts, and its process is as they tell
+pub record UnderWay (ground : Ground) (acting : Acting) (draft : Draft) (before now : List Taken) : Type 0 where
+  pub drafted : Drafted ground.births.now ground.entities.now draft before now
+  pub acting_is : IsActing ground.procs.now ground.fds.now acting (acts_of now ++ acts_of before)
+  pub base : ground.flows ≡ length (flows before)
+
+-- acts of one event, with the oldest first, as a log has them, with the newest first
+abbrev pub turned : ℕ → ℕ → List Act → List Taken
+turned ms serial acts = reverse (map (λ act. record { act = act; ms = ms; serial = serial }) acts)
+
+-- an act of this process that leaves it as it is
+pub record IsCalmOf (pid : ℕ) (act : Act) : Type 0 where
+  pub of : IsOf pid act
+  pub calm : IsCalm act

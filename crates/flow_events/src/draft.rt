@@ -1,26 +1,31 @@
 //! What is worked out of an event, act by act.
 ghost use Rattle.std.specs.Prelude.{◌≡◌, ◌≤◌, ◌<◌, ◌+◌, ◌-◌, ◌++◌, ◌^◌, ◌∷◌, ℕ, [], List, Err, length, map, OnOk};
+ghost use Rattle.std.specs.Prelude.{All};
 ghost use Rattle.flow_base.specs.declared.limits.Full.{Full};
+ghost use Rattle.acts.specs.declared.act.Act.TheVariants as act;
 ghost use Rattle.acts.specs.declared.act.Taken.{Taken};
+ghost use Rattle.acts.specs.Lives.{life_of};
+ghost use Rattle.proc_table.specs.Table.{StandsFor as LivesAs};
 ghost use Rattle.acts.specs.Flows.{acts_of, flows, with_ends};
 ghost use Rattle.entity_names.specs.Known.{full_at};
 ghost use Rattle.flow_events.specs.declared.fault.PrepareFault.TheVariants as fault;
 ghost use Rattle.flow_events.specs.Acting.{IsActing, IsOf, pair_if};
-ghost use Rattle.flow_events.specs.Drafts.{Drafted};
+ghost use Rattle.flow_events.specs.Drafts.{Drafted, IsCalmOf, UnderWay, turned};
 ghost use Rattle.flow_events.specs.Lives.{LivesBelow};
 ghost use Rattle.flow_events.specs.Added.{AreNew, flows_if};
 ghost use Rattle.flow_events.specs.Entering.{pair_of};
 
-use crate::acting::Acting;
+use crate::acting::{Acting, see_link};
 use crate::added::Added;
 use crate::births::Births;
+use crate::effects::see_name;
 use crate::fault::PrepareFault;
 use crate::given::Given;
 use crate::steps::{link_of, name_of};
 use acts::{Act, Link};
 use entity_names::Entities;
 use fd_table::Fds;
-use flow_base::{List, NoMemory, Stamp};
+use flow_base::{Bytes, List, NoMemory, Stamp};
 use proc_table::Procs;
 use std::alloc::Global;
 
@@ -50,6 +55,7 @@ pub fn add_link(
     ensures flows { OnOk result (added.new.flows ≡ added.old.flows ++ flows_if (entities.now.keys ++ added.new.keys) at.ms serial at.place link) }
     ensures full { (full : Full) → result ≡ Err (fault.Full full) → (full ≡ full_at most) × (most < length (with_ends (entities.now.keys ++ added.old.keys) link)) }
     ensures fits { OnOk result (length (entities.now.keys ++ added.new.keys) ≤ most) }
+    ensures more { OnOk result (length added.new.flows ≤ length added.old.flows + 1) }
 {
     match link {
         Some(link) => added.link(entities, most, link, at, serial),
@@ -81,6 +87,42 @@ pub struct Ground<'a> {
 }
 
 impl Draft {
+    /// Works out the see that comes first.
+    pub fn see(
+        &mut self,
+        ground: &Ground<'_>,
+        acting: &Acting,
+        ppid: u32,
+        exe: &Option<Bytes>,
+    ) -> Result<(), PrepareFault>
+        requires lives { LivesBelow ground.now.procs.now (2 ^ 64 - 1) }
+        requires limit { ground.now.most ≡ ground.now.entities.now.limit }
+        requires fits { length (ground.now.entities.now.keys ++ self.old.added.keys) ≤ ground.now.most }
+        requires flows { ground.now.flows + length self.old.added.flows < 2 ^ 64 }
+        ensures next { OnOk result ((before : List Taken) → ground.now.flows ≡ length (flows before) → LivesAs ground.now.procs.now (acts_of before) → life_of (act.See acting.now.pid ppid exe.now ∷ acts_of before) acting.now.pid ≡ acting.now.life → Drafted ground.now.births.now ground.now.entities.now self.old before [] → Drafted ground.now.births.now ground.now.entities.now self.new before (record { act = act.See acting.now.pid ppid exe.now; ms = ground.now.ms; serial = ground.now.serial } ∷ [])) }
+        ensures new { OnOk result (AreNew ground.now.entities.now.keys self.old.added.keys → AreNew ground.now.entities.now.keys self.new.added.keys) }
+        ensures fits { OnOk result (length (ground.now.entities.now.keys ++ self.new.added.keys) ≤ ground.now.most) }
+        ensures more { OnOk result (length self.new.added.flows ≤ length self.old.added.flows + 1) }
+        ensures room { self.new.births ≡ self.old.births }
+    {
+        let link = see_link(ground.procs, acting.pid, ppid);
+        let name = see_name(acting, exe)?;
+        let at = Stamp {
+            ms: ground.ms,
+            place: ground.flows + self.added.count(),
+        };
+        put_name(&mut self.given, name)?;
+        add_link(
+            &mut self.added,
+            ground.entities,
+            ground.most,
+            link,
+            at,
+            ground.serial,
+        )?;
+        Ok(())
+    }
+
     /// Works out one more act, which is not the see that comes first.
     pub fn act(
         &mut self,
@@ -98,6 +140,7 @@ impl Draft {
         ensures next { OnOk result ((before now : List Taken) → ground.now.flows ≡ length (flows before) → IsActing ground.now.procs.now ground.now.fds.now acting.now (acts_of now ++ acts_of before) → Drafted ground.now.births.now ground.now.entities.now self.old before now → Drafted ground.now.births.now ground.now.entities.now self.new before (record { act = act.now; ms = ground.now.ms; serial = ground.now.serial } ∷ now)) }
         ensures new { OnOk result (AreNew ground.now.entities.now.keys self.old.added.keys → AreNew ground.now.entities.now.keys self.new.added.keys) }
         ensures fits { OnOk result (length (ground.now.entities.now.keys ++ self.new.added.keys) ≤ ground.now.most) }
+        ensures more { OnOk result (length self.new.added.flows ≤ length self.old.added.flows + 1) }
         ensures room { self.old.births.spare ≤ self.new.births.spare + 1 }
     {
         let link = link_of(
@@ -124,6 +167,32 @@ impl Draft {
             ground.serial,
         )?;
         self.births.act(act);
+        Ok(())
+    }
+
+    /// Works out births and moves, the oldest first.
+    pub fn calm_acts(
+        &mut self,
+        ground: &Ground<'_>,
+        acting: &Acting,
+        acts: &[Act],
+    ) -> Result<(), PrepareFault>
+        requires few { (before now : List Taken) × (UnderWay ground.now acting.now self.old before now × ((length before < 2 ^ 63 - 1) × (length now + length acts.now < 2 ^ 63 - 1))) }
+        requires lives { LivesBelow ground.now.procs.now (2 ^ 64 - 1) }
+        requires calm { All (IsCalmOf acting.now.pid) acts.now }
+        requires limit { ground.now.most ≡ ground.now.entities.now.limit }
+        requires fits { length (ground.now.entities.now.keys ++ self.old.added.keys) ≤ ground.now.most }
+        requires room { length acts.now ≤ self.old.births.spare }
+        requires flows { ground.now.flows + (length self.old.added.flows + length acts.now) < 2 ^ 64 }
+        ensures next { OnOk result ((before now : List Taken) → UnderWay ground.now acting.now self.old before now → UnderWay ground.now acting.now self.new before (turned ground.now.ms ground.now.serial acts.now ++ now)) }
+        ensures new { OnOk result (AreNew ground.now.entities.now.keys self.old.added.keys → AreNew ground.now.entities.now.keys self.new.added.keys) }
+        ensures fits { OnOk result (length (ground.now.entities.now.keys ++ self.new.added.keys) ≤ ground.now.most) }
+        ensures more { OnOk result (length self.new.added.flows ≤ length self.old.added.flows + length acts.now) }
+        ensures room { self.old.births.spare ≤ self.new.births.spare + length acts.now }
+    {
+        for act in acts {
+            self.act(ground, acting, act)?;
+        }
         Ok(())
     }
 }

@@ -1,0 +1,26 @@
+use Rattle.std.proofs.Common.{◌++◌, take, arith}
+use Rattle.std.proofs.lemmas.Grind.{common_steps}
+use Rattle.flow_events.specs.Drafts.{UnderWay, turned}
+use Rattle.flow_events.proofs.UnderWays.{calm_at, one_more, all_done}
+use Rattle.flow_events.proofs.draft.Draft.calm_acts.Goals as goal
+
+pub loop-act-preserved : goal.loop-act-preserved
+loop-act-preserved c =
+    let kept = c.loop-act.invariant in
+    let ground = c.args.ground.now in
+    let acting = c.args.acting.now in
+    record {
+      next = λ before now start.
+          let way = kept.next before now start in
+          let calm = calm_at acting.pid c.loop-act.act-index c.args.acts.now c.act-item.result c.requires.calm c.loop-act-test.true c.act-item.is in
+          one_more ground acting c.loop-act.self c.act.new.self before now c.loop-act.act-index c.args.acts.now c.act-item.result c.loop-act-test.true c.act-item.is calm.calm way
+            (c.in_ok-act.ensures.next before (turned ground.ms ground.serial (take c.loop-act.act-index c.args.acts.now) ++ now) way.base way.acting_is way.drafted);
+      new = λ start. c.in_ok-act.ensures.new (kept.new start);
+      fits = c.in_ok-act.ensures.fits;
+      more = (let a = c.in_ok-act.ensures.more in let b = kept.more in omega (arith, a, b));
+      room = (let a = c.in_ok-act.ensures.room in let b = kept.room in omega (arith, a, b));
+    }
+
+pub returns-clause-next : goal.returns-clause-next
+returns-clause-next c = λ before now start.
+    all_done c.args.ground.now c.args.acting.now c.loop-act.self before now c.loop-act.act-index c.args.acts.now c.loop-act-test.false (c.loop-act.invariant.next before now start)
