@@ -25,6 +25,7 @@ pub record StandsFor (address_text : List ℕ → List ℕ) (tables : Tables) (t
   pub names_are : NamesAs tables.entities (all_given address_text (acts_of taken))
   pub flows_are : tables.flows ≡ length (flows taken)
   pub acts_are : tables.acts ≡ length taken
+  pub limit_is : tables.most_objects ≡ tables.entities.limit
 
 -- the address of socket s, where one socket has a new one
 abbrev pub readdressed : Option NewAddress → (ℕ → Option (List ℕ)) → ℕ → Option (List ℕ)
@@ -86,3 +87,4 @@ pub record DiffersInRoom (old new : Tables) : Type 0 where
   pub flows : new.flows ≡ old.flows
   pub most_flows : new.most_flows ≡ old.most_flows
   pub acts : new.acts ≡ old.acts
+  pub most_objects : new.most_objects ≡ old.most_objects

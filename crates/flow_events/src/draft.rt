@@ -10,6 +10,8 @@ ghost use Rattle.acts.specs.Flows.{acts_of, flows, with_ends};
 ghost use Rattle.entity_names.specs.Known.{full_at};
 ghost use Rattle.flow_events.specs.declared.fault.PrepareFault.TheVariants as fault;
 ghost use Rattle.flow_events.specs.Acting.{IsActing, IsOf, pair_if};
+ghost use Rattle.flow_events.specs.Births.{BornAs};
+ghost use Rattle.std.specs.Prelude.{IfOk};
 ghost use Rattle.flow_events.specs.Drafts.{Drafted, IsCalmOf, UnderWay, turned};
 ghost use Rattle.flow_events.specs.Lives.{LivesBelow};
 ghost use Rattle.flow_events.specs.Added.{AreNew, flows_if};
@@ -87,6 +89,22 @@ pub struct Ground<'a> {
 }
 
 impl Draft {
+    /// Nothing yet, with room for so many births.
+    pub fn start(alloc: Global, more: usize) -> Result<Draft, NoMemory>
+        ensures births { IfOk result (λ draft. BornAs draft.births []) }
+        ensures room { IfOk result (λ draft. more ≤ draft.births.spare) }
+        ensures given { IfOk result (λ draft. draft.given ≡ []) }
+        ensures added { IfOk result (λ draft. draft.added ≡ record { keys = []; flows = [] }) }
+    {
+        let mut births = Births::new(alloc);
+        births.reserve(more)?;
+        Ok(Draft {
+            births,
+            given: List::new(alloc),
+            added: Added::new(alloc),
+        })
+    }
+
     /// Works out the see that comes first.
     pub fn see(
         &mut self,

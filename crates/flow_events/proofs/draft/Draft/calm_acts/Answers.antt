@@ -14,7 +14,7 @@ loop-act-preserved c =
           let way = kept.next before now start in
           let calm = calm_at acting.pid c.loop-act.act-index c.args.acts.now c.act-item.result c.requires.calm c.loop-act-test.true c.act-item.is in
           one_more ground acting c.loop-act.self c.act.new.self before now c.loop-act.act-index c.args.acts.now c.act-item.result c.loop-act-test.true c.act-item.is calm.calm way
-            (c.in_ok-act.ensures.next before (turned ground.ms ground.serial (take c.loop-act.act-index c.args.acts.now) ++ now) way.base way.acting_is way.drafted);
+          (c.in_ok-act.ensures.next before (turned ground.ms ground.serial (take c.loop-act.act-index c.args.acts.now) ++ now) way.base way.acting_is way.drafted);
       new = λ start. c.in_ok-act.ensures.new (kept.new start);
       fits = c.in_ok-act.ensures.fits;
       more = (let a = c.in_ok-act.ensures.more in let b = kept.more in omega (arith, a, b));

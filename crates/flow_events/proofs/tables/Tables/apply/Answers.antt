@@ -31,4 +31,5 @@ returns-clause-next c = λ text before now stands plan.
           (names_kept mid c.enter_all.new.entities _ c.enter_all.ensures.rest (c.give_all.ensures.next (all_given text (acts_of before)) stands.names_are));
       flows_are = (λ i. stands.flows_are i + ap length c.as_slice-3.ensures i) ∙ sym (length-append (flows before) done.flows) ∙ ap length (sym plan.flows_are);
       acts_are = (λ i. stands.acts_are i + ap length c.as_slice-4.ensures i) ∙ sym plan.count_is;
+      limit_is = stands.limit_is ∙ sym (ap (λ e. e.limit) c.enter_all.ensures.rest ∙ ap (λ e. e.limit) c.give_all.ensures.rest);
     }
