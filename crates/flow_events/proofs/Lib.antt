@@ -1,4 +1,5 @@
 pub mod Applying
+pub mod Beginning
 pub mod CalmActs
 pub mod Drafting
 pub mod Numbering

@@ -7,3 +7,4 @@ pub mod Acting
 pub mod Added
 pub mod Drafts
 pub mod Calm
+pub mod Working

@@ -18,6 +18,7 @@ mod passes;
 mod plan;
 mod steps;
 mod tables;
+mod work;
 
 pub use acting::Acting;
 pub use births::Births;

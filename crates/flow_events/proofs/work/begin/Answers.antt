@@ -1,0 +1,22 @@
+use Rattle.std.proofs.Common.{◌≡◌, ◌∷◌, ℕ, subst, sym}
+use Rattle.acts.specs.declared.act.Act.TheVariants.{See}
+use Rattle.acts.specs.Lives.{life_of}
+use Rattle.acts.specs.Flows.{acts_of}
+use Rattle.flow_events.proofs.Beginning.{drafted_nothing, way_begun}
+use Rattle.flow_events.proofs.work.begin.Goals as goal
+
+pub returns-clause-way : goal.returns-clause-way
+returns-clause-way c = λ before stands.
+    let ground = c.args.ground.now in
+    let exe = c.args.exe.now in
+    let acting = c.see_acting-acting.result in
+    let seen = c.see_acting-acting.ensures in
+    let life = seen.life (acts_of before) exe stands.lives_are in
+    let start = c.in_ok-draft.ensures in
+    way_begun ground acting c.see.new.self before c.args.pid c.args.ppid exe stands seen.pid life (seen.held (acts_of before) exe stands.lives_are stands.admitted)
+      (c.in_ok-see-2.ensures.next before stands.flows_are stands.lives_are
+        (subst (λ p. life_of (See p c.args.ppid exe ∷ acts_of before) p ≡ acting.life) (sym seen.pid) life)
+        (drafted_nothing ground c.in_ok-draft.draft before stands start.births start.given start.added))
+
+pub returns-clause-see : goal.returns-clause-see
+returns-clause-see c = λ before stands. c.in_ok-see.ensures (acts_of before) c.args.exe.now stands.lives_are stands.held_are stands.admitted

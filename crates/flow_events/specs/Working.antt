@@ -1,0 +1,36 @@
+-- What is worked out of a whole event. Every list of acts has the newest first.
+use Rattle.std.specs.Prelude.{◌≡◌, ◌≤◌, ◌<◌, ◌-◌, ◌++◌, ◌^◌, ℕ, Option, List, [], ◌∷◌, length}
+use Rattle.acts.specs.declared.act.Act.TheVariants.{See}
+use Rattle.acts.specs.declared.act.Taken.{Taken}
+use Rattle.acts.specs.Admitted.{Admitted}
+use Rattle.acts.specs.Holding.{holds, address_of}
+use Rattle.acts.specs.Flows.{acts_of, objects, flows}
+use Rattle.proc_table.specs.Table.{StandsFor as LivesAs}
+use Rattle.fd_table.specs.Table.{HoldsAs, AddressesAs}
+use Rattle.flow_events.specs.declared.draft.Ground.{Ground}
+use Rattle.flow_events.specs.declared.work.Worked.{Worked}
+use Rattle.flow_events.specs.Births.{BornAs}
+use Rattle.flow_events.specs.Changes.{changed}
+use Rattle.flow_events.specs.Drafts.{Drafted}
+use Rattle.flow_events.specs.Standing.{readdressed}
+
+-- the ground says what these acts say
+pub record Grounded (ground : Ground) (before : List Taken) : Type 0 where
+  pub lives_are : LivesAs ground.procs.now (acts_of before)
+  pub held_are : HoldsAs ground.fds.now (acts_of before)
+  pub addresses_are : AddressesAs ground.fds.now (acts_of before)
+  pub births_are : BornAs ground.births.now (acts_of before)
+  pub objects_are : ground.entities.now.keys ≡ objects (acts_of before)
+  pub flows_are : ground.flows ≡ length (flows before)
+  pub admitted : Admitted (acts_of before)
+  pub few : length before < 2 ^ 63 - 1
+
+-- the see of an event as a log has it
+abbrev pub see_at : ℕ → ℕ → ℕ → ℕ → Option (List ℕ) → Taken
+see_at ms serial pid ppid exe = record { act = See pid ppid exe; ms = ms; serial = serial }
+
+-- the event does these acts
+pub record IsWorked (ground : Ground) (worked : Worked) (before now : List Taken) : Type 0 where
+  pub drafted : Drafted ground.births.now ground.entities.now worked.draft before now
+  pub held_are : (p n : ℕ) → holds (acts_of now ++ acts_of before) p n ≡ changed worked.last (changed worked.see (holds (acts_of before))) p n
+  pub addresses_are : (s : ℕ) → address_of (acts_of now ++ acts_of before) s ≡ readdressed worked.address (address_of (acts_of before)) s

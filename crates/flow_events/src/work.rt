@@ -1,0 +1,63 @@
+//! How an event is worked out: its see, the births and moves after it, and its last act.
+ghost use Rattle.std.specs.Prelude.{◌≡◌, ◌≤◌, ◌<◌, ◌+◌, ◌-◌, ◌++◌, ◌^◌, ◌∷◌, ℕ, [], List, IfOk, length};
+ghost use Rattle.acts.specs.declared.act.Act.TheVariants as act;
+ghost use Rattle.acts.specs.declared.act.Taken.{Taken};
+ghost use Rattle.acts.specs.Flows.{acts_of};
+ghost use Rattle.flow_events.specs.Acting.{DoesAs};
+ghost use Rattle.flow_events.specs.Added.{AreNew};
+ghost use Rattle.flow_events.specs.Drafts.{UnderWay};
+ghost use Rattle.flow_events.specs.Lives.{LivesBelow};
+ghost use Rattle.flow_events.specs.Working.{Grounded, see_at};
+
+use crate::acting::{Acting, see_acting};
+use crate::change::Change;
+use crate::draft::{Draft, Ground};
+use crate::effects::see_change;
+use crate::fault::PrepareFault;
+use crate::plan::NewAddress;
+use flow_base::Bytes;
+
+/// What an event does to the tables.
+#[derive(Drop)]
+pub struct Worked {
+    pub see: Change,
+    pub last: Change,
+    pub address: Option<NewAddress>,
+    pub draft: Draft,
+}
+
+/// An event once its process was seen.
+#[derive(Drop)]
+pub struct Begun {
+    pub acting: Acting,
+    pub see: Change,
+    pub draft: Draft,
+}
+
+/// Begins an event by its see, with room for the births of so many acts.
+pub fn begin(
+    ground: &Ground<'_>,
+    pid: u32,
+    ppid: u32,
+    exe: &Option<Bytes>,
+    more: usize,
+) -> Result<Begun, PrepareFault>
+    requires grounded { (before : List Taken) × Grounded ground.now before }
+    requires lives { LivesBelow ground.now.procs.now (2 ^ 64 - 1) }
+    requires limit { ground.now.most ≡ ground.now.entities.now.limit }
+    requires fits { length ground.now.entities.now.keys ≤ ground.now.most }
+    requires flows { ground.now.flows < 2 ^ 64 }
+    ensures way { IfOk result (λ begun. (before : List Taken) → Grounded ground.now before → UnderWay ground.now begun.acting begun.draft before (see_at ground.now.ms ground.now.serial pid ppid exe.now ∷ [])) }
+    ensures see { IfOk result (λ begun. (before : List Taken) → Grounded ground.now before → DoesAs begun.see (acts_of before) (act.See pid ppid exe.now)) }
+    ensures pid { IfOk result (λ begun. begun.acting.pid ≡ pid) }
+    ensures room { IfOk result (λ begun. more ≤ begun.draft.births.spare) }
+    ensures new { IfOk result (λ begun. AreNew ground.now.entities.now.keys begun.draft.added.keys) }
+    ensures fits { IfOk result (λ begun. length (ground.now.entities.now.keys ++ begun.draft.added.keys) ≤ ground.now.most) }
+    ensures flows { IfOk result (λ begun. length begun.draft.added.flows ≤ 1) }
+{
+    let acting = see_acting(ground.procs, pid, ppid);
+    let see = see_change(ground.procs, ground.fds, pid, ppid)?;
+    let mut draft = Draft::start(ground.alloc, more)?;
+    draft.see(ground, &acting, ppid, exe)?;
+    Ok(Begun { acting, see, draft })
+}
