@@ -38,7 +38,7 @@ held_after old mid late new see last before after stands first second same plan 
       ∙ sym (plan p n);
 }
 
-readdressed_alike : (new : Option NewAddress) (f g : ℕ → Option (List ℕ)) → ((s : ℕ) → f s ≡ g s) → (s : ℕ) → readdressed new f s ≡ readdressed new g s
+pub readdressed_alike : (new : Option NewAddress) (f g : ℕ → Option (List ℕ)) → ((s : ℕ) → f s ≡ g s) → (s : ℕ) → readdressed new f s ≡ readdressed new g s
 readdressed_alike None f g alike s = alike s
 readdressed_alike (Some new) f g alike s = ap (λ a. if s == new.socket then Some new.bytes else a) (alike s)
 

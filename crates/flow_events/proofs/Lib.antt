@@ -2,6 +2,7 @@ pub mod Applying
 pub mod Beginning
 pub mod CalmActs
 pub mod Drafting
+pub mod Following
 pub mod Numbering
 pub mod Numbers
 pub mod Rooms

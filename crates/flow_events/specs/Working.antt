@@ -1,5 +1,5 @@
 -- What is worked out of a whole event. Every list of acts has the newest first.
-use Rattle.std.specs.Prelude.{◌≡◌, ◌≤◌, ◌<◌, ◌-◌, ◌++◌, ◌^◌, ℕ, Option, List, [], ◌∷◌, length}
+use Rattle.std.specs.Prelude.{◌+◌, ◌≡◌, ◌≤◌, ◌<◌, ◌-◌, ◌++◌, ◌^◌, ℕ, Option, List, [], ◌∷◌, length}
 use Rattle.acts.specs.declared.act.Act.TheVariants.{See}
 use Rattle.acts.specs.declared.act.Taken.{Taken}
 use Rattle.acts.specs.Admitted.{Admitted}
@@ -8,10 +8,12 @@ use Rattle.acts.specs.Flows.{acts_of, objects, flows}
 use Rattle.proc_table.specs.Table.{StandsFor as LivesAs}
 use Rattle.fd_table.specs.Table.{HoldsAs, AddressesAs}
 use Rattle.flow_events.specs.declared.draft.Ground.{Ground}
+use Rattle.acts.specs.declared.act.Act.{Act}
 use Rattle.flow_events.specs.declared.work.Worked.{Worked}
+use Rattle.flow_events.specs.declared.work.Begun.{Begun}
 use Rattle.flow_events.specs.Births.{BornAs}
 use Rattle.flow_events.specs.Changes.{changed}
-use Rattle.flow_events.specs.Drafts.{Drafted}
+use Rattle.flow_events.specs.Drafts.{Drafted, UnderWay}
 use Rattle.flow_events.specs.Standing.{readdressed}
 
 -- the ground says what these acts say
@@ -34,3 +36,13 @@ pub record IsWorked (ground : Ground) (worked : Worked) (before now : List Taken
   pub drafted : Drafted ground.births.now ground.entities.now worked.draft before now
   pub held_are : (p n : ℕ) → holds (acts_of now ++ acts_of before) p n ≡ changed worked.last (changed worked.see (holds (acts_of before))) p n
   pub addresses_are : (s : ℕ) → address_of (acts_of now ++ acts_of before) s ≡ readdressed worked.address (address_of (acts_of before)) s
+
+-- an act of the event as a log has it
+abbrev pub taken_at : Ground → Act → Taken
+taken_at ground act = record { act = act; ms = ground.ms; serial = ground.serial }
+
+-- the event was begun by this act, after so many acts, and so many more are few
+pub record IsBegun (ground : Ground) (begun : Begun) (before : List Taken) (first : Taken) (acts more : ℕ) : Type 0 where
+  pub way : UnderWay ground begun.acting begun.draft before (first ∷ [])
+  pub acts_are : acts ≡ length before
+  pub few : length before + (more + 2) < 2 ^ 63 - 1

@@ -1,13 +1,14 @@
 //! How an event is worked out: its see, the births and moves after it, and its last act.
 ghost use Rattle.std.specs.Prelude.{◌≡◌, ◌≤◌, ◌<◌, ◌+◌, ◌-◌, ◌++◌, ◌^◌, ◌∷◌, ℕ, [], List, IfOk, length};
 ghost use Rattle.acts.specs.declared.act.Act.TheVariants as act;
+ghost use Rattle.std.specs.Prelude.{All};
 ghost use Rattle.acts.specs.declared.act.Taken.{Taken};
 ghost use Rattle.acts.specs.Flows.{acts_of};
-ghost use Rattle.flow_events.specs.Acting.{DoesAs};
+ghost use Rattle.flow_events.specs.Acting.{DoesAs, IsOf};
 ghost use Rattle.flow_events.specs.Added.{AreNew};
-ghost use Rattle.flow_events.specs.Drafts.{UnderWay};
+ghost use Rattle.flow_events.specs.Drafts.{IsCalmOf, UnderWay, turned};
 ghost use Rattle.flow_events.specs.Lives.{LivesBelow};
-ghost use Rattle.flow_events.specs.Working.{Grounded, see_at};
+ghost use Rattle.flow_events.specs.Working.{Grounded, IsBegun, IsWorked, see_at, taken_at};
 
 use crate::acting::{Acting, see_acting};
 use crate::change::Change;
@@ -15,6 +16,8 @@ use crate::draft::{Draft, Ground};
 use crate::effects::see_change;
 use crate::fault::PrepareFault;
 use crate::plan::NewAddress;
+use crate::steps::{address_of, change_of};
+use acts::Act;
 use flow_base::Bytes;
 
 /// What an event does to the tables.
@@ -60,4 +63,51 @@ pub fn begin(
     let mut draft = Draft::start(ground.alloc, more)?;
     draft.see(ground, &acting, ppid, exe)?;
     Ok(Begun { acting, see, draft })
+}
+
+/// Works out the acts after the see: births and moves, the oldest first, and then the last act.
+pub fn go_on(
+    ground: &Ground<'_>,
+    begun: Begun,
+    acts: u64,
+    front: &[Act],
+    last: &Act,
+) -> Result<Worked, PrepareFault>
+    requires few { (before : List Taken) × (first : Taken) × IsBegun ground.now begun before first acts (length front.now) }
+    requires lives { LivesBelow ground.now.procs.now (2 ^ 64 - 1) }
+    requires limit { ground.now.most ≡ ground.now.entities.now.limit }
+    requires fits { length (ground.now.entities.now.keys ++ begun.draft.added.keys) ≤ ground.now.most }
+    requires calm { All (IsCalmOf begun.acting.pid) front.now }
+    requires of { IsOf begun.acting.pid last.now }
+    requires room { length front.now + 1 ≤ begun.draft.births.spare }
+    requires flows { ground.now.flows + (length begun.draft.added.flows + (length front.now + 1)) < 2 ^ 64 }
+    ensures worked { IfOk result (λ worked. (before : List Taken) (first : Taken) → Grounded ground.now before → IsBegun ground.now begun before first acts (length front.now) → DoesAs begun.see (acts_of before) first.act → IsWorked ground.now worked before (taken_at ground.now last.now ∷ (turned ground.now.ms ground.now.serial front.now ++ first ∷ []))) }
+    ensures new { IfOk result (λ worked. AreNew ground.now.entities.now.keys begun.draft.added.keys → AreNew ground.now.entities.now.keys worked.draft.added.keys) }
+    ensures fits { IfOk result (λ worked. length (ground.now.entities.now.keys ++ worked.draft.added.keys) ≤ ground.now.most) }
+{
+    let Begun {
+        acting,
+        see,
+        mut draft,
+    } = begun;
+    draft.calm_acts(ground, &acting, front)?;
+    let number = acts + 1 + front.len() as u64;
+    let change = change_of(
+        ground.alloc,
+        ground.procs,
+        ground.fds,
+        ground.births,
+        &draft.births,
+        &acting,
+        last,
+        number,
+    )?;
+    let address = address_of(ground.fds, &acting, last, number)?;
+    draft.act(ground, &acting, last)?;
+    Ok(Worked {
+        see,
+        last: change,
+        address,
+        draft,
+    })
 }

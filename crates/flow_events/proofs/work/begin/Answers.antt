@@ -14,9 +14,9 @@ returns-clause-way c = λ before stands.
     let life = seen.life (acts_of before) exe stands.lives_are in
     let start = c.in_ok-draft.ensures in
     way_begun ground acting c.see.new.self before c.args.pid c.args.ppid exe stands seen.pid life (seen.held (acts_of before) exe stands.lives_are stands.admitted)
-      (c.in_ok-see-2.ensures.next before stands.flows_are stands.lives_are
-        (subst (λ p. life_of (See p c.args.ppid exe ∷ acts_of before) p ≡ acting.life) (sym seen.pid) life)
-        (drafted_nothing ground c.in_ok-draft.draft before stands start.births start.given start.added))
+    (c.in_ok-see-2.ensures.next before stands.flows_are stands.lives_are
+    (subst (λ p. life_of (See p c.args.ppid exe ∷ acts_of before) p ≡ acting.life) (sym seen.pid) life)
+    (drafted_nothing ground c.in_ok-draft.draft before stands start.births start.given start.added))
 
 pub returns-clause-see : goal.returns-clause-see
 returns-clause-see c = λ before stands. c.in_ok-see.ensures (acts_of before) c.args.exe.now stands.lives_are stands.held_are stands.admitted
