@@ -30,7 +30,7 @@ calm_hold (Address pid fd bytes) calm A p n = absurd calm
 abbrev at : ℕ → ℕ → Act → Taken
 at ms serial act = record { act = act; ms = ms; serial = serial }
 
-first_last : (ms serial : ℕ) (act : Act) (acts : List Act) → turned ms serial (act ∷ acts) ≡ turned ms serial acts ++ at ms serial act ∷ []
+pub first_last : (ms serial : ℕ) (act : Act) (acts : List Act) → turned ms serial (act ∷ acts) ≡ turned ms serial acts ++ at ms serial act ∷ []
 first_last ms serial act acts = reverse-append (at ms serial act ∷ []) (map (at ms serial) acts)
 
 -- calm acts change nothing that is held

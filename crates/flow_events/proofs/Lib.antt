@@ -5,6 +5,8 @@ pub mod Drafting
 pub mod Following
 pub mod Numbering
 pub mod Numbers
+pub mod Planning
+pub mod Resting
 pub mod Rooms
 pub mod Sockets
 pub mod UnderWays

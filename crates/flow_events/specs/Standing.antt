@@ -26,6 +26,7 @@ pub record StandsFor (address_text : List ℕ → List ℕ) (tables : Tables) (t
   pub flows_are : tables.flows ≡ length (flows taken)
   pub acts_are : tables.acts ≡ length taken
   pub limit_is : tables.most_objects ≡ tables.entities.limit
+  pub objects_fit : length tables.entities.keys ≤ tables.entities.limit
 
 -- the address of socket s, where one socket has a new one
 abbrev pub readdressed : Option NewAddress → (ℕ → Option (List ℕ)) → ℕ → Option (List ℕ)

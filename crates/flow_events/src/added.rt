@@ -1,5 +1,5 @@
 //! The objects and flows that an event adds.
-ghost use Rattle.std.specs.Prelude.{◌≡◌, ◌≤◌, ◌<◌, ◌+◌, ◌++◌, ◌^◌, ◌∷◌, ℕ, [], true, List, Some, Err, length, OnOk, IfOk};
+ghost use Rattle.std.specs.Prelude.{◌≡◌, ◌≤◌, ◌<◌, ◌+◌, ◌++◌, ◌^◌, ◌∷◌, ℕ, [], true, List, Some, Err, length, OnOk, IfOk, reverse};
 ghost use Rattle.std.specs.List.{list_any};
 ghost use Rattle.flow_base.specs.declared.types.Key.{Key};
 ghost use Rattle.flow_base.specs.declared.limits.Full.{Full};
@@ -11,9 +11,10 @@ ghost use Rattle.flow_events.specs.declared.fault.PrepareFault.TheVariants as fa
 ghost use Rattle.flow_events.specs.Added.{AreNew, flow_of};
 
 use crate::fault::PrepareFault;
+use crate::parts::newest_keys;
 use acts::Link;
 use entity_names::Entities;
-use flow_base::{EntityId, Flow, Full, Key, Limit, List, Stamp, equal_keys_are_one};
+use flow_base::{EntityId, Flow, Full, Key, Limit, List, NoMemory, Stamp, equal_keys_are_one};
 use indexmap::IndexSet;
 use std::alloc::Global;
 use std::marker::Model;
@@ -109,5 +110,15 @@ impl Added {
             serial,
         })?;
         Ok(())
+    }
+
+    /// The objects, the newest first, and the flows.
+    pub fn apart(self, alloc: Global) -> Result<(List<Key>, List<Flow>), NoMemory>
+        ensures keys { IfOk result (λ parts. parts.0 ≡ reverse self.keys) }
+        ensures flows { IfOk result (λ parts. parts.1 ≡ self.flows) }
+    {
+        let Added { keys, flows } = self;
+        let keys = newest_keys(alloc, keys)?;
+        Ok((keys, flows))
     }
 }

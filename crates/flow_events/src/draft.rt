@@ -74,6 +74,7 @@ pub struct Draft {
 }
 
 /// What an act is worked out from.
+#[derive(Drop)]
 pub struct Ground<'a> {
     pub alloc: Global,
     pub procs: &'a Procs,

@@ -1,13 +1,17 @@
 //! What an event will do, with all the memory for it.
-ghost use Rattle.std.specs.Prelude.{◌≡◌, ◌≤◌, ◌+◌, ℕ};
+ghost use Rattle.std.specs.Prelude.{◌≡◌, ◌≤◌, ◌+◌, ℕ, IfOk, reverse};
 ghost use Rattle.fd_table.specs.Table.{address_at};
 ghost use Rattle.flow_events.specs.Standing.{readdressed, addresses_in};
 
 use crate::change::Change;
+use crate::draft::Draft;
 use crate::given::Given;
+use crate::parts::newest_first;
+use crate::work::Worked;
 use acts::Act;
 use fd_table::Fds;
-use flow_base::{Bytes, Flow, Key, List};
+use flow_base::{Bytes, Flow, Key, List, NoMemory};
+use std::alloc::Global;
 
 /// A socket, by the act that made it, with its new address.
 #[derive(Drop)]
@@ -32,6 +36,45 @@ pub struct Plan {
     pub keys: List<Key>,
     pub flows: List<Flow>,
     pub unmapped: bool,
+}
+
+/// The plan of an event with these acts, the oldest first, once it is worked out.
+pub fn plan_of(
+    alloc: Global,
+    acts: List<Act>,
+    worked: Worked,
+    unmapped: bool,
+) -> Result<Plan, NoMemory>
+    ensures acts { IfOk result (λ plan. plan.acts ≡ acts) }
+    ensures changes { IfOk result (λ plan. (plan.see ≡ worked.see) × (plan.last ≡ worked.last)) }
+    ensures address { IfOk result (λ plan. plan.address ≡ worked.address) }
+    ensures given { IfOk result (λ plan. plan.given ≡ reverse worked.draft.given) }
+    ensures keys { IfOk result (λ plan. plan.keys ≡ reverse worked.draft.added.keys) }
+    ensures flows { IfOk result (λ plan. plan.flows ≡ worked.draft.added.flows) }
+{
+    let Worked {
+        see,
+        last,
+        address,
+        draft,
+    } = worked;
+    let Draft {
+        births: _,
+        given,
+        added,
+    } = draft;
+    let given = newest_first(alloc, given)?;
+    let (keys, flows) = added.apart(alloc)?;
+    Ok(Plan {
+        acts,
+        see,
+        last,
+        address,
+        given,
+        keys,
+        flows,
+        unmapped,
+    })
 }
 
 impl Plan {

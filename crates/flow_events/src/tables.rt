@@ -4,16 +4,26 @@ ghost use Rattle.acts.specs.declared.act.Taken.{Taken};
 ghost use Rattle.acts.specs.Keys.{all_given};
 ghost use Rattle.acts.specs.Flows.{acts_of, objects, flows};
 ghost use Rattle.entity_names.specs.Known.{NamesAs};
+ghost use Rattle.std.specs.Prelude.{IfOk, ◌≤◌};
+ghost use Rattle.name_text.specs.Addresses.{text_of};
+ghost use Rattle.flow_events.specs.Drafts.{turned};
+ghost use Rattle.flow_events.specs.Entering.{entered};
+ghost use Rattle.flow_events.specs.Following.{MayFollow};
+ghost use Rattle.flow_events.specs.Working.{IsEvent};
 ghost use Rattle.flow_events.specs.Standing.{StandsFor, Stands, IsPlanOf, IsReady, HasRooms, DiffersInRoom};
 
 use crate::births::Births;
 use crate::change::{make_change, need};
+use crate::draft::Ground;
+use crate::fault::PrepareFault;
 use crate::parts::named_keys;
 use crate::passes::{bear_through, enter_all, give_all, live_through};
-use crate::plan::{Plan, readdress};
+use crate::plan::{Plan, plan_of, readdress};
+use crate::work::work_event;
+use acts::{Act, each_beginning_is_an_act};
 use entity_names::Entities;
 use fd_table::Fds;
-use flow_base::{Flow, Limits, List, NoMemory};
+use flow_base::{Flow, Full, Limit, Limits, List, NoMemory};
 use proc_table::Procs;
 use std::alloc::Global;
 
@@ -67,6 +77,65 @@ impl Tables {
         ensures { (text : List ℕ → List ℕ) (taken : List Taken) → StandsFor text self.now taken → result ≡ length taken }
     {
         self.acts
+    }
+
+    /// Works out what these acts of one event, the oldest first, will do, and takes all the memory for it. The tables
+    /// stand for the same acts as before.
+    pub fn prepare_acts(
+        &mut self,
+        alloc: Global,
+        acts: List<Act>,
+        ms: u64,
+        serial: u32,
+        unmapped: bool,
+    ) -> Result<Plan, PrepareFault>
+        requires event { IsEvent acts }
+        requires stands { (before : List Taken) × MayFollow self.old before (length acts) }
+        ensures plan { IfOk result (λ plan. (before : List Taken) → MayFollow self.old before (length acts) → IsPlanOf text_of plan before (turned ms serial acts)) }
+        ensures ready { IfOk result (λ plan. IsReady self.new plan) }
+        ensures same { DiffersInRoom self.old self.new }
+    {
+        let plan = self.plan(alloc, acts, ms, serial, unmapped)?;
+        if self.most_flows < self.flows + plan.flows.as_slice().len() as u64 {
+            return Err(PrepareFault::Full(Full {
+                limit: Limit::Flows,
+                number: self.most_flows,
+            }));
+        }
+        self.make_room(alloc, &plan)?;
+        Ok(plan)
+    }
+
+    // Works out what these acts will do.
+    fn plan(
+        &self,
+        alloc: Global,
+        acts: List<Act>,
+        ms: u64,
+        serial: u32,
+        unmapped: bool,
+    ) -> Result<Plan, PrepareFault>
+        requires event { IsEvent acts }
+        requires stands { (before : List Taken) × MayFollow self.now before (length acts) }
+        ensures plan { IfOk result (λ plan. (before : List Taken) → MayFollow self.now before (length acts) → IsPlanOf text_of plan before (turned ms serial acts)) }
+        ensures acts { IfOk result (λ plan. plan.acts ≡ acts) }
+        ensures fits { IfOk result (λ plan. length (entered self.now.entities.keys plan.keys) ≤ self.now.entities.limit) }
+        ensures flows { IfOk result (λ plan. length plan.flows ≤ length acts) }
+    {
+        each_beginning_is_an_act();
+        let ground = Ground {
+            alloc,
+            procs: &self.procs,
+            fds: &self.fds,
+            births: &self.births,
+            entities: &self.entities,
+            most: self.most_objects,
+            flows: self.flows,
+            ms,
+            serial,
+        };
+        let worked = work_event(&ground, self.acts, acts.as_slice())?;
+        Ok(plan_of(alloc, acts, worked, unmapped)?)
     }
 
     /// Makes room for what was planned, and changes nothing else.

@@ -8,7 +8,7 @@ ghost use Rattle.flow_events.specs.Acting.{DoesAs, IsOf};
 ghost use Rattle.flow_events.specs.Added.{AreNew};
 ghost use Rattle.flow_events.specs.Drafts.{IsCalmOf, UnderWay, turned};
 ghost use Rattle.flow_events.specs.Lives.{LivesBelow};
-ghost use Rattle.flow_events.specs.Working.{Grounded, IsBegun, IsWorked, see_at, taken_at};
+ghost use Rattle.flow_events.specs.Working.{AreRest, Grounded, IsBegun, IsEvent, IsFew, IsWorked, see_at, taken_at};
 
 use crate::acting::{Acting, see_acting};
 use crate::change::Change;
@@ -110,4 +110,61 @@ pub fn go_on(
         address,
         draft,
     })
+}
+
+/// Works out an event that sees its process and then does the rest, the oldest first.
+pub fn work_out(
+    ground: &Ground<'_>,
+    acts: u64,
+    pid: u32,
+    ppid: u32,
+    exe: &Option<Bytes>,
+    rest: &[Act],
+) -> Result<Worked, PrepareFault>
+    requires few { (before : List Taken) × IsFew ground.now before acts (length rest.now) }
+    requires lives { LivesBelow ground.now.procs.now (2 ^ 64 - 1) }
+    requires limit { ground.now.most ≡ ground.now.entities.now.limit }
+    requires fits { length ground.now.entities.now.keys ≤ ground.now.most }
+    requires rest { AreRest pid rest.now }
+    requires flows { ground.now.flows + (length rest.now + 1) < 2 ^ 64 }
+    ensures worked { IfOk result (λ worked. (before : List Taken) → Grounded ground.now before → IsFew ground.now before acts (length rest.now) → IsWorked ground.now worked before (turned ground.now.ms ground.now.serial rest.now ++ see_at ground.now.ms ground.now.serial pid ppid exe.now ∷ [])) }
+    ensures new { IfOk result (λ worked. AreNew ground.now.entities.now.keys worked.draft.added.keys) }
+    ensures fits { IfOk result (λ worked. length (ground.now.entities.now.keys ++ worked.draft.added.keys) ≤ ground.now.most) }
+{
+    let begun = begin(ground, pid, ppid, exe, rest.len())?;
+    match rest {
+        [] => Ok(Worked {
+            see: begun.see,
+            last: Change::Nothing,
+            address: None,
+            draft: begun.draft,
+        }),
+        [front @ .., last] => go_on(ground, begun, acts, front, last),
+    }
+}
+
+/// Works out an event by its acts, the oldest first, where so many acts came before it.
+pub fn work_event(ground: &Ground<'_>, number: u64, acts: &[Act]) -> Result<Worked, PrepareFault>
+    requires few { (before : List Taken) × IsFew ground.now before number (length acts.now) }
+    requires lives { LivesBelow ground.now.procs.now (2 ^ 64 - 1) }
+    requires limit { ground.now.most ≡ ground.now.entities.now.limit }
+    requires fits { length ground.now.entities.now.keys ≤ ground.now.most }
+    requires event { IsEvent acts.now }
+    requires flows { ground.now.flows + (length acts.now + 1) < 2 ^ 64 }
+    ensures worked { IfOk result (λ worked. (before : List Taken) → IsFew ground.now before number (length acts.now) → IsWorked ground.now worked before (turned ground.now.ms ground.now.serial acts.now)) }
+    ensures new { IfOk result (λ worked. AreNew ground.now.entities.now.keys worked.draft.added.keys) }
+    ensures fits { IfOk result (λ worked. length (ground.now.entities.now.keys ++ worked.draft.added.keys) ≤ ground.now.most) }
+{
+    match acts {
+        [] => Ok(Worked {
+            see: Change::Nothing,
+            last: Change::Nothing,
+            address: None,
+            draft: Draft::start(ground.alloc, 0)?,
+        }),
+        [Act::See { pid, ppid, exe }, rest @ ..] => {
+            work_out(ground, number, *pid, *ppid, exe, rest)
+        }
+        _ => unreachable!(),
+    }
 }

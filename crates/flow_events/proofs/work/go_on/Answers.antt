@@ -18,13 +18,16 @@ change_of-requires-clause-few c =
     let few = begun.few in
     let now = turned ground.ms ground.serial c.args.front.now ++ first ∷ [] in
     let way = c.in_ok-calm_acts.ensures.next before (first ∷ []) begun.way in
-    let long = front_length ground.ms ground.serial c.args.front.now first in
-    (acts_of before, acts_of now, record {
-      before_are = way.drafted.before_are;
-      now_are = way.drafted.now_are;
-      births_few = few_births ground.births.now before (2 ^ 63) way.drafted.before_are (omega (arith, few));
-      fresh_few = few_births c.calm_acts.new.self.births now (2 ^ 63) way.drafted.now_are (omega (arith, few, long));
-    })
+    let long = front_length ground.ms ground.serial c.args.front.now first in (
+      acts_of before,
+      acts_of now,
+      record {
+        before_are = way.drafted.before_are;
+        now_are = way.drafted.now_are;
+        births_few = few_births ground.births.now before (2 ^ 63) way.drafted.before_are (omega (arith, few));
+        fresh_few = few_births c.calm_acts.new.self.births now (2 ^ 63) way.drafted.now_are (omega (arith, few, long));
+      },
+    )
 
 pub act-requires-clause-few : goal.act-requires-clause-few
 act-requires-clause-few c =
@@ -63,14 +66,14 @@ returns-clause-worked c = λ before first grounded begun see.
       held_are = λ p n.
           change p n
           ∙ changed_alike c.in_ok-change.change (holds acts) (changed c.args.begun.see (holds (acts_of before)))
-              (λ q m.
-                  ap (λ all. holds all q m) (split ground.ms ground.serial front first before)
-                  ∙ calm_holds c.args.begun.acting.pid ground.ms ground.serial front c.requires.calm (first.act ∷ acts_of before) q m
-                  ∙ see q m)
-              p n;
+          (λ q m.
+          ap (λ all. holds all q m) (split ground.ms ground.serial front first before)
+          ∙ calm_holds c.args.begun.acting.pid ground.ms ground.serial front c.requires.calm (first.act ∷ acts_of before) q m
+          ∙ see q m)
+          p n;
       addresses_are = λ s.
           address s
           ∙ readdressed_alike c.in_ok-address.address (address_of acts) (address_of (acts_of before))
-              (λ t. sym (way.acting_is.addresses_are.each t) ∙ grounded.addresses_are.each t)
-              s;
+          (λ t. sym (way.acting_is.addresses_are.each t) ∙ grounded.addresses_are.each t)
+          s;
     }

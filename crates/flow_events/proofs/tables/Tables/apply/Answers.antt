@@ -1,4 +1,4 @@
-use Rattle.std.proofs.Common.{◌+◌, ◌++◌, ◌∙◌, ap, sym, subst, length, length-append, reverse}
+use Rattle.std.proofs.Common.{◌≤◌, refl, ◌+◌, ◌++◌, ◌∙◌, ap, sym, subst, length, length-append, reverse}
 use Rattle.acts.specs.Keys.{all_given}
 use Rattle.acts.specs.Flows.{acts_of, flows}
 use Rattle.proc_table.specs.Table.{StandsFor as LivesAs}
@@ -31,5 +31,8 @@ returns-clause-next c = λ text before now stands plan.
           (names_kept mid c.enter_all.new.entities _ c.enter_all.ensures.rest (c.give_all.ensures.next (all_given text (acts_of before)) stands.names_are));
       flows_are = (λ i. stands.flows_are i + ap length c.as_slice-3.ensures i) ∙ sym (length-append (flows before) done.flows) ∙ ap length (sym plan.flows_are);
       acts_are = (λ i. stands.acts_are i + ap length c.as_slice-4.ensures i) ∙ sym plan.count_is;
+      objects_fit =
+          subst (λ keys. length keys ≤ c.enter_all.new.entities.limit) (sym c.enter_all.ensures.keys ∙ refl)
+          (rw (ap (λ e. e.limit) c.enter_all.ensures.rest ∙ ap (λ e. e.limit) c.give_all.ensures.rest, ap (λ e. e.keys) c.give_all.ensures.rest) c.requires.ready.objects_fit);
       limit_is = stands.limit_is ∙ sym (ap (λ e. e.limit) c.enter_all.ensures.rest ∙ ap (λ e. e.limit) c.give_all.ensures.rest);
     }

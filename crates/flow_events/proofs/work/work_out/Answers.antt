@@ -1,0 +1,62 @@
+use Rattle.std.proofs.Common.{◌≡◌, ◌<◌, ◌+◌, ◌-◌, ◌++◌, ◌^◌, [], ◌∷◌, None, refl, subst, sym, length, take, arith}
+use Rattle.std.specs.Prelude.{All}
+use Rattle.flow_events.specs.declared.change.Change.TheVariants.{Nothing}
+use Rattle.flow_events.specs.declared.work.Worked.{Worked}
+use Rattle.flow_events.specs.Drafts.{IsCalmOf, turned}
+use Rattle.flow_events.specs.Working.{IsWorked, see_at}
+use Rattle.flow_events.proofs.Resting.{mapped, none_left, whole, front_shorter, turned_whole}
+use Rattle.flow_events.proofs.work.work_out.Goals as goal
+
+pub go_on-requires-clause-few : goal.go_on-requires-clause-few
+go_on-requires-clause-few c =
+    let ground = c.args.ground.now in
+    let rest = c.args.rest.now in
+    let before = c.requires.few.0 in
+    let enough = c.requires.few.1 in
+    let few = enough.few in
+    let short = front_shorter rest in
+    let begun = c.in_ok-begun.ensures in (
+      before,
+      see_at ground.ms ground.serial c.args.pid c.args.ppid c.args.exe.now,
+      record {
+        way = begun.way before enough.grounded;
+        acts_are = enough.acts_are;
+        few = omega (arith, few, short);
+      },
+    )
+
+pub go_on-requires-clause-calm : goal.go_on-requires-clause-calm
+go_on-requires-clause-calm c =
+    let rest = c.args.rest.now in
+    let front = take (length rest - 1) rest in
+    let begun = c.in_ok-begun.ensures in
+    let shape = c.requires.rest front c.last-item.result (whole rest c.last-item.result c.in-len1-up.len_at_least c.last-item.is) in
+    subst (λ pid. All (IsCalmOf pid) front) (sym begun.pid) shape.0
+
+pub returns-in-empty-clause-worked : goal.returns-in-empty-clause-worked
+returns-in-empty-clause-worked c = λ before grounded enough.
+    let ground = c.args.ground.now in
+    let begun = c.in_ok-begun.ensures in
+    let see = see_at ground.ms ground.serial c.args.pid c.args.ppid c.args.exe.now in
+    let way = begun.way before grounded in
+    let worked : Worked = record { see = c.in_ok-begun.begun.see; last = Nothing; address = None; draft = c.in_ok-begun.begun.draft } in
+    subst (λ rest. IsWorked ground worked before (turned ground.ms ground.serial rest ++ see ∷ [])) (sym (none_left c.args.rest.now c.in-empty.len_below)) (record {
+      drafted = way.drafted;
+      held_are = begun.see before grounded;
+      addresses_are = λ s. refl;
+    })
+
+pub returns-in-len1-up-clause-worked : goal.returns-in-len1-up-clause-worked
+returns-in-len1-up-clause-worked c = mapped c.go_on.result
+    (λ worked does before grounded enough.
+    let ground = c.args.ground.now in
+    let rest = c.args.rest.now in
+    let front = take (length rest - 1) rest in
+    let few = enough.few in
+    let short = front_shorter rest in
+    let begun = c.in_ok-begun.ensures in
+    let see = see_at ground.ms ground.serial c.args.pid c.args.ppid c.args.exe.now in
+    subst (λ all. IsWorked ground worked before (all ++ see ∷ []))
+    (sym (turned_whole ground.ms ground.serial rest front c.last-item.result (whole rest c.last-item.result c.in-len1-up.len_at_least c.last-item.is)))
+    (does before see grounded (record { way = begun.way before grounded; acts_are = enough.acts_are; few = omega (arith, few, short) }) (begun.see before grounded)))
+    c.go_on.ensures.worked
