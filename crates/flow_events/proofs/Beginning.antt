@@ -6,8 +6,7 @@ use Rattle.acts.specs.declared.act.Taken.{Taken}
 use Rattle.acts.specs.Lives.{life_of}
 use Rattle.acts.specs.Holding.{holds}
 use Rattle.acts.specs.Keys.{all_given}
-use Rattle.acts.specs.Flows.{acts_of, objects, flows}
-use Rattle.entity_names.specs.Known.{Known}
+use Rattle.acts.specs.Flows.{acts_of, flows}
 use Rattle.flow_events.specs.declared.acting.Acting.{Acting}
 use Rattle.flow_events.specs.declared.draft.Draft.{Draft}
 use Rattle.flow_events.specs.declared.draft.Ground.{Ground}

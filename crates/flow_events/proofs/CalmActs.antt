@@ -1,12 +1,12 @@
 -- The process of an event after its see, and after acts that leave it as it is.
-use Rattle.std.proofs.Common.{◌≡◌, ◌==◌, ◌∙◌, sym, refl, ℕ, Bool, false, List, ◌∷◌, Option, if◌then◌else◌}
+use Rattle.std.proofs.Common.{◌≡◌, ◌==◌, ◌∙◌, sym, refl, ℕ, false, List, ◌∷◌, Option}
 use Rattle.acts.specs.declared.act.Act.{Act}
 use Rattle.acts.specs.declared.act.Act.TheVariants.{See, Fork, End, Exec, Set, SetBoth, Copy, Close, Mark, Address, Birth, Move}
 use Rattle.acts.specs.Lives.{life_of}
 use Rattle.acts.specs.Holding.{holds}
 use Rattle.acts.specs.Standing.{standing}
-use Rattle.proc_table.specs.Table.{Table as Procs, StandsFor, standing_of, at}
-use Rattle.fd_table.specs.Table.{Table as Fds, HoldsAs, AddressesAs, held_at}
+use Rattle.proc_table.specs.Table.{Table as Procs, StandsFor}
+use Rattle.fd_table.specs.Table.{Table as Fds, HoldsAs, AddressesAs}
 use Rattle.flow_events.specs.declared.acting.Acting.{Acting}
 use Rattle.flow_events.specs.Acting.{IsActing}
 use Rattle.flow_events.specs.Calm.{IsCalm}

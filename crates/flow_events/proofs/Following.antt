@@ -1,14 +1,13 @@
 -- The acts after the see.
-use Rattle.std.proofs.Common.{◌≡◌, ◌≤◌, ◌<◌, ◌+◌, ◌-◌, ◌++◌, ◌^◌, ◌∙◌, ap, sym, refl, ℕ, Option, List, [], ◌∷◌, length, map, reverse, length-append, append_assoc, arith}
-use Rattle.std.proofs.lemmas.List.{length-map, map-append, reverse-append}
+use Rattle.std.proofs.Common.{◌≡◌, ◌+◌, ◌++◌, ◌∙◌, ap, refl, ℕ, List, [], ◌∷◌, length, map, append_assoc, arith}
+use Rattle.std.proofs.lemmas.List.{map-append, reverse-append}
 use Rattle.std.proofs.lemmas.List.Elements.{All-head, All-tail}
 use Rattle.std.proofs.lemmas.Grind.{common_steps}
 use Rattle.std.specs.Prelude.{All}
 use Rattle.acts.specs.declared.act.Act.{Act}
 use Rattle.acts.specs.declared.act.Act.TheVariants.{See, Fork, End, Exec, Set, SetBoth, Copy, Close, Mark, Address, Birth, Move}
 use Rattle.acts.specs.declared.act.Taken.{Taken}
-use Rattle.acts.specs.declared.held.Held.{Held}
-use Rattle.acts.specs.Holding.{holds, address_of}
+use Rattle.acts.specs.Holding.{holds}
 use Rattle.acts.specs.Flows.{acts_of}
 use Rattle.flow_events.specs.Calm.{IsCalm}
 use Rattle.flow_events.specs.Drafts.{IsCalmOf, turned}

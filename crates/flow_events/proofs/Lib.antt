@@ -2,11 +2,13 @@ pub mod Applying
 pub mod Beginning
 pub mod CalmActs
 pub mod Drafting
+pub mod Fewness
 pub mod Following
 pub mod Numbering
 pub mod Numbers
 pub mod Planning
 pub mod Resting
+pub mod Rooming
 pub mod Rooms
 pub mod Sockets
 pub mod UnderWays

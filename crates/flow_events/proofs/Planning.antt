@@ -1,6 +1,6 @@
 -- The plan of an event that is worked out.
-use Rattle.std.proofs.Common.{◌≡◌, ◌≤◌, ◌+◌, ◌++◌, ◌∙◌, ap, sym, subst, refl, ℕ, Option, List, [], ◌∷◌, length, map, reverse, length-append, append_assoc, arith}
-use Rattle.std.proofs.lemmas.List.{length-map, map-append, reverse-append}
+use Rattle.std.proofs.Common.{◌≡◌, ◌≤◌, ◌+◌, ◌++◌, ◌∙◌, ap, sym, subst, refl, ℕ, List, [], ◌∷◌, length, map, reverse, length-append, append_assoc, arith}
+use Rattle.std.proofs.lemmas.List.{map-append, reverse-append}
 use Rattle.std.proofs.lemmas.Grind.{common_steps}
 use Rattle.name_text.specs.Addresses.{text_of}
 use Rattle.flow_base.specs.declared.types.Key.{Key}
@@ -31,7 +31,7 @@ turned_acts ms serial (act ∷ acts) =
     ∙ ap (λ all. all ++ act ∷ []) (turned_acts ms serial acts)
     ∙ sym (reverse-append (act ∷ []) acts)
 
-turned_length : (ms serial : ℕ) (acts : List Act) → length (turned ms serial acts) ≡ length acts
+pub turned_length : (ms serial : ℕ) (acts : List Act) → length (turned ms serial acts) ≡ length acts
 turned_length ms serial acts = grind (arith, common_steps)
 
 alone : {X : Type 0} → (xs : List X) → xs ++ [] ≡ xs

@@ -1,5 +1,5 @@
 -- The acts after the see, as the front and the last one.
-use Rattle.std.proofs.Common.{◌≡◌, ◌≤◌, ◌<◌, ◌+◌, ◌-◌, ◌++◌, ◌∙◌, ap, sym, subst, refl, ℕ, List, [], ◌∷◌, length, map, take, reverse, get_or, Result, Ok, Err, arith}
+use Rattle.std.proofs.Common.{◌≡◌, ◌≤◌, ◌<◌, ◌+◌, ◌-◌, ◌++◌, ◌∙◌, ap, sym, refl, ℕ, List, [], ◌∷◌, length, map, take, reverse, get_or, Result, Ok, Err, arith}
 use Rattle.std.specs.Prelude.{IfOk}
 use Rattle.std.proofs.lemmas.List.{map-append, reverse-append, take_more, take_all}
 use Rattle.std.proofs.lemmas.Grind.{common_steps}

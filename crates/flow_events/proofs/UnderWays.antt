@@ -1,11 +1,10 @@
 -- An event that is under way, with one more act.
-use Rattle.std.proofs.Common.{◌≡◌, ◌<◌, ◌≤◌, ◌+◌, ◌++◌, ◌∙◌, ap, sym, subst, ℕ, List, [], ◌∷◌, length, map, take, reverse, get_or, append_assoc}
+use Rattle.std.proofs.Common.{◌≡◌, ◌<◌, ◌≤◌, ◌+◌, ◌++◌, ◌∙◌, ap, sym, subst, ℕ, List, [], ◌∷◌, length, map, take, reverse, get_or}
 use Rattle.std.proofs.lemmas.List.{map-append, reverse-append, take_more, take_all}
 use Rattle.std.proofs.lemmas.List.Elements.{All-get_or}
 use Rattle.std.specs.Prelude.{All}
 use Rattle.acts.specs.declared.act.Act.{Act}
 use Rattle.acts.specs.declared.act.Taken.{Taken}
-use Rattle.acts.specs.Flows.{acts_of}
 use Rattle.flow_events.specs.declared.acting.Acting.{Acting}
 use Rattle.flow_events.specs.declared.draft.Draft.{Draft}
 use Rattle.flow_events.specs.declared.draft.Ground.{Ground}

@@ -1,5 +1,5 @@
 -- What is worked out of a whole event. Every list of acts has the newest first.
-use Rattle.std.specs.Prelude.{◌+◌, ◌≡◌, ◌≤◌, ◌<◌, ◌-◌, ◌++◌, ◌^◌, ℕ, Option, List, [], ◌∷◌, length}
+use Rattle.std.specs.Prelude.{◌+◌, ◌≡◌, ◌<◌, ◌-◌, ◌++◌, ◌^◌, ℕ, Option, List, [], ◌∷◌, length}
 use Rattle.acts.specs.declared.act.Act.TheVariants.{See}
 use Rattle.acts.specs.declared.act.Taken.{Taken}
 use Rattle.acts.specs.Admitted.{Admitted}

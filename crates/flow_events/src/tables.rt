@@ -79,6 +79,7 @@ impl Tables {
         self.acts
     }
 
+    #[tactic(auto, using(crate::proofs::Rooming::stands_still))]
     /// Works out what these acts of one event, the oldest first, will do, and takes all the memory for it. The tables
     /// stand for the same acts as before.
     pub fn prepare_acts(
@@ -93,7 +94,7 @@ impl Tables {
         requires stands { (before : List Taken) × MayFollow self.old before (length acts) }
         ensures plan { IfOk result (λ plan. (before : List Taken) → MayFollow self.old before (length acts) → IsPlanOf text_of plan before (turned ms serial acts)) }
         ensures ready { IfOk result (λ plan. IsReady self.new plan) }
-        ensures same { DiffersInRoom self.old self.new }
+        ensures same { (text : List ℕ → List ℕ) (taken : List Taken) → StandsFor text self.old taken → StandsFor text self.new taken }
     {
         let plan = self.plan(alloc, acts, ms, serial, unmapped)?;
         if self.most_flows < self.flows + plan.flows.as_slice().len() as u64 {

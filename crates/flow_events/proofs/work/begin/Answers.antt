@@ -1,4 +1,4 @@
-use Rattle.std.proofs.Common.{◌≡◌, ◌∷◌, ℕ, subst, sym}
+use Rattle.std.proofs.Common.{◌≡◌, ◌∷◌, subst, sym}
 use Rattle.acts.specs.declared.act.Act.TheVariants.{See}
 use Rattle.acts.specs.Lives.{life_of}
 use Rattle.acts.specs.Flows.{acts_of}

@@ -1,4 +1,4 @@
-use Rattle.std.proofs.Common.{◌≡◌, ◌<◌, ◌+◌, ◌-◌, ◌++◌, ◌^◌, ◌∙◌, [], ◌∷◌, ap, sym, length, arith}
+use Rattle.std.proofs.Common.{◌<◌, ◌-◌, ◌++◌, ◌^◌, ◌∙◌, [], ◌∷◌, ap, sym, length, arith}
 use Rattle.acts.specs.Holding.{holds, address_of}
 use Rattle.acts.specs.Flows.{acts_of}
 use Rattle.flow_events.specs.Acting.{IsBorn}

@@ -1,4 +1,4 @@
-use Rattle.std.proofs.Common.{◌≡◌, None, refl, subst, sym}
+use Rattle.std.proofs.Common.{None, refl, subst, sym}
 use Rattle.flow_events.specs.declared.change.Change.TheVariants.{Nothing}
 use Rattle.flow_events.specs.declared.work.Worked.{Worked}
 use Rattle.flow_events.specs.Drafts.{turned}

@@ -1,4 +1,4 @@
-use Rattle.std.proofs.Common.{◌≡◌, ◌<◌, ◌+◌, ◌-◌, ◌++◌, ◌^◌, [], ◌∷◌, None, refl, subst, sym, length, take, arith}
+use Rattle.std.proofs.Common.{◌-◌, ◌++◌, [], ◌∷◌, None, refl, subst, sym, length, take, arith}
 use Rattle.std.specs.Prelude.{All}
 use Rattle.flow_events.specs.declared.change.Change.TheVariants.{Nothing}
 use Rattle.flow_events.specs.declared.work.Worked.{Worked}

@@ -1,6 +1,5 @@
 use Rattle.std.proofs.Common.{◌++◌, take, arith}
-use Rattle.std.proofs.lemmas.Grind.{common_steps}
-use Rattle.flow_events.specs.Drafts.{UnderWay, turned}
+use Rattle.flow_events.specs.Drafts.{turned}
 use Rattle.flow_events.proofs.UnderWays.{calm_at, one_more, all_done}
 use Rattle.flow_events.proofs.draft.Draft.calm_acts.Goals as goal
 

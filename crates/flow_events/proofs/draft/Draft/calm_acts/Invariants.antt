@@ -1,4 +1,4 @@
-use Rattle.std.proofs.Common.{◌≡◌, ◌≤◌, ◌+◌, ◌++◌, List, length, take}
+use Rattle.std.proofs.Common.{◌≤◌, ◌+◌, ◌++◌, List, length, take}
 use Rattle.acts.specs.declared.act.Taken.{Taken}
 use Rattle.flow_events.specs.Added.{AreNew}
 use Rattle.flow_events.specs.Drafts.{UnderWay, turned}

@@ -1,0 +1,26 @@
+-- Room changes nothing that the tables stand for.
+use Rattle.std.proofs.Common.{◌∙◌, ap, sym, ℕ, List, take}
+use Rattle.std.specs.Prelude.{unwrap_or, nat_eq}
+use Rattle.std.specs.Map.{lookup}
+use Rattle.flow_base.specs.contracts.types.FileIdPartialEq.TheImpl.{ghosts}
+use Rattle.acts.specs.declared.act.Taken.{Taken}
+use Rattle.acts.specs.Keys.{all_given, names_of}
+use Rattle.acts.specs.Flows.{acts_of}
+use Rattle.proc_table.specs.Table.{standing_of}
+use Rattle.fd_table.specs.Placing.{same_slot}
+use Rattle.flow_events.specs.declared.tables.Tables.{Tables}
+use Rattle.flow_events.specs.Standing.{StandsFor, DiffersInRoom}
+
+pub stands_still : (text : List ℕ → List ℕ) (old new : Tables) (taken : List Taken) → DiffersInRoom old new → StandsFor text old taken → StandsFor text new taken
+stands_still text old new taken same stands = record {
+  lives_are = record { each = λ p. ap (λ all. standing_of (lookup (nat_eq p) all)) same.lives ∙ stands.lives_are.each p };
+  held_are = record { each = λ p n. ap (λ all. lookup (same_slot (p, n)) all) same.held ∙ stands.held_are.each p n };
+  addresses_are = record { each = λ s. ap (λ all. lookup (nat_eq s) all) same.addresses ∙ stands.addresses_are.each s };
+  births_are = record { each = λ id. ap (λ all. unwrap_or (lookup (ghosts.eq id) all) 0) same.births ∙ stands.births_are.each id };
+  objects_are = same.keys ∙ stands.objects_are;
+  names_are = record { each = λ key. same.names key ∙ stands.names_are.each key ∙ ap (λ most. take most (names_of key (all_given text (acts_of taken)))) (sym same.most_names) };
+  flows_are = same.flows ∙ stands.flows_are;
+  acts_are = same.acts ∙ stands.acts_are;
+  limit_is = same.most_objects ∙ stands.limit_is ∙ sym same.limit;
+  objects_fit = rw (same.keys, same.limit) stands.objects_fit;
+}

@@ -1,0 +1,52 @@
+use Rattle.std.proofs.Common.{◌∙◌, ap, sym, subst, length, arith}
+use Rattle.name_text.specs.Addresses.{text_of}
+use Rattle.flow_events.specs.Drafts.{turned}
+use Rattle.flow_events.specs.Standing.{IsPlanOf}
+use Rattle.flow_events.proofs.Fewness.{few_flows, event_flows}
+use Rattle.flow_events.proofs.Planning.{planned, turned_length}
+use Rattle.flow_events.proofs.tables.Tables.plan.Goals as goal
+
+pub work_event-requires-clause-flows : goal.work_event-requires-clause-flows
+work_event-requires-clause-flows c =
+    let before = c.requires.stands.0 in
+    let may = c.requires.stands.1 in
+    let stands = may.stands in
+    let flows = stands.flows_are in
+    let few_of_them = few_flows before in
+    let few = may.few in
+    let slice = ap length c.as_slice.ensures in
+    omega (arith, flows, few_of_them, few, slice)
+
+pub returns-clause-plan : goal.returns-clause-plan
+returns-clause-plan c = λ before may.
+    let stands = may.stands in
+    let slice = c.as_slice.ensures in
+    let plan = c.in_ok-plan_of.field-0 in
+    let is = c.in_ok-plan_of.ensures in
+    let work = c.in_ok-worked.ensures in
+    subst (λ acts. IsPlanOf text_of plan before (turned c.args.ms c.args.serial acts)) slice
+    (planned _ c.in_ok-worked.worked plan before c.as_slice.result.now
+    (work.worked before (record {
+      grounded = record {
+        lives_are = stands.lives_are;
+        held_are = stands.held_are;
+        addresses_are = stands.addresses_are;
+        births_are = stands.births_are;
+        objects_are = stands.objects_are;
+        flows_are = stands.flows_are;
+        admitted = may.admitted;
+        few = (let few = may.few in omega (arith, few));
+      };
+      acts_are = stands.acts_are;
+      few = (let few = may.few in let same = ap length slice in omega (arith, few, same));
+    }))
+    work.new stands.objects_are (is.acts ∙ sym slice) is.changes.0 is.changes.1 is.address is.given is.keys is.flows)
+
+pub returns-clause-flows : goal.returns-clause-flows
+returns-clause-flows c =
+    let before = c.requires.stands.0 in
+    let plan = returns-clause-plan c before c.requires.stands.1 in
+    let now = turned c.args.ms c.args.serial c.args.acts in
+    let fewer = event_flows now before c.in_ok-plan_of.field-0.flows plan.flows_are in
+    let long = turned_length c.args.ms c.args.serial c.args.acts in
+    omega (arith, fewer, long)
