@@ -42,19 +42,14 @@ pub struct EventFlows {
 }
 
 impl Model for EventFlows {
-    ghost use Rattle.std.specs.Prelude.{◌≡◌, ◌≤◌};
-    ghost use Rattle.record_join.specs.Events.{Joining};
-    ghost use Rattle.record_join.specs.StandsFor.{StandsFor};
-    ghost use Rattle.acts.specs.Flows.{latest, TimesNeverFall};
     ghost use Rattle.ingest.specs.Parts.{Joined};
-    ghost use Rattle.ingest.specs.StandsFor.{NO_BOUND};
+    ghost use Rattle.ingest.specs.StandsFor.{IsInTime};
 
     ghost Value = { Joined };
 
     ghost view = { λ a. record { limits = a.limits; join = a.join; course = a.course; counts = a.counts; excess = a.excess } };
 
-    // The joiner stands for something that waits, and no act that was taken is later than what it released last.
-    ghost invariant = { λ a. ((s : Joining) × StandsFor a.limits a.join s) × TimesNeverFall a.course.taken × (latest a.course.taken ≤ a.join.clock.effective) × (a.course.most_flows ≡ NO_BOUND) };
+    ghost invariant = { λ a. IsInTime a.limits a.join a.course };
 }
 
 impl EventFlows {

@@ -33,18 +33,14 @@ pub struct LineReader {
 }
 
 impl Model for LineReader {
-    ghost use Rattle.std.specs.Prelude.{◌≤◌, ◌≡◌, ◌^◌};
-    ghost use Rattle.audit_lex.specs.History.{History};
-    ghost use Rattle.audit_lex.specs.LineCut.{StandsFor};
-    ghost use Rattle.ingest.specs.Counting.{bytes_in, total};
     ghost use Rattle.ingest.specs.Parts.{Reader};
+    ghost use Rattle.ingest.specs.StandsFor.{IsWithin};
 
     ghost Value = { Reader };
 
     ghost view = { λ a. record { limits = a.limits; cut = a.cut; tally = a.tally; bytes = a.bytes } };
 
-    // The lines are those of some history of so many bytes, and no more were counted; so no count comes to its end.
-    ghost invariant = { λ a. ((h : History) × StandsFor a.cut h × (bytes_in h ≡ a.bytes)) × (total a.tally ≤ a.cut.lines) × (a.bytes ≤ a.limits.input) × (a.limits.input ≤ 2 ^ 60) };
+    ghost invariant = { λ a. IsWithin a.limits a.cut a.tally a.bytes };
 }
 
 impl LineReader {
@@ -121,7 +117,10 @@ impl LineReader {
     {
         match self.cut.finish() {
             None => Ok(None),
-            Some(line) => read_line(self.alloc, &self.limits, &mut self.tally, &line),
+            Some(line) => {
+                let item = read_line(self.alloc, &self.limits, &mut self.tally, &line)?;
+                Ok(item)
+            }
         }
     }
 }
