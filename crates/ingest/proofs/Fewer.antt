@@ -1,6 +1,6 @@
 -- A release takes a record, and tells the time.
-use Rattle.std.proofs.Common.{◌≡◌, ◌≤◌, ◌<◌, ◌∙◌, sym, refl, ap, subst, ℕ, suc, Bool, true, false, not, cond, List, [], ◌∷◌, length, filter, arith, Option, None, Some, max}
-use Rattle.std.specs.Prelude.{◌||◌}
+use Rattle.std.proofs.Common.{◌≡◌, ◌≤◌, ◌<◌, ◌+◌, ◌++◌, ◌∙◌, sym, refl, ap, subst, ℕ, suc, Bool, true, false, not, cond, List, [], ◌∷◌, length, filter, arith, length-append, Option, None, Some, max}
+use Rattle.std.specs.Prelude.{◌||◌, if◌then◌else◌}
 use Rattle.std.specs.List.{list_any}
 use Rattle.std.specs.Ordering.{is_eq}
 use Rattle.std.specs.Cmp.{IsTotalOrder, nat_cmp_total, on_total, then_total}
@@ -9,8 +9,9 @@ use Rattle.std.proofs.lemmas.Cmp.{tied_itself}
 use Rattle.flow_base.specs.declared.limits.Limits.{Limits}
 use Rattle.audit_lex.specs.declared.header.EventKey.{EventKey}
 use Rattle.audit_record.specs.declared.types.Record.{Record}
-use Rattle.record_join.specs.Keys.{key_cmp, is_key, is_below}
-use Rattle.record_join.specs.Events.{Joining, waits, least_key, lesser_key, is_ripe_at, only_ripe, ripe_key, without, event_of, event_at, left_at, next_event, next_left}
+use Rattle.record_join.specs.Keys.{key_cmp, is_key, is_below, ends_event}
+use Rattle.record_join.specs.declared.clock.JoinClock.{JoinClock}
+use Rattle.record_join.specs.Events.{Joining, group_of, is_excess, close, put, enter, saw, waits, least_key, lesser_key, is_ripe_at, only_ripe, ripe_key, without, event_of, event_at, left_at, next_event, next_left}
 use Rattle.record_join.specs.declared.event.Event.{Event}
 
 no_longer : {A : Type 0} (p : A → Bool) (xs : List A) → length (filter (λ x. not (p x)) xs) ≤ length xs
@@ -79,3 +80,56 @@ module _ (limits : Limits) (s : Joining) where
 
   pub released_so : (event : Event) → Some event ≡ next_event limits s → Released event
   released_so event is = released_if event (ripe_key limits s) refl is
+
+-- ---- a record that enters
+
+close_clock : (s : Joining) (key : EventKey) → (close s key).clock ≡ s.clock
+close_clock s key = if_clock (waits key s.waiting)
+  where
+    if_clock : (b : Bool) → (if b then record s { closed = key ∷ s.closed } else s).clock ≡ s.clock
+    if_clock true = refl
+    if_clock false = refl
+
+put_clock : (limits : Limits) (s : Joining) (r : Record) → (put limits s r).clock ≡ s.clock
+put_clock limits s r = if_clock (is_excess limits (group_of r.key s.waiting) r)
+  where
+    if_clock : (b : Bool) → (if b then record s { excess = suc s.excess } else record s { waiting = s.waiting ++ r ∷ [] }).clock ≡ s.clock
+    if_clock true = refl
+    if_clock false = refl
+
+-- a record that enters doesn't raise the effective time
+pub enter_time : (limits : Limits) (s : Joining) (r : Record) → (enter limits s r).clock.effective ≡ s.clock.effective
+enter_time limits s r = ap (λ (c : JoinClock). c.effective) (if_clock (ends_event r))
+  where
+    now : Joining
+    now = record s { clock = saw s.clock r.key.ms }
+    if_clock : (b : Bool) → (if b then close now r.key else put limits now r).clock ≡ now.clock
+    if_clock true = close_clock now r.key
+    if_clock false = put_clock limits now r
+
+abbrev pub size : Joining → ℕ
+size s = length s.waiting + s.excess
+
+close_size : (s : Joining) (key : EventKey) → size (close s key) ≤ size s + 1
+close_size s key = if_size (waits key s.waiting)
+  where
+    if_size : (b : Bool) → size (if b then record s { closed = key ∷ s.closed } else s) ≤ size s + 1
+    if_size true = omega arith
+    if_size false = omega arith
+
+put_size : (limits : Limits) (s : Joining) (r : Record) → size (put limits s r) ≤ size s + 1
+put_size limits s r = if_size (is_excess limits (group_of r.key s.waiting) r)
+  where
+    if_size : (b : Bool) → size (if b then record s { excess = suc s.excess } else record s { waiting = s.waiting ++ r ∷ [] }) ≤ size s + 1
+    if_size true = omega arith
+    if_size false = omega (arith, length-append s.waiting (r ∷ []))
+
+-- a record that enters waits, or is in excess, or ends its event
+pub enter_size : (limits : Limits) (s : Joining) (r : Record) → size (enter limits s r) ≤ size s + 1
+enter_size limits s r = if_size (ends_event r)
+  where
+    now : Joining
+    now = record s { clock = saw s.clock r.key.ms }
+    if_size : (b : Bool) → size (if b then close now r.key else put limits now r) ≤ size now + 1
+    if_size true = close_size now r.key
+    if_size false = put_size limits now r

@@ -1,5 +1,5 @@
 -- Objects and flows grow with the acts.
-use Rattle.std.proofs.Common.{◌≡◌, ◌≤◌, ◌+◌, ◌++◌, ◌∙◌, sym, refl, ap, ℕ, Bool, true, false, List, [], ◌∷◌, length, map, arith, append_assoc, append-nil, length-append, Option, None, Some, if◌then◌else◌}
+use Rattle.std.proofs.Common.{◌≡◌, ◌≤◌, ◌<◌, ◌||◌, subst, ◌+◌, ◌++◌, ◌∙◌, sym, refl, ap, ℕ, Bool, true, false, List, [], ◌∷◌, length, map, arith, append_assoc, append-nil, length-append, Option, None, Some, if◌then◌else◌}
 use Rattle.std.specs.Prelude.{reverse}
 use Rattle.std.specs.List.{list_any, flat_map}
 use Rattle.std.proofs.lemmas.List.{map-append, reverse-append}
@@ -11,6 +11,8 @@ use Rattle.acts.specs.declared.act.Act.{Act}
 use Rattle.acts.specs.declared.act.Taken.{Taken}
 use Rattle.acts.specs.declared.link.Link.{Link}
 use Rattle.acts.specs.Keys.{put_new}
+use Rattle.acts.specs.LookBack.{opens, any_opens}
+use Rattle.std.proofs.lemmas.Bool.{or_parts}
 use Rattle.acts.specs.Flows.{acts_of, objects, flows, flow_if, link_of, with_ends}
 use Rattle.ingest.specs.Events.{taken_at, taken_by, taken_in}
 use Rattle.ingest.specs.EventActs.{acts_of_event}
@@ -60,3 +62,49 @@ taken_next released event =
     taken_more released (event ∷ [])
     ∙ ap (λ l. reverse l ++ taken_in released) (append-nil (taken_by event))
     ∙ ap (λ l. l ++ taken_in released) (map_turned (taken_at event.ms event.key.serial) (acts_of_event event))
+
+pub next_taken : (event : Event) (released : List Event) (acts turned : List Act) (old new : List Taken) → acts ≡ acts_of_event event → turned ≡ reverse acts → old ≡ taken_in released
+    → new ≡ map (taken_at event.ms event.key.serial) turned ++ old → new ≡ taken_in (released ++ event ∷ [])
+next_taken event released acts turned old new acts_are turned_is old_is new_is =
+    new_is
+    ∙ ap (λ t. map (taken_at event.ms event.key.serial) t ++ old) (turned_is ∙ ap reverse acts_are)
+    ∙ ap (λ o. map (taken_at event.ms event.key.serial) (reverse (acts_of_event event)) ++ o) old_is
+    ∙ sym (taken_next released event)
+
+-- ---- the acts of an event, the last of them first
+
+pub opens_none : (acts : List Act) (act : Act) → any_opens (acts ++ act ∷ []) ≡ false → (any_opens acts ≡ false) × (opens act ≡ false)
+opens_none [] act e = (refl, or_first (opens act) e)
+  where
+    or_first : (b : Bool) → (b || false) ≡ false → b ≡ false
+    or_first true e = e
+    or_first false e = e
+opens_none (first ∷ acts) act e =
+    let parts = or_parts (opens first) (any_opens (acts ++ act ∷ [])) e in
+    let rest = opens_none acts act parts.1 in
+    (ap (λ b. b || any_opens acts) parts.0 ∙ rest.0, rest.1)
+
+pub none_turned : (acts : List Act) → any_opens acts ≡ false → any_opens (reverse acts) ≡ false
+none_turned [] e = refl
+none_turned (act ∷ acts) e =
+    let parts = or_parts (opens act) (any_opens acts) e in
+    ap any_opens (reverse-append (act ∷ []) acts) ∙ none_last (reverse acts) act (none_turned acts parts.1) parts.0
+  where
+    none_last : (acts : List Act) (act : Act) → any_opens acts ≡ false → opens act ≡ false → any_opens (acts ++ act ∷ []) ≡ false
+    none_last [] act e f = ap (λ b. b || false) f
+    none_last (first ∷ acts) act e f =
+        let parts = or_parts (opens first) (any_opens acts) e in
+        ap (λ b. b || any_opens (acts ++ act ∷ [])) parts.0 ∙ none_last acts act parts.1 f
+
+pub popped : (ms serial : ℕ) (all rest : List Act) (act : Act) (before : List Taken) → all ≡ rest ++ act ∷ []
+    → map (taken_at ms serial) rest ++ (taken_at ms serial act ∷ before) ≡ map (taken_at ms serial) all ++ before
+popped ms serial all rest act before is =
+    sym (append_assoc (map (taken_at ms serial) rest) (taken_at ms serial act ∷ []) before)
+    ∙ ap (λ l. l ++ before) (sym (map-append (taken_at ms serial) rest (act ∷ [])) ∙ ap (map (taken_at ms serial)) (sym is))
+
+-- one act more keeps what the acts so far passed
+pub still_many : (most : ℕ) (ms serial : ℕ) (rest : List Act) (now : List Taken) (all : List Taken) → map (taken_at ms serial) rest ++ now ≡ all
+    → most < length (objects (acts_of now)) → most < length (objects (acts_of all))
+still_many most ms serial rest now all is many =
+    let more : length (objects (acts_of now)) ≤ length (objects (acts_of all)) = subst (λ l. length (objects (acts_of now)) ≤ length (objects (acts_of l))) is (objects_grow (map (taken_at ms serial) rest) now) in
+    omega (arith, more, many)

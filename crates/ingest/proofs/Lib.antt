@@ -5,5 +5,8 @@ pub mod Limiting
 pub mod Reading
 pub mod Tallying
 pub mod ReaderSteps
+pub mod Answered
 pub mod Fewer
 pub mod Releasing
+pub mod FewEvents
+pub mod EngineSteps

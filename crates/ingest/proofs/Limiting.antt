@@ -8,6 +8,7 @@ use Rattle.audit_lex.specs.History.{History, Step}
 use Rattle.record_join.specs.declared.event.Event.{Event}
 use Rattle.acts.specs.Flows.{acts_of, objects, flows}
 use Rattle.acts.specs.LookBack.{full_by}
+use Rattle.acts.specs.declared.act.Taken.{Taken}
 use Rattle.ingest.specs.Counting.{bytes_in}
 use Rattle.ingest.specs.Events.{taken_in, objects_in, flows_in, events_of, released_at, tells_after, state_of}
 use Rattle.record_join.specs.History.{events}
@@ -85,3 +86,41 @@ module _ (limits : Limits) where
     fits = stops.fits;
     passes = stops.passes;
   }
+
+  -- one more event
+
+  pub next_fits : (released : List Event) (event : Event) (old new : List Taken) (most : ℕ) → old ≡ taken_in released → new ≡ taken_in (released ++ event ∷ []) → most ≡ limits.entities
+      → (length (objects (acts_of old)) ≤ most → length (objects (acts_of new)) ≤ most) → full_of limits released ≡ None → length (flows new) ≤ limits.flows
+      → full_of limits (released ++ event ∷ []) ≡ None
+  next_fits released event old new most old_is new_is most_is fits none short =
+      let all = released ++ event ∷ [] in
+      let before = full_parts limits.entities limits.flows (length (objects_in released)) (length (flows_in released)) none in
+      let was : length (objects (acts_of old)) ≡ length (objects_in released) = ap (λ l. length (objects (acts_of l))) old_is in
+      let now : length (objects (acts_of new)) ≡ length (objects_in all) = ap (λ l. length (objects (acts_of l))) new_is in
+      let long : length (flows new) ≡ length (flows_in all) = ap (λ l. length (flows l)) new_is in
+      let few : length (objects (acts_of new)) ≤ most = fits (omega (arith, was, before.0, most_is)) in
+      full_none limits.entities limits.flows (length (objects_in all)) (length (flows_in all)) (omega (arith, now, few, most_is)) (omega (arith, long, short))
+
+  pub next_long : (released : List Event) (event : Event) (old new : List Taken) (most : ℕ) → old ≡ taken_in released → new ≡ taken_in (released ++ event ∷ []) → most ≡ limits.entities
+      → (length (objects (acts_of old)) ≤ most → length (objects (acts_of new)) ≤ most) → full_of limits released ≡ None → limits.flows < length (flows new)
+      → full_of limits (released ++ event ∷ []) ≡ Some (record { limit = limit.Flows; number = limits.flows })
+  next_long released event old new most old_is new_is most_is fits none long =
+      let all = released ++ event ∷ [] in
+      let before = full_parts limits.entities limits.flows (length (objects_in released)) (length (flows_in released)) none in
+      let was : length (objects (acts_of old)) ≡ length (objects_in released) = ap (λ l. length (objects (acts_of l))) old_is in
+      let now : length (objects (acts_of new)) ≡ length (objects_in all) = ap (λ l. length (objects (acts_of l))) new_is in
+      let same : length (flows new) ≡ length (flows_in all) = ap (λ l. length (flows l)) new_is in
+      let few : length (objects (acts_of new)) ≤ most = fits (omega (arith, was, before.0, most_is)) in
+      full_flows limits.entities limits.flows (length (objects_in all)) (length (flows_in all)) (omega (arith, now, few, most_is)) (omega (arith, same, long))
+
+  pub next_many : (released : List Event) (event : Event) (new : List Taken) (most : ℕ) → new ≡ taken_in (released ++ event ∷ []) → most ≡ limits.entities
+      → most < length (objects (acts_of new)) → full_of limits (released ++ event ∷ []) ≡ Some (record { limit = limit.Entities; number = most })
+  next_many released event new most new_is most_is many =
+      let all = released ++ event ∷ [] in
+      let now : length (objects (acts_of new)) ≡ length (objects_in all) = ap (λ l. length (objects (acts_of l))) new_is in
+      full_objects limits.entities limits.flows (length (objects_in all)) (length (flows_in all)) (omega (arith, now, many, most_is))
+      ∙ ap (λ n. Some (record { limit = limit.Entities; number = n })) (sym most_is)
+
+-- the refusal of an object past the limit
+abbrev pub entities_full : ℕ → Full
+entities_full most = record { limit = limit.Entities; number = most }

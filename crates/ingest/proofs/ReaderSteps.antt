@@ -1,6 +1,5 @@
 -- The reader after some bytes, and after a settle.
 use Rattle.std.proofs.Common.{◌≡◌, ◌≤◌, ◌<◌, ◌+◌, ◌-◌, ◌^◌, ◌++◌, ◌∙◌, sym, refl, ap, subst, min, ℕ, List, [], ◌∷◌, length, take, map, arith, append-nil, Option, None, Some}
-use Rattle.std.specs.Prelude.{Result, Ok, Err, IfOk}
 use Rattle.std.specs.List.{position_or_len}
 use Rattle.std.specs.Option.{option_to_list, option_len}
 use Rattle.std.proofs.lemmas.Grind.{common_steps}
@@ -22,10 +21,6 @@ use Rattle.ingest.specs.Parts.{Reader}
 use Rattle.ingest.specs.StandsFor.{IsWithin, ReaderStandsFor}
 use Rattle.ingest.proofs.Bytes.{few_lines, bytes_more, bytes_settled}
 use Rattle.ingest.proofs.Telling.{since_is, since_none, bytes_tell}
-
-pub by_ok : {T E : Type 0} (r : Result T E) (P : Type 0) → P → IfOk r (λ _. P)
-by_ok (Ok value) P p = p
-by_ok (Err e) P p = tt
 
 pub reader_at : (limits : Limits) (reader seen : Reader) (h : History) → seen ≡ reader → ReaderStandsFor limits reader h → ReaderStandsFor limits seen h
 reader_at limits reader seen h is stands = subst (λ (r : Reader). ReaderStandsFor limits r h) (sym is) stands

@@ -8,15 +8,19 @@ use Rattle.flow_base.specs.declared.limits.Full.{Full}
 use Rattle.audit_lex.specs.declared.header.EventKey.{EventKey}
 use Rattle.audit_record.specs.declared.types.Record.{Record}
 use Rattle.record_join.specs.Keys.{is_key}
-use Rattle.record_join.specs.Events.{Joining, group_of, least_key, lesser_key, only_ripe, ripe_key, without, event_of, event_at, left_at, next_event, next_left}
+use Rattle.record_join.specs.Events.{Joining, enter, settled, group_of, least_key, lesser_key, only_ripe, ripe_key, without, event_of, event_at, left_at, next_event, next_left}
 use Rattle.record_join.specs.History.{released, left, released_after, left_after}
 use Rattle.record_join.specs.StandsFor.{Joiner, StandsFor as JoinStandsFor}
 use Rattle.record_join.specs.declared.event.Event.{Event}
 use Rattle.ingest.specs.Counting.{counts_in}
 use Rattle.ingest.specs.Events.{taken_in}
+use Rattle.ingest.specs.declared.event_counts.EventCounts.{EventCounts}
 use Rattle.ingest.specs.Parts.{Joined}
-use Rattle.ingest.proofs.Fewer.{released_so}
-use Rattle.ingest.specs.StandsFor.{JoinedStandsFor}
+use Rattle.ingest.proofs.Fewer.{released_so, enter_time}
+use Rattle.acts.specs.Flows.{latest, TimesNeverFall}
+use Rattle.acts.specs.LookBack.{Course}
+use Rattle.record_join.specs.declared.clock.JoinClock.{JoinClock}
+use Rattle.ingest.specs.StandsFor.{NO_BOUND, IsInTime, JoinedStandsFor}
 use Rattle.ingest.specs.Stops.{StopsAmong, full_of}
 
 -- the laws of joining that the loop needs
@@ -121,3 +125,53 @@ stands_next limits joined after s t released event stands own join excess same c
 
 pub joined_at : (limits : Limits) (joined seen : Joined) (s : Joining) (released : List Event) → seen ≡ joined → JoinedStandsFor limits joined s released → JoinedStandsFor limits seen s released
 joined_at limits joined seen s released is stands = subst (λ (j : Joined). JoinedStandsFor limits j s released) (sym is) stands
+
+-- ---- in time
+
+pub in_time_entered : (limits : Limits) (join after : Joiner) (item : Record) (course : Course) (w : IsInTime limits join course) → JoinStandsFor limits after (enter limits w.s item) → IsInTime limits after course
+in_time_entered limits join after item course w stands = record {
+  s = enter limits w.s item;
+  join_is = stands;
+  rise = w.rise;
+  later = omega (arith, w.later, ap (λ (c : JoinClock). c.effective) w.join_is.clock, ap (λ (c : JoinClock). c.effective) stands.clock, enter_time limits w.s item);
+  bound = w.bound;
+}
+
+pub in_time_settled : (limits : Limits) (join after : Joiner) (course : Course) (w : IsInTime limits join course) → JoinStandsFor limits after (settled w.s) → IsInTime limits after course
+in_time_settled limits join after course w stands = record {
+  s = settled w.s;
+  join_is = stands;
+  rise = w.rise;
+  later = omega (arith, w.later, ap (λ (c : JoinClock). c.effective) w.join_is.clock, ap (λ (c : JoinClock). c.effective) stands.clock);
+  bound = w.bound;
+}
+
+-- an event that is released is no earlier than the acts so far
+pub later_so : (limits : Limits) (join : Joiner) (course : Course) (event : Event) (w : IsInTime limits join course) → Some event ≡ next_event limits w.s → latest course.taken ≤ event.ms
+later_so limits join course event w is =
+    omega (arith, w.later, ap (λ (c : JoinClock). c.effective) w.join_is.clock, (released_so limits w.s event is).no_less)
+
+pub in_time_released : (limits : Limits) (join after : Joiner) (course more : Course) (event : Event) (w : IsInTime limits join course) → Some event ≡ next_event limits w.s
+    → JoinStandsFor limits after (next_left limits w.s) → TimesNeverFall more.taken → latest more.taken ≤ event.ms → more.most_flows ≡ NO_BOUND → IsInTime limits after more
+in_time_released limits join after course more event w is stands rise later bound = record {
+  s = next_left limits w.s;
+  join_is = stands;
+  rise = rise;
+  later = omega (arith, later, ap (λ (c : JoinClock). c.effective) stands.clock, (released_so limits w.s event is).time);
+  bound = bound;
+}
+
+pub full_own : (limits own : Limits) (most : ℕ) (events more : List Event) (answer : Option Full) → own ≡ limits → full_of limits events ≡ None → most ≡ limits.entities
+    → (most ≡ own.entities → full_of own events ≡ None → full_of own more ≡ answer) → full_of limits more ≡ answer
+full_own limits own most events more answer is none most_is so =
+    let back = sym is in
+    ap (λ (l : Limits). full_of l more) back ∙ so (most_is ∙ ap (λ (l : Limits). l.entities) back) (ap (λ (l : Limits). full_of l events) is ∙ none)
+
+pub few_done : (n m : ℕ) → n + m ≤ 2 ^ 61 → n < 2 ^ 62
+few_done n m few = omega (arith, few)
+
+pub left_excess : (limits : Limits) (s : Joining) (event : Event) → Some event ≡ next_event limits s → (next_left limits s).excess ≡ s.excess
+left_excess limits s event is = (released_so limits s event is).excess
+
+abbrev pub joined_made : Limits → Joiner → Course → EventCounts → ℕ → Joined
+joined_made limits join course counts excess = record { limits = limits; join = join; course = course; counts = counts; excess = excess }

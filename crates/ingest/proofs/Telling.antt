@@ -19,7 +19,7 @@ pub since_none : (before after : History) → lines_of after ≡ lines_of before
 since_none before after is = since_is before after [] (is ∙ sym (append-nil (lines_of before)))
 
 -- the lines since, in two parts
-since_parts : (h first second : History) → lines_since h ((h ++ first) ++ second) ≡ lines_since h (h ++ first) ++ lines_since (h ++ first) ((h ++ first) ++ second)
+pub since_parts : (h first second : History) → lines_since h ((h ++ first) ++ second) ≡ lines_since h (h ++ first) ++ lines_since (h ++ first) ((h ++ first) ++ second)
 since_parts h first second =
     let one = stay h first in
     let two = stay (h ++ first) second in

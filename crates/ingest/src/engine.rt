@@ -73,10 +73,13 @@ impl Ingest {
         ensures ok { OnOk result ((limits : Limits) (h : History) → StandsFor limits self.old h → StandsFor limits self.new (h ++ Settle ∷ [])) }
         ensures full { (full : Full) → result ≡ Err (why.Full full) → (limits : Limits) (h : History) → StandsFor limits self.old h → Stops limits (h ++ Settle ∷ []) full }
     {
-        if let Some(item) = self.reader.end()? {
-            self.joined.came(item)?;
+        match self.reader.end()? {
+            None => self.joined.settle(),
+            Some(item) => match self.joined.came(item) {
+                Ok(()) => self.joined.settle(),
+                Err(why) => Err(why),
+            },
         }
-        self.joined.settle()
     }
 
     /// How many events were released so far.

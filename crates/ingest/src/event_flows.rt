@@ -154,13 +154,16 @@ impl EventFlows {
                 late: event.late,
                 records: event.records.as_slice(),
             };
-            take_event(
+            match take_event(
                 self.alloc,
                 &self.limits,
                 &mut self.course,
                 &mut self.counts,
                 &view,
-            )?;
+            ) {
+                Ok(()) => {}
+                Err(why) => return Err(why),
+            }
         }
         Ok(())
     }
@@ -188,8 +191,10 @@ fn take_event(
     counts.count(event);
     let acts = acts_of(alloc, event)?;
     let turned = turn(alloc, acts)?;
-    take_acts(course, turned, event.ms, event.key.serial)?;
-    look_at_flows(limits, course)
+    match take_acts(course, turned, event.ms, event.key.serial) {
+        Ok(()) => look_at_flows(limits, course),
+        Err(why) => Err(why),
+    }
 }
 
 // The same acts, turned round.
@@ -220,7 +225,10 @@ fn take_acts(course: &mut Plain, acts: List<Act>, ms: u64, serial: u32) -> Resul
 {
     let mut rest = acts;
     while let Some(act) = rest.pop() {
-        take_act(course, Taken { act, ms, serial })?;
+        match take_act(course, Taken { act, ms, serial }) {
+            Ok(()) => {}
+            Err(why) => return Err(why),
+        }
     }
     Ok(())
 }

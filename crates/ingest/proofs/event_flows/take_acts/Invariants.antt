@@ -9,7 +9,7 @@ use Rattle.ingest.proofs.event_flows.take_acts.Given as goal
 abbrev pub invariant-loop-act : goal.invariant-loop-act
 invariant-loop-act l = record {
   none_opens : any_opens l.rest ≡ false;
-  taken : map (taken_at l.ms l.serial) l.rest ++ l.course.taken ≡ map (taken_at l.ms l.serial) l.initial.acts ++ l.initial.course.taken;
+  taken : map (taken_at l.ms l.serial) l.rest ++ l.course.taken ≡ map (taken_at l.ms l.serial) l.initial.rest ++ l.initial.course.taken;
   most_objects : l.course.most_objects ≡ l.initial.course.most_objects;
   most_flows : l.course.most_flows ≡ NO_BOUND;
   rise : TimesNeverFall l.course.taken;

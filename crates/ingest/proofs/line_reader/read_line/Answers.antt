@@ -1,6 +1,6 @@
 use Rattle.std.proofs.Common.{◌≡◌, ◌+◌, ap, length}
 use Rattle.audit_lex.specs.declared.line_cut.Line.{Line}
-use Rattle.ingest.proofs.ReaderSteps.{by_ok}
+use Rattle.ingest.proofs.Answered.{by_ok}
 use Rattle.ingest.proofs.line_reader.read_line.Goals as goal
 
 pub returns-clause-counted : goal.returns-clause-counted
