@@ -5,6 +5,7 @@ use Rattle.std.proofs.Math.Seq.{take-add}
 use Rattle.std.proofs.lemmas.List.{map-append, take_more, length-take-le, length-drop, take-append-drop, take-take}
 use Rattle.flow_base.specs.declared.limits.Limits.{Limits}
 use Rattle.flow_base.specs.declared.limits.Full.{Full}
+use Rattle.flow_base.specs.declared.limits.Limit.TheVariants as limit
 use Rattle.audit_lex.specs.History.{History, Step, Byte, Settle, with_bytes}
 use Rattle.audit_record.specs.declared.types.Record.{Record}
 use Rattle.record_join.specs.Events.{enter}
@@ -16,7 +17,7 @@ use Rattle.ingest.specs.declared.stop.Stop.{Stop}
 use Rattle.ingest.specs.declared.stop.StopWhy.{StopWhy}
 use Rattle.ingest.specs.declared.stop.StopWhy.TheVariants as why
 use Rattle.ingest.proofs.Bytes.{bytes_more, bytes_append}
-use Rattle.ingest.proofs.EngineSteps.{stops_line}
+use Rattle.ingest.proofs.EngineSteps.{front_fits_too, stops_line}
 use Rattle.ingest.proofs.Limiting.{stop_stays}
 
 -- so many bytes, and then so many of the rest
@@ -129,6 +130,11 @@ module _ (limits : Limits) where
         );
       }
 
+  pub stop_full : (h : History) (piece : List ℕ) (room n : ℕ) → room < length piece → bytes_in h + room ≡ limits.input → n ≡ limits.input → Fits limits (with_bytes h (take room piece))
+      → StopsFor limits h piece (record { done = room; why = why.Full (record { limit = limit.Input; number = n }) })
+  stop_full h piece room n within full is fits =
+      subst (λ (k : ℕ). StopsFor limits h piece (record { done = room; why = why.Full (record { limit = limit.Input; number = k }) })) (sym is) (stop_input h piece room within full fits)
+
   -- a line feed that ends a line whose events pass a limit
   pub stop_line : (h : History) (piece : List ℕ) (count : ℕ) (item : Record) (reason : StopWhy) → count ≤ length piece → Fits limits h → bytes_in h + length piece ≤ limits.input
       → tells_after limits h (map Byte (take (count - 1) piece)) ≡ [] → tells_after limits h (map Byte (take count piece)) ≡ Came item ∷ []
@@ -164,7 +170,7 @@ module _ (limits : Limits) where
         subst (λ (g : History). Stops limits g full) (one_then h piece (count - 1) below) (stops_at (drop (count - 1 + 1) piece) full is),
         inr (
           nonzero count tells,
-          (stops_at [] full is).fits,
+          front_fits_too limits h part fits (let some = nonzero count tells in omega (arith, short, some, within, room)) quiet,
           subst (λ (g : History). Stops limits g full) (sym (one_more h piece (count - 1) below) ∙ ap (λ (k : ℕ). with_bytes h (take k piece)) again) (stops_at [] full is),
         ),
       )
