@@ -49,6 +49,7 @@ spared test other apart (e ∷ es) = by (test e.0) (apart e.0) (spared test othe
     passed : (o : Bool) → (o ≡ true → true ≡ false) → lookup other es ≡ cond o (Some e.1) (lookup other es)
     passed true wrong = let no : true ≡ false = wrong refl in cc
     passed false wrong = refl
+
     by : (t : Bool) → (other e.0 ≡ true → t ≡ false) → lookup other (remove_entry test es) ≡ lookup other es → lookup other (cond t es (e ∷ remove_entry test es)) ≡ cond (other e.0) (Some e.1) (lookup other es)
     by true wrong rest = passed (other e.0) wrong
     by false wrong rest = ap (λ r. cond (other e.0) (Some e.1) r) rest
