@@ -1,5 +1,5 @@
 -- What entering and leaving makes of the places.
-use Rattle.std.proofs.Common.{suc, zero, not, ◌||◌, ◌≡◌, ◌∙◌, sym, ap, refl, ℕ, ◌+◌, ◌-◌, ◌≤◌, ◌<◌, ◌==◌, ◌&&◌, Bool, true, false, cond, List, [], ◌∷◌, length, Option, Some, None, is_some, unwrap_or, if◌then◌else◌, nat_eq, nat_lt, arith}
+use Rattle.std.proofs.Common.{suc, zero, not, ◌||◌, ◌≡◌, ◌∙◌, sym, ap, refl, ℕ, ◌+◌, ◌≤◌, ◌<◌, ◌==◌, ◌&&◌, Bool, true, false, cond, List, [], ◌∷◌, length, Option, Some, None, is_some, unwrap_or, if◌then◌else◌, nat_lt, arith}
 use Rattle.std.proofs.lemmas.Grind.{common_steps}
 use Rattle.std.specs.Option.{IfSome}
 use Rattle.std.specs.Map.{lookup, remove_entry}
