@@ -3,6 +3,8 @@ use Rattle.std.proofs.Common.{◌≡◌, refl, ap, sym, subst, ◌∙◌, ℕ, �
 use Rattle.std.specs.Prelude.{◌==◌, All}
 use Rattle.std.specs.Option.{option_and_then}
 use Rattle.std.proofs.lemmas.Grind.{reverse_onto}
+use Rattle.std.proofs.lemmas.List.{reverse-append}
+use Rattle.record_join.specs.declared.event.Event.{Event}
 use Rattle.std.proofs.lemmas.Bool.{both_ways}
 use Rattle.audit_record.specs.declared.types.Record.{Record}
 use Rattle.audit_record.specs.declared.types.Syscall.{Syscall}
@@ -14,7 +16,7 @@ use Rattle.acts.specs.LookBack.{opens}
 use Rattle.call_acts.specs.declared.calls.Call.{Call}
 use Rattle.call_acts.specs.declared.calls.Call.TheVariants as row
 use Rattle.call_acts.specs.Records.{call}
-use Rattle.call_acts.specs.Acts.{row_acts, acts_by, acts_from, event_acts, event_call, row_of}
+use Rattle.call_acts.specs.Acts.{row_acts, acts_by, acts_from, acts_of_events, event_acts, event_call, row_of}
 use Rattle.call_acts.specs.Laws.{is_act_of, AreOfCaller, OpenNothing, opens_descriptors}
 use Rattle.call_acts.proofs.RowActs.{HoldsOfCaller, ends_caller, Each, all_of_each, all_hold, ends_or_not}
 
@@ -103,6 +105,16 @@ from_admitted limit records (Some caller) before admitted =
 
 pub event_admitted : (limit : ℕ) (records : List Record) (before : List Act) → Admitted before → Admitted (reverse (event_acts limit records) ++ before)
 event_admitted limit records before admitted = from_admitted limit records (call records) before admitted
+
+-- the acts of an event go before those of the events after it
+both_turned : (acts more before : List Act) → reverse (acts ++ more) ++ before ≡ reverse more ++ (reverse acts ++ before)
+both_turned acts more before = ap (λ (front : List Act). front ++ before) (reverse-append acts more) ∙ append_assoc (reverse more) (reverse acts) before
+
+pub events_admitted : (limit : ℕ) (events : List Event) (before : List Act) → Admitted before → Admitted (reverse (acts_of_events limit events) ++ before)
+events_admitted limit [] before admitted = admitted
+events_admitted limit (event ∷ events) before admitted =
+    subst Admitted (sym (both_turned (event_acts limit event.records) (acts_of_events limit events) before))
+    (events_admitted limit events (reverse (event_acts limit event.records) ++ before) (event_admitted limit event.records before admitted))
 
 -- ---- those of other calls opening nothing
 

@@ -1,6 +1,8 @@
 -- The acts of an event.
 use Rattle.std.specs.Prelude.{ℕ, List, [], ◌∷◌, Option, None, Some, Bool, true, false}
 use Rattle.std.specs.Option.{option_and_then}
+use Rattle.std.specs.List.{flat_map}
+use Rattle.record_join.specs.declared.event.Event.{Event}
 use Rattle.audit_record.specs.declared.types.Record.{Record}
 use Rattle.audit_record.specs.declared.types.Syscall.{Syscall}
 use Rattle.acts.specs.declared.act.Act.{Act}
@@ -63,6 +65,10 @@ acts_from limit records (Some call) = See call.pid call.ppid call.exe ∷ acts_b
 -- the acts of an event with these records, whose joined paths have at most so many bytes; without a call it has none
 abbrev pub event_acts : ℕ → List Record → List Act
 event_acts limit records = acts_from limit records (call records)
+
+-- the acts of these events, in order
+abbrev pub acts_of_events : ℕ → List Event → List Act
+acts_of_events limit events = flat_map (λ e. event_acts limit e.records) events
 
 -- the row of an event's call
 abbrev pub event_call : List Record → Option Call

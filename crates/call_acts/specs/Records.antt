@@ -100,6 +100,10 @@ abbrev pub target : List Record → Option PathItem
 target records =
     last_or (last_or (last_or None (paths named.Unknown records)) (paths named.Normal records)) (paths named.Create records)
 
--- the file of a path: its number, and its name joined with the working directory, absent where the name is
+-- the file of a path in a working directory: its number, and its name joined with the directory, absent where the name is
+abbrev pub file_in : ℕ → Option (List ℕ) → PathItem → FileRef
+file_in limit cwd item = record { file = item.file; path = option_map (λ name. joined cwd name limit) item.name }
+
+-- the file of a path of an event, in its working directory
 abbrev pub file_of : ℕ → List Record → PathItem → FileRef
-file_of limit records item = record { file = item.file; path = option_map (λ name. joined (cwd records) name limit) item.name }
+file_of limit records item = file_in limit (cwd records) item

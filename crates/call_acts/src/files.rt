@@ -6,7 +6,7 @@ ghost use Rattle.call_acts.specs.Records.{paths, file_of};
 ghost use Rattle.call_acts.specs.Files.{alters_file, alters_path, alters_fd, renames, removes, bears, makes};
 
 use crate::answers::{fd, is_ok};
-use crate::records::{copy_file, file_of, path_of, target};
+use crate::records::{copy_file, cwd, file_in, file_of, path_of, target};
 use crate::transfers::outward;
 use acts::{Act, FileRef, Thing};
 use audit_record::{NameKind, Record, Syscall};
@@ -100,9 +100,10 @@ fn alter_each(
 ) -> Result<(), NoMemory>
     ensures { OnOk result (done.new ≡ done.old ++ flat_map (alters_file limit records.now call.now) (paths kind records.now)) }
 {
+    let cwd = cwd(records);
     for record in records {
         if let Some(item) = path_of(record, kind) {
-            let file = file_of(alloc, limit, records, item)?;
+            let file = file_in(alloc, limit, cwd, item)?;
             done.push(outward(call, How::Alter, Thing::File(file)))?;
         }
     }
@@ -136,9 +137,10 @@ fn make_each(
 ) -> Result<(), NoMemory>
     ensures { OnOk result (done.new ≡ done.old ++ flat_map (λ item. bears call.now (file_of limit records.now item)) (paths Create records.now)) }
 {
+    let cwd = cwd(records);
     for record in records {
         if let Some(item) = path_of(record, NameKind::Create) {
-            let file = file_of(alloc, limit, records, item)?;
+            let file = file_in(alloc, limit, cwd, item)?;
             bear(call, &file, done)?;
         }
     }

@@ -2,10 +2,11 @@
 ghost use Rattle.std.specs.Prelude.{◌≡◌, ◌≤◌, ◌+◌, ◌*◌, ◌++◌, ℕ, List, length, reverse, false, Some};
 ghost use Rattle.audit_record.specs.declared.types.Record.{Record};
 ghost use Rattle.audit_record.specs.declared.types.Syscall.{Syscall};
+ghost use Rattle.record_join.specs.declared.event.Event.{Event};
 ghost use Rattle.acts.specs.declared.act.Act.{Act};
 ghost use Rattle.acts.specs.Admitted.{Admitted};
 ghost use Rattle.call_acts.specs.Records.{call};
-ghost use Rattle.call_acts.specs.Acts.{event_acts, event_call};
+ghost use Rattle.call_acts.specs.Acts.{event_acts, event_call, acts_of_events};
 ghost use Rattle.call_acts.specs.Laws.{AreOfCaller, OpenNothing, opens_descriptors};
 ghost use Rattle.call_acts.specs.declared.calls.Call.{Call as Row};
 
@@ -39,6 +40,11 @@ pub fn acts_are_of_the_caller()
 /// newest first.
 pub fn event_acts_are_admitted()
     ensures { (limit : ℕ) (records : List Record) (before : List Act) → Admitted before → Admitted (reverse (event_acts limit records) ++ before) }
+{}
+
+/// The acts of events, one event after the other, are admitted too.
+pub fn acts_of_events_are_admitted()
+    ensures { (limit : ℕ) (events : List Event) (before : List Act) → Admitted before → Admitted (reverse (acts_of_events limit events) ++ before) }
 {}
 
 /// An event has few acts.

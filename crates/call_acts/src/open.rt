@@ -90,7 +90,9 @@ fn open_flags(call: &Syscall) -> u64
     ensures { result ≡ open_flags call.now }
 {
     match call.number {
+        // open
         2 => call.a1,
+        // openat
         257 => call.a2,
         // creat
         85 => TRUNCATE,

@@ -6,7 +6,7 @@ ghost use Rattle.call_acts.specs.Records.{paths};
 ghost use Rattle.call_acts.specs.Processes.{runs_file, execs, forks, clones, exits};
 
 use crate::answers::{answered, has, is_ok};
-use crate::records::{file_of, path_of};
+use crate::records::{cwd, file_in, path_of};
 use crate::transfers::inward;
 use acts::{Act, Thing};
 use audit_record::{NameKind, Record, Syscall};
@@ -44,9 +44,10 @@ fn run_files(
 ) -> Result<(), NoMemory>
     ensures { OnOk result (done.new ≡ done.old ++ flat_map (runs_file limit records.now call.now) (paths Normal records.now)) }
 {
+    let cwd = cwd(records);
     for record in records {
         if let Some(item) = path_of(record, NameKind::Normal) {
-            let file = file_of(alloc, limit, records, item)?;
+            let file = file_in(alloc, limit, cwd, item)?;
             done.push(inward(call, How::Exec, Thing::File(file)))?;
         }
     }

@@ -4,8 +4,8 @@
 //! path that arrives before its call counts too.
 ghost use Rattle.std.specs.Prelude.{◌≡◌, Option, None, Some, IfOk, option_map};
 ghost use Rattle.std.specs.List.{last_or};
-ghost use Rattle.std.specs.Option.{option_to_list};
-ghost use Rattle.call_acts.specs.Records.{first_of, call, cwd_in, cwd, address, sockaddr_in, pair, mapped, names_file, path_in, paths, same_kind, target, file_of};
+ghost use Rattle.std.specs.Option.{option_copied, option_to_list};
+ghost use Rattle.call_acts.specs.Records.{first_of, call, cwd_in, cwd, address, sockaddr_in, pair, mapped, names_file, path_in, paths, same_kind, target, file_in, file_of};
 
 use acts::FileRef;
 use audit_record::{Body, NameKind, PathItem, Record, Syscall};
@@ -87,10 +87,10 @@ pub fn mapped(records: &[Record]) -> Option<u32>
 }
 
 /// The path of a record, where it has this kind and names a file.
-pub fn path_of(holder: &Record, kind: NameKind) -> Option<&PathItem>
-    ensures { option_to_list (option_map (λ p. p.now) result) ≡ path_in kind holder.now.body }
+pub fn path_of(one: &Record, kind: NameKind) -> Option<&PathItem>
+    ensures { option_to_list (option_map (λ p. p.now) result) ≡ path_in kind one.now.body }
 {
-    match &holder.body {
+    match &one.body {
         Body::Path(item) if item.kind == kind && names_file(item) => Some(item),
         _ => None,
     }
@@ -128,7 +128,7 @@ fn last_path(records: &[Record], kind: NameKind) -> Option<&PathItem>
     last
 }
 
-/// The file of a path: its number, and its name joined with the working directory.
+/// The file of a path of an event, in its working directory.
 pub fn file_of(
     alloc: Global,
     limit: usize,
@@ -137,8 +137,20 @@ pub fn file_of(
 ) -> Result<FileRef, NoMemory>
     ensures { IfOk result (λ file. file ≡ file_of limit records.now item.now) }
 {
+    file_in(alloc, limit, cwd(records), item)
+}
+
+/// The file of a path: its number, and its name joined with the working directory.
+pub fn file_in(
+    alloc: Global,
+    limit: usize,
+    cwd: Option<&[u8]>,
+    item: &PathItem,
+) -> Result<FileRef, NoMemory>
+    ensures { IfOk result (λ file. file ≡ file_in limit (option_copied cwd.entry) item.now) }
+{
     let path = match &item.name {
-        Some(name) => Some(join_path(alloc, cwd(records), name.as_slice(), limit)?),
+        Some(name) => Some(join_path(alloc, cwd, name.as_slice(), limit)?),
         None => None,
     };
     Ok(FileRef {
