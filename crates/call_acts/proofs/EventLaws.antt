@@ -1,6 +1,6 @@
 -- The laws of events' acts, from what holds of each act of a caller.
-use Rattle.std.proofs.Common.{◌≡◌, refl, ap, sym, subst, ◌∙◌, ℕ, ◌&&◌, not, Bool, true, false, List, [], ◌∷◌, ◌++◌, reverse, Option, None, Some, if◌then◌else◌, inl, inr, eq-eqb, append_assoc}
-use Rattle.std.specs.Prelude.{◌==◌, All}
+use Rattle.std.proofs.Common.{◌≡◌, refl, ap, sym, subst, ◌∙◌, ℕ, Bool, true, false, List, [], ◌∷◌, ◌++◌, reverse, Option, None, Some, if◌then◌else◌, inl, inr, eq-eqb, append_assoc}
+use Rattle.std.specs.Prelude.{◌==◌}
 use Rattle.std.specs.Option.{option_and_then}
 use Rattle.std.proofs.lemmas.Grind.{reverse_onto}
 use Rattle.std.proofs.lemmas.List.{reverse-append}
@@ -14,7 +14,6 @@ use Rattle.acts.specs.Lives.{live, is_child}
 use Rattle.acts.specs.Admitted.{Admitted, names_live}
 use Rattle.acts.specs.LookBack.{opens}
 use Rattle.call_acts.specs.declared.calls.Call.{Call}
-use Rattle.call_acts.specs.declared.calls.Call.TheVariants as row
 use Rattle.call_acts.specs.Records.{call}
 use Rattle.call_acts.specs.Acts.{row_acts, acts_by, acts_from, acts_of_events, event_acts, event_call, row_of}
 use Rattle.call_acts.specs.Laws.{is_act_of, AreOfCaller, OpenNothing, opens_descriptors}

@@ -1,5 +1,5 @@
 -- What a call answered, and what its arguments say.
-use Rattle.std.specs.Prelude.{ℕ, ◌%◌, ◌^◌, ◌==◌, ◌&&◌, ◌||◌, Bool, true, false, not, List, [], Option, None, Some, ℤ, pos, negsuc, nat_lt, if◌then◌else◌}
+use Rattle.std.specs.Prelude.{ℕ, ◌%◌, ◌^◌, ◌==◌, ◌&&◌, Bool, true, false, not, List, [], Option, None, Some, ℤ, pos, negsuc, nat_lt, if◌then◌else◌}
 use Rattle.std.specs.Int.Bits.{bit_and}
 use Rattle.audit_record.specs.declared.types.Syscall.{Syscall}
 

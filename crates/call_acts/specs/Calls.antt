@@ -1,5 +1,5 @@
 -- The table of calls: each row with the numbers of its calls.
-use Rattle.std.specs.Prelude.{ℕ, List, [], ◌∷◌, Option, None, Some, Bool, false, ◌==◌, if◌then◌else◌}
+use Rattle.std.specs.Prelude.{ℕ, List, [], ◌∷◌, Option, None, Some, ◌==◌, if◌then◌else◌}
 use Rattle.std.specs.List.{list_any}
 use Rattle.call_acts.specs.declared.calls.Call.{Call}
 use Rattle.call_acts.specs.declared.calls.Call.TheVariants.{Read, Receive, Write, Send, SendFile, Tee, Splice, Open, Close, Dup, Dup2, Dup3, Fcntl, Pair, Socket, Bind, Connect, Accept, Exec, Fork, Clone, Exit, Map, AlterPath, AlterFd, Rename, Remove, MakePath}

@@ -2,7 +2,6 @@
 use Rattle.std.specs.Prelude.{ℕ, ◌||◌, ◌&&◌, Bool, true, false, List, [], ◌∷◌, Option, None, Some, is_some, option_map, if◌then◌else◌}
 use Rattle.std.specs.Option.{option_and_then, option_or}
 use Rattle.std.specs.List.{flat_map, last_or}
-use Rattle.flow_base.specs.declared.types.FileId.{FileId}
 use Rattle.audit_record.specs.declared.types.Record.{Record}
 use Rattle.audit_record.specs.declared.types.Body.{Body}
 use Rattle.audit_record.specs.declared.types.Body.TheVariants as body

@@ -1,5 +1,5 @@
 -- The acts of calls that move data through descriptors.
-use Rattle.std.specs.Prelude.{ℕ, ◌&&◌, Bool, true, false, not, List, [], ◌∷◌, Option, None, Some}
+use Rattle.std.specs.Prelude.{ℕ, ◌&&◌, true, false, not, List, [], ◌∷◌, Option, None, Some}
 use Rattle.flow_base.specs.declared.types.How.{How}
 use Rattle.flow_base.specs.declared.types.How.TheVariants as how
 use Rattle.audit_record.specs.declared.types.Record.{Record}

@@ -1,6 +1,6 @@
 use Rattle.std.proofs.Common.{◌≡◌, ◌++◌, take}
 use Rattle.std.specs.List.{flat_map}
-use Rattle.call_acts.specs.Records.{paths, file_of}
+use Rattle.call_acts.specs.Records.{paths}
 use Rattle.call_acts.specs.Files.{alters_file}
 use Rattle.call_acts.proofs.files.alter_each.Given as goal
 

@@ -1,6 +1,6 @@
 use Rattle.std.proofs.Common.{◌≡◌, ◌++◌, take}
 use Rattle.std.specs.List.{flat_map}
-use Rattle.call_acts.specs.Records.{paths, file_of}
+use Rattle.call_acts.specs.Records.{paths}
 use Rattle.call_acts.specs.Processes.{runs_file}
 use Rattle.audit_record.specs.declared.types.NameKind.TheVariants.{Normal}
 use Rattle.call_acts.proofs.processes.run_files.Given as goal
