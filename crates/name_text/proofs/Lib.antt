@@ -3,3 +3,4 @@ pub mod JoinLemmas
 pub mod PlaceLemmas
 pub mod GroupLemmas
 pub mod HalfLemmas
+pub mod TidyLemmas

@@ -117,7 +117,7 @@ last_is xs last found =
     let more = take_more xs (length xs - 1) last within in
     grind (arith, common_steps)
 
-up_is : (part : List ℕ) → is_up part ≡ true → part ≡ codes ".."
+pub up_is : (part : List ℕ) → is_up part ≡ true → part ≡ codes ".."
 up_is part h = let decided = bytes_eq-Decides part (codes "..") in decided.0 h
 
 named-up : (part : List ℕ) → is_up part ≡ true → is_named part ≡ true
@@ -189,7 +189,7 @@ split-by slash x [] back some = absurd (omega arith)
 split-by true x (first ∷ rest) back some = refl
 split-by false x (first ∷ rest) back some = refl
 
-split-both : (xs ys : List ℕ) → slice_split is_slash (xs ++ 47 ∷ ys) ≡ slice_split is_slash xs ++ slice_split is_slash ys
+pub split-both : (xs ys : List ℕ) → slice_split is_slash (xs ++ 47 ∷ ys) ≡ slice_split is_slash xs ++ slice_split is_slash ys
 split-both [] ys = refl
 split-both (x ∷ xs) ys =
     ap (λ parts. cond (is_slash x) ([] ∷ parts) (onto_first x parts)) (split-both xs ys)
