@@ -1,0 +1,6 @@
+pub mod PartLemmas
+pub mod JoinLemmas
+pub mod PlaceLemmas
+pub mod GroupLemmas
+pub mod HalfLemmas
+pub mod TidyLemmas

@@ -1,0 +1,4 @@
+pub mod Addresses
+pub mod KeyTexts
+pub mod Paths
+pub mod TidyPaths
