@@ -22,3 +22,7 @@ if_err {T} {E} r e P is h = subst (λ (q : Result T E). IfErr q P) is h
 
 pub one_full : (a b : Full) → why.Full a ≡ why.Full b → a ≡ b
 one_full a b e = cc e
+
+pub if_ok_so : {T E : Type 0} (r : Result T E) (P Q : T → Type 0) → ((value : T) → P value → Q value) → IfOk r P → IfOk r Q
+if_ok_so (Ok value) P Q f p = f value p
+if_ok_so (Err e) P Q f p = tt

@@ -1,12 +1,14 @@
 -- Objects and flows grow with the acts.
 use Rattle.std.proofs.Common.{◌≡◌, ◌≤◌, ◌<◌, ◌||◌, subst, ◌+◌, ◌++◌, ◌∙◌, sym, refl, ap, ℕ, Bool, true, false, List, [], ◌∷◌, length, map, arith, append_assoc, append-nil, length-append, Option, None, Some, if◌then◌else◌}
 use Rattle.std.specs.Prelude.{reverse}
-use Rattle.std.specs.List.{list_any, flat_map}
+use Rattle.std.specs.List.{list_any, flat_map, All}
+use Rattle.std.proofs.lemmas.List.Elements.{All-head, All-tail}
 use Rattle.std.proofs.lemmas.List.{map-append, reverse-append}
 use Rattle.std.proofs.lemmas.Grind.{flat_map-append}
 use Rattle.flow_base.specs.declared.types.Key.{Key}
 use Rattle.flow_base.specs.contracts.types.KeyPartialEq.TheImpl.{ghosts}
 use Rattle.record_join.specs.declared.event.Event.{Event}
+use Rattle.flow_base.specs.declared.limits.Limits.{Limits}
 use Rattle.acts.specs.declared.act.Act.{Act}
 use Rattle.acts.specs.declared.act.Taken.{Taken}
 use Rattle.acts.specs.declared.link.Link.{Link}
@@ -45,8 +47,8 @@ flows_grow (taken ∷ more) before =
     let len : length (F ++ new) ≡ length F + length new = length-append F new in
     omega (arith, flows_grow more before, len)
 
-pub taken_more : (xs ys : List Event) → taken_in (xs ++ ys) ≡ taken_in ys ++ taken_in xs
-taken_more xs ys = ap reverse (flat_map-append taken_by xs ys) ∙ reverse-append (flat_map taken_by xs) (flat_map taken_by ys)
+pub taken_more : (limits : Limits) (xs ys : List Event) → taken_in limits (xs ++ ys) ≡ taken_in limits ys ++ taken_in limits xs
+taken_more limits xs ys = ap reverse (flat_map-append (taken_by limits) xs ys) ∙ reverse-append (flat_map (taken_by limits) xs) (flat_map (taken_by limits) ys)
 
 map_turned : {X Y : Type 0} (f : X → Y) (xs : List X) → reverse (map f xs) ≡ map f (reverse xs)
 map_turned f [] = refl
@@ -57,19 +59,19 @@ map_turned f (x ∷ xs) =
     ∙ ap (map f) (sym (reverse-append (x ∷ []) xs))
 
 -- one more event
-pub taken_next : (released : List Event) (event : Event) → taken_in (released ++ event ∷ []) ≡ map (taken_at event.ms event.key.serial) (reverse (acts_of_event event)) ++ taken_in released
-taken_next released event =
-    taken_more released (event ∷ [])
-    ∙ ap (λ l. reverse l ++ taken_in released) (append-nil (taken_by event))
-    ∙ ap (λ l. l ++ taken_in released) (map_turned (taken_at event.ms event.key.serial) (acts_of_event event))
+pub taken_next : (limits : Limits) (released : List Event) (event : Event) → taken_in limits (released ++ event ∷ []) ≡ map (taken_at event.ms event.key.serial) (reverse (acts_of_event limits event)) ++ taken_in limits released
+taken_next limits released event =
+    taken_more limits released (event ∷ [])
+    ∙ ap (λ l. reverse l ++ taken_in limits released) (append-nil (taken_by limits event))
+    ∙ ap (λ l. l ++ taken_in limits released) (map_turned (taken_at event.ms event.key.serial) (acts_of_event limits event))
 
-pub next_taken : (event : Event) (released : List Event) (acts turned : List Act) (old new : List Taken) → acts ≡ acts_of_event event → turned ≡ reverse acts → old ≡ taken_in released
-    → new ≡ map (taken_at event.ms event.key.serial) turned ++ old → new ≡ taken_in (released ++ event ∷ [])
-next_taken event released acts turned old new acts_are turned_is old_is new_is =
+pub next_taken : (limits : Limits) (event : Event) (released : List Event) (acts turned : List Act) (old new : List Taken) → acts ≡ acts_of_event limits event → turned ≡ reverse acts → old ≡ taken_in limits released
+    → new ≡ map (taken_at event.ms event.key.serial) turned ++ old → new ≡ taken_in limits (released ++ event ∷ [])
+next_taken limits event released acts turned old new acts_are turned_is old_is new_is =
     new_is
     ∙ ap (λ t. map (taken_at event.ms event.key.serial) t ++ old) (turned_is ∙ ap reverse acts_are)
-    ∙ ap (λ o. map (taken_at event.ms event.key.serial) (reverse (acts_of_event event)) ++ o) old_is
-    ∙ sym (taken_next released event)
+    ∙ ap (λ o. map (taken_at event.ms event.key.serial) (reverse (acts_of_event limits event)) ++ o) old_is
+    ∙ sym (taken_next limits released event)
 
 -- ---- the acts of an event, the last of them first
 
@@ -108,3 +110,14 @@ pub still_many : (most : ℕ) (ms serial : ℕ) (rest : List Act) (now : List Ta
 still_many most ms serial rest now all is many =
     let more : length (objects (acts_of now)) ≤ length (objects (acts_of all)) = subst (λ l. length (objects (acts_of now)) ≤ length (objects (acts_of l))) is (objects_grow (map (taken_at ms serial) rest) now) in
     omega (arith, more, many)
+
+either_false : (a b : Bool) → a ≡ false → b ≡ false → a || b ≡ false
+either_false false false e f = refl
+either_false false true e f = f
+either_false true b e f = e
+
+-- acts of which each opens nothing open nothing
+pub none_open : (acts : List Act) → All (λ act. opens act ≡ false) acts → any_opens acts ≡ false
+none_open [] all = refl
+none_open (act ∷ acts) all =
+    either_false (opens act) (any_opens acts) (All-head (λ a. opens a ≡ false) act acts all) (none_open acts (All-tail (λ a. opens a ≡ false) act acts all))

@@ -39,18 +39,18 @@ module _ (limits : Limits) where
   -- the first of some events pass no limit where all pass none
   pub fewer_fit : (xs ys : List Event) → full_of limits (xs ++ ys) ≡ None → full_of limits xs ≡ None
   fewer_fit xs ys none =
-      let both = full_parts limits.entities limits.flows (length (objects_in (xs ++ ys))) (length (flows_in (xs ++ ys))) none in
-      let more = taken_more xs ys in
-      let few : length (objects_in xs) ≤ length (objects_in (xs ++ ys)) = rw more (objects_grow (taken_in ys) (taken_in xs)) in
-      let short : length (flows_in xs) ≤ length (flows_in (xs ++ ys)) = rw more (flows_grow (taken_in ys) (taken_in xs)) in
-      full_none limits.entities limits.flows (length (objects_in xs)) (length (flows_in xs)) (omega (arith, few, both.0)) (omega (arith, short, both.1))
+      let both = full_parts limits.entities limits.flows (length (objects_in limits (xs ++ ys))) (length (flows_in limits (xs ++ ys))) none in
+      let more = taken_more limits xs ys in
+      let few : length (objects_in limits xs) ≤ length (objects_in limits (xs ++ ys)) = rw more (objects_grow (taken_in limits ys) (taken_in limits xs)) in
+      let short : length (flows_in limits xs) ≤ length (flows_in limits (xs ++ ys)) = rw more (flows_grow (taken_in limits ys) (taken_in limits xs)) in
+      full_none limits.entities limits.flows (length (objects_in limits xs)) (length (flows_in limits xs)) (omega (arith, few, both.0)) (omega (arith, short, both.1))
 
   pub events_fit : (h : History) → Fits limits h → full_of limits (events_of limits h) ≡ None
-  events_fit h fits = full_none limits.entities limits.flows (length (objects_in (events_of limits h))) (length (flows_in (events_of limits h))) fits.entities fits.flows
+  events_fit h fits = full_none limits.entities limits.flows (length (objects_in limits (events_of limits h))) (length (flows_in limits (events_of limits h))) fits.entities fits.flows
 
   pub fit_so : (h : History) → bytes_in h ≤ limits.input → full_of limits (events_of limits h) ≡ None → Fits limits h
   fit_so h few none =
-      let both = full_parts limits.entities limits.flows (length (objects_in (events_of limits h))) (length (flows_in (events_of limits h))) none in
+      let both = full_parts limits.entities limits.flows (length (objects_in limits (events_of limits h))) (length (flows_in limits (events_of limits h))) none in
       record { input = few; entities = both.0; flows = both.1 }
 
   pub front_fits : (front back : History) → Fits limits (front ++ back) → Fits limits front
@@ -89,36 +89,36 @@ module _ (limits : Limits) where
 
   -- one more event
 
-  pub next_fits : (released : List Event) (event : Event) (old new : List Taken) (most : ℕ) → old ≡ taken_in released → new ≡ taken_in (released ++ event ∷ []) → most ≡ limits.entities
+  pub next_fits : (released : List Event) (event : Event) (old new : List Taken) (most : ℕ) → old ≡ taken_in limits released → new ≡ taken_in limits (released ++ event ∷ []) → most ≡ limits.entities
       → (length (objects (acts_of old)) ≤ most → length (objects (acts_of new)) ≤ most) → full_of limits released ≡ None → length (flows new) ≤ limits.flows
       → full_of limits (released ++ event ∷ []) ≡ None
   next_fits released event old new most old_is new_is most_is fits none short =
       let all = released ++ event ∷ [] in
-      let before = full_parts limits.entities limits.flows (length (objects_in released)) (length (flows_in released)) none in
-      let was : length (objects (acts_of old)) ≡ length (objects_in released) = ap (λ l. length (objects (acts_of l))) old_is in
-      let now : length (objects (acts_of new)) ≡ length (objects_in all) = ap (λ l. length (objects (acts_of l))) new_is in
-      let long : length (flows new) ≡ length (flows_in all) = ap (λ l. length (flows l)) new_is in
+      let before = full_parts limits.entities limits.flows (length (objects_in limits released)) (length (flows_in limits released)) none in
+      let was : length (objects (acts_of old)) ≡ length (objects_in limits released) = ap (λ l. length (objects (acts_of l))) old_is in
+      let now : length (objects (acts_of new)) ≡ length (objects_in limits all) = ap (λ l. length (objects (acts_of l))) new_is in
+      let long : length (flows new) ≡ length (flows_in limits all) = ap (λ l. length (flows l)) new_is in
       let few : length (objects (acts_of new)) ≤ most = fits (omega (arith, was, before.0, most_is)) in
-      full_none limits.entities limits.flows (length (objects_in all)) (length (flows_in all)) (omega (arith, now, few, most_is)) (omega (arith, long, short))
+      full_none limits.entities limits.flows (length (objects_in limits all)) (length (flows_in limits all)) (omega (arith, now, few, most_is)) (omega (arith, long, short))
 
-  pub next_long : (released : List Event) (event : Event) (old new : List Taken) (most : ℕ) → old ≡ taken_in released → new ≡ taken_in (released ++ event ∷ []) → most ≡ limits.entities
+  pub next_long : (released : List Event) (event : Event) (old new : List Taken) (most : ℕ) → old ≡ taken_in limits released → new ≡ taken_in limits (released ++ event ∷ []) → most ≡ limits.entities
       → (length (objects (acts_of old)) ≤ most → length (objects (acts_of new)) ≤ most) → full_of limits released ≡ None → limits.flows < length (flows new)
       → full_of limits (released ++ event ∷ []) ≡ Some (record { limit = limit.Flows; number = limits.flows })
   next_long released event old new most old_is new_is most_is fits none long =
       let all = released ++ event ∷ [] in
-      let before = full_parts limits.entities limits.flows (length (objects_in released)) (length (flows_in released)) none in
-      let was : length (objects (acts_of old)) ≡ length (objects_in released) = ap (λ l. length (objects (acts_of l))) old_is in
-      let now : length (objects (acts_of new)) ≡ length (objects_in all) = ap (λ l. length (objects (acts_of l))) new_is in
-      let same : length (flows new) ≡ length (flows_in all) = ap (λ l. length (flows l)) new_is in
+      let before = full_parts limits.entities limits.flows (length (objects_in limits released)) (length (flows_in limits released)) none in
+      let was : length (objects (acts_of old)) ≡ length (objects_in limits released) = ap (λ l. length (objects (acts_of l))) old_is in
+      let now : length (objects (acts_of new)) ≡ length (objects_in limits all) = ap (λ l. length (objects (acts_of l))) new_is in
+      let same : length (flows new) ≡ length (flows_in limits all) = ap (λ l. length (flows l)) new_is in
       let few : length (objects (acts_of new)) ≤ most = fits (omega (arith, was, before.0, most_is)) in
-      full_flows limits.entities limits.flows (length (objects_in all)) (length (flows_in all)) (omega (arith, now, few, most_is)) (omega (arith, same, long))
+      full_flows limits.entities limits.flows (length (objects_in limits all)) (length (flows_in limits all)) (omega (arith, now, few, most_is)) (omega (arith, same, long))
 
-  pub next_many : (released : List Event) (event : Event) (new : List Taken) (most : ℕ) → new ≡ taken_in (released ++ event ∷ []) → most ≡ limits.entities
+  pub next_many : (released : List Event) (event : Event) (new : List Taken) (most : ℕ) → new ≡ taken_in limits (released ++ event ∷ []) → most ≡ limits.entities
       → most < length (objects (acts_of new)) → full_of limits (released ++ event ∷ []) ≡ Some (record { limit = limit.Entities; number = most })
   next_many released event new most new_is most_is many =
       let all = released ++ event ∷ [] in
-      let now : length (objects (acts_of new)) ≡ length (objects_in all) = ap (λ l. length (objects (acts_of l))) new_is in
-      full_objects limits.entities limits.flows (length (objects_in all)) (length (flows_in all)) (omega (arith, now, many, most_is))
+      let now : length (objects (acts_of new)) ≡ length (objects_in limits all) = ap (λ l. length (objects (acts_of l))) new_is in
+      full_objects limits.entities limits.flows (length (objects_in limits all)) (length (flows_in limits all)) (omega (arith, now, many, most_is))
       ∙ ap (λ n. Some (record { limit = limit.Entities; number = n })) (sym most_is)
 
 -- the refusal of an object past the limit

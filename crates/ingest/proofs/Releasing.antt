@@ -111,7 +111,7 @@ module _ (limits : Limits) where
 -- the joined after an event: its fields by those before, which the event changed
 pub stands_next : (limits : Limits) (joined after : Joined) (s t : Joining) (released : List Event) (event : Event) → JoinedStandsFor limits joined s released
     → after.limits ≡ joined.limits → JoinStandsFor limits after.join t → after.excess ≡ joined.excess → t.excess ≡ s.excess
-    → after.counts ≡ counts_in (released ++ event ∷ []) → after.course.taken ≡ taken_in (released ++ event ∷ [])
+    → after.counts ≡ counts_in (released ++ event ∷ []) → after.course.taken ≡ taken_in limits (released ++ event ∷ [])
     → after.course.most_objects ≡ joined.course.most_objects → full_of limits (released ++ event ∷ []) ≡ None
     → JoinedStandsFor limits after t (released ++ event ∷ [])
 stands_next limits joined after s t released event stands own join excess same counts acts most fits = record {

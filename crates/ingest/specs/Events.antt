@@ -68,25 +68,25 @@ abbrev pub taken_at : (ms serial : ℕ) → Act → Taken
 taken_at ms serial act = record { act = act; ms = ms; serial = serial }
 
 -- the acts of an event, the oldest first, each at the event's effective time
-abbrev pub taken_by : Event → List Taken
-taken_by event = map (taken_at event.ms event.key.serial) (acts_of_event event)
+abbrev pub taken_by : Limits → Event → List Taken
+taken_by limits event = map (taken_at event.ms event.key.serial) (acts_of_event limits event)
 
 -- the acts of events, the newest first
-abbrev pub taken_in : List Event → List Taken
-taken_in events = reverse (flat_map taken_by events)
+abbrev pub taken_in : Limits → List Event → List Taken
+taken_in limits events = reverse (flat_map (taken_by limits) events)
 
 -- the flows of events
-abbrev pub flows_in : List Event → List Flow
-flows_in events = flows (taken_in events)
+abbrev pub flows_in : Limits → List Event → List Flow
+flows_in limits events = flows (taken_in limits events)
 
 -- the objects that these flows know, by number
-abbrev pub objects_in : List Event → List Key
-objects_in events = objects (acts_of (taken_in events))
+abbrev pub objects_in : Limits → List Event → List Key
+objects_in limits events = objects (acts_of (taken_in limits events))
 
 -- the flows of a history
 abbrev pub flows_of : Limits → History → List Flow
-flows_of limits h = flows_in (events_of limits h)
+flows_of limits h = flows_in limits (events_of limits h)
 
 -- the objects that are known after a history, by number
 abbrev pub objects_of : Limits → History → List Key
-objects_of limits h = objects_in (events_of limits h)
+objects_of limits h = objects_in limits (events_of limits h)

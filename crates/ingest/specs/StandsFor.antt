@@ -50,7 +50,7 @@ pub record JoinedStandsFor (limits : Limits) (joined : Joined) (s : Joining) (re
   pub join : JoinStandsFor limits joined.join s
   pub excess : joined.excess ≡ s.excess
   pub counts : joined.counts ≡ counts_in released
-  pub acts : joined.course.taken ≡ taken_in released
+  pub acts : joined.course.taken ≡ taken_in limits released
   pub most_objects : joined.course.most_objects ≡ limits.entities
   pub fits : full_of limits released ≡ None
 

@@ -24,7 +24,7 @@ input_full limits = record { limit = limit.Input; number = limits.input }
 
 -- the limit that these events pass, that of objects before that of flows
 abbrev pub full_of : Limits → List Event → Option Full
-full_of limits events = full_at limits.entities limits.flows (taken_in events)
+full_of limits events = full_at limits.entities limits.flows (taken_in limits events)
 
 -- after some events, this is the limit that the first of further events passes which passes one
 pub record StopsAmong (limits : Limits) (done more : List Event) (full : Full) : Type 0 where

@@ -184,12 +184,12 @@ fn take_event(
     ensures rise { TimesNeverFall course.new.taken }
     ensures later { latest course.new.taken ≤ event.now.ms }
     ensures counts { (released : List TheEvent) → counts.old ≡ counts_in released → length released < 2 ^ 62 → counts.new ≡ counts_in (released ++ event_seen event.now ∷ []) }
-    ensures acts { OnOk result ((released : List TheEvent) → course.old.taken ≡ taken_in released → course.new.taken ≡ taken_in (released ++ event_seen event.now ∷ [])) }
-    ensures fits { OnOk result ((released : List TheEvent) → course.old.taken ≡ taken_in released → course.old.most_objects ≡ limits.now.entities → full_of limits.now released ≡ None → full_of limits.now (released ++ event_seen event.now ∷ []) ≡ None) }
-    ensures full { (full : Full) → result ≡ Err (why.Full full) → (released : List TheEvent) → course.old.taken ≡ taken_in released → course.old.most_objects ≡ limits.now.entities → full_of limits.now released ≡ None → full_of limits.now (released ++ event_seen event.now ∷ []) ≡ Some full }
+    ensures acts { OnOk result ((released : List TheEvent) → course.old.taken ≡ taken_in limits.now released → course.new.taken ≡ taken_in limits.now (released ++ event_seen event.now ∷ [])) }
+    ensures fits { OnOk result ((released : List TheEvent) → course.old.taken ≡ taken_in limits.now released → course.old.most_objects ≡ limits.now.entities → full_of limits.now released ≡ None → full_of limits.now (released ++ event_seen event.now ∷ []) ≡ None) }
+    ensures full { (full : Full) → result ≡ Err (why.Full full) → (released : List TheEvent) → course.old.taken ≡ taken_in limits.now released → course.old.most_objects ≡ limits.now.entities → full_of limits.now released ≡ None → full_of limits.now (released ++ event_seen event.now ∷ []) ≡ Some full }
 {
     counts.count(event);
-    let acts = acts_of(alloc, event)?;
+    let acts = acts_of(alloc, event, limits)?;
     let turned = turn(alloc, acts)?;
     match take_acts(course, turned, event.ms, event.key.serial) {
         Ok(()) => look_at_flows(limits, course),

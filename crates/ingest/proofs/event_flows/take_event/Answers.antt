@@ -16,25 +16,25 @@ pub returns-in-Err-clause-full : goal.returns-in-Err-clause-full
 returns-in-Err-clause-full c = λ full is released acts most none.
     let event = event_seen c.args.event.now in
     let passes = c.in-Err.ensures.full full is in
-    let all = next_taken event released _ _ _ _ c.in_ok-acts.ensures.acts c.in_ok-turned.ensures acts refl in
+    let all = next_taken c.args.limits.now event released _ _ _ _ c.in_ok-acts.ensures.acts c.in_ok-turned.ensures acts refl in
     next_many c.args.limits.now released event _ c.args.course.now.most_objects all most passes.0 ∙ ap Some (sym passes.1)
 
 pub returns-in-Ok-clause-acts : goal.returns-in-Ok-clause-acts
 returns-in-Ok-clause-acts c =
     let event = event_seen c.args.event.now in
-    let all : (released : List Event) → c.args.course.now.taken ≡ taken_in released → c.take_acts.new.course.taken ≡ taken_in (released ++ event ∷ []) =
-        λ released acts. next_taken event released _ _ _ _ c.in_ok-acts.ensures.acts c.in_ok-turned.ensures acts c.in-Ok.ensures.acts in
+    let all : (released : List Event) → c.args.course.now.taken ≡ taken_in c.args.limits.now released → c.take_acts.new.course.taken ≡ taken_in c.args.limits.now (released ++ event ∷ []) =
+        λ released acts. next_taken c.args.limits.now event released _ _ _ _ c.in_ok-acts.ensures.acts c.in_ok-turned.ensures acts c.in-Ok.ensures.acts in
     on_ok _ _ all
 
 pub returns-in-Ok-clause-fits : goal.returns-in-Ok-clause-fits
 returns-in-Ok-clause-fits c =
     let event = event_seen c.args.event.now in
     let limits = c.args.limits.now in
-    let so : length (flows c.take_acts.new.course.taken) ≤ limits.flows → (released : List Event) → c.args.course.now.taken ≡ taken_in released
+    let so : length (flows c.take_acts.new.course.taken) ≤ limits.flows → (released : List Event) → c.args.course.now.taken ≡ taken_in c.args.limits.now released
         → c.args.course.now.most_objects ≡ limits.entities → full_of limits released ≡ None → full_of limits (released ++ event ∷ []) ≡ None =
         λ short released acts most none.
             next_fits limits released event _ _ c.args.course.now.most_objects acts
-            (next_taken event released _ _ _ _ c.in_ok-acts.ensures.acts c.in_ok-turned.ensures acts c.in-Ok.ensures.acts)
+            (next_taken c.args.limits.now event released _ _ _ _ c.in_ok-acts.ensures.acts c.in_ok-turned.ensures acts c.in-Ok.ensures.acts)
             most c.in-Ok.ensures.fits none short in
     on_ok_so _ _ _ so c.look_at_flows.ensures.fits
 
@@ -42,6 +42,6 @@ pub returns-in-Ok-clause-full : goal.returns-in-Ok-clause-full
 returns-in-Ok-clause-full c = λ full is released acts most none.
     let long = if_err _ _ _ is c.look_at_flows.ensures.full in
     next_long c.args.limits.now released (event_seen c.args.event.now) _ _ c.args.course.now.most_objects acts
-    (next_taken (event_seen c.args.event.now) released _ _ _ _ c.in_ok-acts.ensures.acts c.in_ok-turned.ensures acts c.in-Ok.ensures.acts)
+    (next_taken c.args.limits.now (event_seen c.args.event.now) released _ _ _ _ c.in_ok-acts.ensures.acts c.in_ok-turned.ensures acts c.in-Ok.ensures.acts)
     most c.in-Ok.ensures.fits none long.0
     ∙ ap Some (sym (one_full _ _ long.1))
