@@ -14,6 +14,8 @@ mod laws;
 mod line_reader;
 mod replies;
 mod stop;
+#[cfg(test)]
+mod tests;
 
 pub use engine::Ingest;
 pub use laws::{fronts_fit, lines_spell_records, stops_stay, what_fits_never_stops};
