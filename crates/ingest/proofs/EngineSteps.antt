@@ -136,14 +136,14 @@ module _ (limits : Limits) where
       let events_are = same_events limits h (map Byte part) quiet in
       let state_is = same_state limits h (map Byte part) quiet in
       let own : tells_at limits front (Byte b) ≡ Came item ∷ [] =
-          sym (append-nil (tells_at limits front (Byte b)))
-          ∙ ap (λ (l : List Told). l ++ tells_after limits front (Byte b ∷ [])) (sym quiet)
-          ∙ sym (tells_append limits h (map Byte part) (Byte b ∷ []))
-          ∙ tells in
+      sym (append-nil (tells_at limits front (Byte b)))
+      ∙ ap (λ (l : List Told). l ++ tells_after limits front (Byte b ∷ [])) (sym quiet)
+      ∙ sym (tells_append limits h (map Byte part) (Byte b ∷ []))
+      ∙ tells in
       let released : released_at limits front (Byte b) ≡ released_after limits (enter limits (state_of limits h) item) =
-          ap (events limits (state_of limits front)) own
-          ∙ append-nil (released_after limits (enter limits (state_of limits front) item))
-          ∙ ap (λ (s : Joining). released_after limits (enter limits s item)) state_is in
+      ap (events limits (state_of limits front)) own
+      ∙ append-nil (released_after limits (enter limits (state_of limits front) item))
+      ∙ ap (λ (s : Joining). released_after limits (enter limits s item)) state_is in
       record {
         front = front;
         step = Byte b;
@@ -153,7 +153,7 @@ module _ (limits : Limits) where
         passes = inr (
           omega (arith, bytes_append front (Byte b ∷ []), bytes_more h part, room),
           subst (λ (l : List Event). StopsAmong limits l (released_at limits front (Byte b)) full) (sym events_are)
-          (subst (λ (l : List Event). StopsAmong limits (events_of limits h) l full) (sym released) among),
+              (subst (λ (l : List Event). StopsAmong limits (events_of limits h) l full) (sym released) among),
         );
       }
 

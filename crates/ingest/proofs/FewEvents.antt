@@ -80,11 +80,18 @@ module _ (limits : Limits) where
       let here : History = before ++ step ∷ [] in
       let whole : here ++ more ≡ before ++ step ∷ more = append_assoc before (step ∷ []) more in
       let lines : length (lines_since before (before ++ step ∷ more)) ≡ length (lines_since before here) + length (lines_since here (here ++ more)) =
-          ap (λ (g : History). length (lines_since before g)) (sym whole)
-          ∙ ap length (since_parts before (step ∷ []) more)
-          ∙ length-append (lines_since before here) (lines_since here (here ++ more)) in
-      omega (arith, cames_append (tells_at limits before step) (tells_after limits here more), cames_append (lines_tell limits (lines_since before here)) (settle_tells step),
-          lines_came (lines_since before here), settle_cames step, tells_cames here more, lines)
+      ap (λ (g : History). length (lines_since before g)) (sym whole)
+      ∙ ap length (since_parts before (step ∷ []) more)
+      ∙ length-append (lines_since before here) (lines_since here (here ++ more)) in
+      omega (
+        arith,
+        cames_append (tells_at limits before step) (tells_after limits here more),
+        cames_append (lines_tell limits (lines_since before here)) (settle_tells step),
+        lines_came (lines_since before here),
+        settle_cames step,
+        tells_cames here more,
+        lines,
+      )
 
   pub few_events : (h : History) → length (events_of limits h) + size (state_of limits h) ≤ bytes_in h
   few_events h = omega (arith, events_size start (told_of limits h), tells_cames [] h, few_lines h)

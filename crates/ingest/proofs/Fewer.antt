@@ -103,6 +103,7 @@ enter_time limits s r = ap (λ (c : JoinClock). c.effective) (if_clock (ends_eve
   where
     now : Joining
     now = record s { clock = saw s.clock r.key.ms }
+
     if_clock : (b : Bool) → (if b then close now r.key else put limits now r).clock ≡ now.clock
     if_clock true = close_clock now r.key
     if_clock false = put_clock limits now r
@@ -130,6 +131,7 @@ enter_size limits s r = if_size (ends_event r)
   where
     now : Joining
     now = record s { clock = saw s.clock r.key.ms }
+
     if_size : (b : Bool) → size (if b then close now r.key else put limits now r) ≤ size now + 1
     if_size true = close_size now r.key
     if_size false = put_size limits now r

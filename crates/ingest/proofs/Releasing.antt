@@ -13,6 +13,7 @@ use Rattle.record_join.specs.Events.{Joining, enter, settled, group_of, least_ke
 use Rattle.record_join.specs.History.{released, left, released_after, left_after}
 use Rattle.record_join.specs.StandsFor.{Joiner, StandsFor as JoinStandsFor}
 use Rattle.record_join.specs.declared.event.Event.{Event}
+use Rattle.acts.specs.declared.act.Taken.{Taken}
 use Rattle.ingest.specs.Counting.{counts_in}
 use Rattle.ingest.specs.Events.{taken_in}
 use Rattle.ingest.specs.declared.event_counts.EventCounts.{EventCounts}
@@ -123,6 +124,10 @@ stands_next limits joined after s t released event stands own join excess same c
   most_objects = most ∙ stands.most_objects;
   fits = fits;
 }
+
+-- acts by limits that are the same
+pub acts_by : (own limits : Limits) (taken : List Taken) (events : List Event) → own ≡ limits → taken ≡ taken_in own events → taken ≡ taken_in limits events
+acts_by own limits taken events is acts = subst (λ (l : Limits). taken ≡ taken_in l events) is acts
 
 pub joined_at : (limits : Limits) (joined seen : Joined) (s : Joining) (released : List Event) → seen ≡ joined → JoinedStandsFor limits joined s released → JoinedStandsFor limits seen s released
 joined_at limits joined seen s released is stands = subst (λ (j : Joined). JoinedStandsFor limits j s released) (sym is) stands

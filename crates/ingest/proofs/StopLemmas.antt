@@ -148,22 +148,30 @@ module _ (limits : Limits) where
           no_step : {step : Told} → [] ≡ step ∷ [] → ⊥
           no_step e = cc e
       nonzero (suc k) e = omega arith
+
       part : List ℕ
       part = take (count - 1) piece
+
       b : ℕ
       b = get_or piece (count - 1) 0
+
       below : count - 1 < length piece
       below = let some = nonzero count tells in omega (arith, some, within)
+
       again : count - 1 + 1 ≡ count
       again = let some = nonzero count tells in omega (arith, some)
+
       short : length part ≡ count - 1
       short = length-take-le (count - 1) piece (omega (arith, below))
+
       split : map Byte (take count piece) ≡ map Byte part ++ Byte b ∷ []
       split = ap (λ (k : ℕ). map Byte (take k piece)) (sym again) ∙ ap (map Byte) (take_more piece (count - 1) 0 below) ∙ map-append Byte part (b ∷ [])
+
       stops_at : (rest : List ℕ) (full : Full) → reason ≡ why.Full full → Stops limits (with_bytes h part ++ Byte b ∷ map Byte rest) full
       stops_at rest full is =
           stops_line limits h part rest b item full fits (let some = nonzero count tells in omega (arith, short, some, within, room)) quiet
           (ap (tells_after limits h) (sym split) ∙ tells) (stops full is)
+
       by : (r : StopWhy) → reason ≡ r → StopsBy limits h piece count r
       by why.NoMemory is = tt
       by (why.Full full) is = (

@@ -12,17 +12,15 @@ ghost use Rattle.ingest.specs.EventActs.{acts_of_event, shows};
 
 use acts::Act;
 use audit_record::{Body, Record, Syscall};
-use call_acts::{acts, event_call, is_unmapped as has_no_row, opens_descriptors, other_calls_open_nothing};
+use call_acts::{
+    acts, event_call, is_unmapped as has_no_row, opens_descriptors, other_calls_open_nothing,
+};
 use flow_base::{Bytes, Limits, List, NoMemory};
 use record_join::EventView;
 use std::alloc::Global;
 
 /// The acts of an event, the oldest first.
-pub fn acts_of(
-    alloc: Global,
-    event: &EventView<'_>,
-    limits: &Limits,
-) -> Result<List<Act>, NoMemory>
+pub fn acts_of(alloc: Global, event: &EventView<'_>, limits: &Limits) -> Result<List<Act>, NoMemory>
     ensures acts { IfOk result (λ made. made ≡ acts_of_event limits.now (event_seen event.now)) }
     ensures none_opens { IfOk result (λ made. any_opens made ≡ false) }
 {
@@ -51,11 +49,7 @@ fn is_left_out(event: &EventView<'_>) -> bool
 }
 
 // The acts of a call that isn't left out.
-fn followed(
-    alloc: Global,
-    event: &EventView<'_>,
-    limits: &Limits,
-) -> Result<List<Act>, NoMemory>
+fn followed(alloc: Global, event: &EventView<'_>, limits: &Limits) -> Result<List<Act>, NoMemory>
     requires { defined.is_left_out event.now.records.now ≡ false }
     ensures acts { IfOk result (λ made. made ≡ event_acts limits.now.path event.now.records.now) }
     ensures none_opens { IfOk result (λ made. any_opens made ≡ false) }

@@ -8,15 +8,11 @@ use std::alloc::Global;
 use std::test::Fail;
 
 /// 100 forks 101, and 101 writes to a descriptor that nobody opened.
-const TWO_FLOWS: &[u8] = b"type=SYSCALL msg=audit(1.000:1): arch=c000003e syscall=57 success=yes exit=101 a0=0 a1=0 a2=0 a3=0 items=0 ppid=1 pid=100 comm=\"p\" exe=\"/p\"\ntype=SYSCALL msg=audit(1.001:2): arch=c000003e syscall=1 success=yes exit=5 a0=1 a1=0 a2=5 a3=0 items=0 ppid=100 pid=101 comm=\"p\" exe=\"/p\"\n";
+const TWO_FLOWS: &[u8] =
+    b"type=SYSCALL msg=audit(1.000:1): arch=c000003e syscall=57 success=yes exit=101 a0=0 a1=0 a2=0 a3=0 items=0 ppid=1 pid=100 comm=\"p\" exe=\"/p\"\ntype=SYSCALL msg=audit(1.001:2): arch=c000003e syscall=1 success=yes exit=5 a0=1 a1=0 a2=5 a3=0 items=0 ppid=100 pid=101 comm=\"p\" exe=\"/p\"\n";
 
 /// Whether an answer has this text.
-fn answers(
-    alloc: Global,
-    engine: &mut Ingest,
-    ask: Ask,
-    wanted: &[u8],
-) -> Result<bool, NoMemory>
+fn answers(alloc: Global, engine: &mut Ingest, ask: Ask, wanted: &[u8]) -> Result<bool, NoMemory>
     requires { IsQuestion ask }
 {
     let reply = engine.ask(&ask)?;
@@ -50,8 +46,22 @@ fn take_in_pieces(engine: &mut Ingest, log: &[u8], size: usize) -> Result<bool, 
 fn nothing_has_no_counts(rt: HostRuntime) -> Result<(), Fail> {
     let alloc = rt.alloc();
     let mut engine = Ingest::new(alloc, &Limits::standard());
-    assert!(rt; answers(alloc, &mut engine, Ask::Stat, b"{\"blank\":0,\"bytes\":0,\"events\":0,\"excess\":0,\"flows\":0,\"kept\":0,\"known\":0,\"late\":0,\"lines\":0,\"malformed\":0,\"malformed_lines\":[],\"other\":0,\"unmapped\":0,\"used\":0,\"waiting\":0}\n".as_slice())?);
-    assert!(rt; answers(alloc, &mut engine, back(0), b"{\"error\":\"Unknown\"}\n".as_slice())?);
+    assert!(rt;
+        answers(
+            alloc,
+            &mut engine,
+            Ask::Stat,
+            b"{\"blank\":0,\"bytes\":0,\"events\":0,\"excess\":0,\"flows\":0,\"kept\":0,\"known\":0,\"late\":0,\"lines\":0,\"malformed\":0,\"malformed_lines\":[],\"other\":0,\"unmapped\":0,\"used\":0,\"waiting\":0}\n".as_slice()
+        )?
+    );
+    assert!(rt;
+        answers(
+            alloc,
+            &mut engine,
+            back(0),
+            b"{\"error\":\"Unknown\"}\n".as_slice()
+        )?
+    );
     assert!(rt; !engine.owed());
     Ok(())
 }
@@ -63,7 +73,15 @@ fn the_pieces_of_a_log_make_no_difference(rt: HostRuntime) -> Result<(), Fail> {
         let mut engine = Ingest::new(alloc, &Limits::standard());
         assert!(rt; take_in_pieces(&mut engine, TWO_FLOWS, size)?, "{size}");
         assert_eq!(rt; engine.events(), 2);
-        assert!(rt; answers(alloc, &mut engine, back(2), b"{\"back\":2,\"ids\":[0,1,2]}\n".as_slice())?, "{size}");
+        assert!(rt;
+            answers(
+                alloc,
+                &mut engine,
+                back(2),
+                b"{\"back\":2,\"ids\":[0,1,2]}\n".as_slice()
+            )?,
+            "{size}"
+        );
     }
     Ok(())
 }
@@ -72,9 +90,17 @@ fn the_pieces_of_a_log_make_no_difference(rt: HostRuntime) -> Result<(), Fail> {
 fn enriched_and_malformed_lines_are_counted(rt: HostRuntime) -> Result<(), Fail> {
     let alloc = rt.alloc();
     let mut engine = Ingest::new(alloc, &Limits::standard());
-    let log = b"type=SYSCALL msg=audit(1.000:1): arch=c000003e syscall=57 success=yes exit=101 a0=0 a1=0 a2=0 a3=0 items=0 ppid=1 pid=100 comm=\"p\" exe=\"/p\"\x1dARCH=x86_64 SYSCALL=fork\nnode=web1 type=SYSCALL msg=audit(1.001:2): arch=c000003e syscall=57 success=yes exit=102 a0=0 a1=0 a2=0 a3=0 items=0 ppid=1 pid=100 comm=\"p\" exe=\"/p\"\ntype=PATH msg=audit(1.001:2): item=0 name=\"/f7 inode=7 dev=08:01 nametype=NORMAL\n".as_slice();
+    let log =
+        b"type=SYSCALL msg=audit(1.000:1): arch=c000003e syscall=57 success=yes exit=101 a0=0 a1=0 a2=0 a3=0 items=0 ppid=1 pid=100 comm=\"p\" exe=\"/p\"\x1dARCH=x86_64 SYSCALL=fork\nnode=web1 type=SYSCALL msg=audit(1.001:2): arch=c000003e syscall=57 success=yes exit=102 a0=0 a1=0 a2=0 a3=0 items=0 ppid=1 pid=100 comm=\"p\" exe=\"/p\"\ntype=PATH msg=audit(1.001:2): item=0 name=\"/f7 inode=7 dev=08:01 nametype=NORMAL\n".as_slice();
     assert!(rt; take_in_pieces(&mut engine, log, 100)?);
-    assert!(rt; answers(alloc, &mut engine, Ask::Stat, b"{\"blank\":0,\"bytes\":396,\"events\":2,\"excess\":0,\"flows\":2,\"kept\":2,\"known\":3,\"late\":0,\"lines\":3,\"malformed\":1,\"malformed_lines\":[[3,5]],\"other\":0,\"unmapped\":0,\"used\":2,\"waiting\":0}\n".as_slice())?);
+    assert!(rt;
+        answers(
+            alloc,
+            &mut engine,
+            Ask::Stat,
+            b"{\"blank\":0,\"bytes\":396,\"events\":2,\"excess\":0,\"flows\":2,\"kept\":2,\"known\":3,\"late\":0,\"lines\":3,\"malformed\":1,\"malformed_lines\":[[3,5]],\"other\":0,\"unmapped\":0,\"used\":2,\"waiting\":0}\n".as_slice()
+        )?
+    );
     Ok(())
 }
 
@@ -82,15 +108,44 @@ fn enriched_and_malformed_lines_are_counted(rt: HostRuntime) -> Result<(), Fail>
 fn a_group_that_waited_too_long_is_released(rt: HostRuntime) -> Result<(), Fail> {
     let alloc = rt.alloc();
     let mut engine = Ingest::new(alloc, &Limits::standard());
-    let log = b"type=SYSCALL msg=audit(1.000:1): arch=c000003e syscall=57 success=yes exit=101 a0=0 a1=0 a2=0 a3=0 items=0 ppid=1 pid=100 comm=\"p\" exe=\"/p\"\ntype=SYSCALL msg=audit(3.000:2): arch=c000003e syscall=57 success=yes exit=102 a0=0 a1=0 a2=0 a3=0 items=0 ppid=1 pid=100 comm=\"p\" exe=\"/p\"\ntype=SYSCALL msg=audit(3.001:3): arch=c000003e syscall=57 success=yes exit=103 a0=0 a1=0 a2=0 a3=0 items=0 ppid=1 pid=100 comm=\"p\" exe=\"/p\"\n".as_slice();
+    let log =
+        b"type=SYSCALL msg=audit(1.000:1): arch=c000003e syscall=57 success=yes exit=101 a0=0 a1=0 a2=0 a3=0 items=0 ppid=1 pid=100 comm=\"p\" exe=\"/p\"\ntype=SYSCALL msg=audit(3.000:2): arch=c000003e syscall=57 success=yes exit=102 a0=0 a1=0 a2=0 a3=0 items=0 ppid=1 pid=100 comm=\"p\" exe=\"/p\"\ntype=SYSCALL msg=audit(3.001:3): arch=c000003e syscall=57 success=yes exit=103 a0=0 a1=0 a2=0 a3=0 items=0 ppid=1 pid=100 comm=\"p\" exe=\"/p\"\n".as_slice();
     assert!(rt; engine.feed(&log[..280]).is_ok());
-    assert!(rt; answers(alloc, &mut engine, back(0), b"{\"error\":\"Unknown\"}\n".as_slice())?);
+    assert!(rt;
+        answers(
+            alloc,
+            &mut engine,
+            back(0),
+            b"{\"error\":\"Unknown\"}\n".as_slice()
+        )?
+    );
     assert!(rt; engine.feed(&log[280..420]).is_ok());
-    assert!(rt; answers(alloc, &mut engine, back(1), b"{\"back\":1,\"ids\":[0,1]}\n".as_slice())?);
-    assert!(rt; answers(alloc, &mut engine, back(2), b"{\"error\":\"Unknown\"}\n".as_slice())?);
+    assert!(rt;
+        answers(
+            alloc,
+            &mut engine,
+            back(1),
+            b"{\"back\":1,\"ids\":[0,1]}\n".as_slice()
+        )?
+    );
+    assert!(rt;
+        answers(
+            alloc,
+            &mut engine,
+            back(2),
+            b"{\"error\":\"Unknown\"}\n".as_slice()
+        )?
+    );
     assert!(rt; engine.settle().is_ok());
     assert_eq!(rt; engine.events(), 3);
-    assert!(rt; answers(alloc, &mut engine, back(2), b"{\"back\":2,\"ids\":[0,2]}\n".as_slice())?);
+    assert!(rt;
+        answers(
+            alloc,
+            &mut engine,
+            back(2),
+            b"{\"back\":2,\"ids\":[0,2]}\n".as_slice()
+        )?
+    );
     Ok(())
 }
 
@@ -107,7 +162,8 @@ fn stop_of(alloc: Global, limits: &Limits, log: &[u8]) -> Result<(), StopWhy> {
 fn a_limit_stops_the_event_that_would_pass_it(rt: HostRuntime) -> Result<(), Fail> {
     let alloc = rt.alloc();
     // The second event makes two flows and two objects more: 102 is seen as a child of 100, and writes.
-    let log = b"type=SYSCALL msg=audit(1.000:1): arch=c000003e syscall=57 success=yes exit=101 a0=0 a1=0 a2=0 a3=0 items=0 ppid=1 pid=100 comm=\"p\" exe=\"/p\"\ntype=SYSCALL msg=audit(1.001:2): arch=c000003e syscall=1 success=yes exit=5 a0=1 a1=0 a2=5 a3=0 items=0 ppid=100 pid=102 comm=\"p\" exe=\"/p\"\n".as_slice();
+    let log =
+        b"type=SYSCALL msg=audit(1.000:1): arch=c000003e syscall=57 success=yes exit=101 a0=0 a1=0 a2=0 a3=0 items=0 ppid=1 pid=100 comm=\"p\" exe=\"/p\"\ntype=SYSCALL msg=audit(1.001:2): arch=c000003e syscall=1 success=yes exit=5 a0=1 a1=0 a2=5 a3=0 items=0 ppid=100 pid=102 comm=\"p\" exe=\"/p\"\n".as_slice();
     let mut limits = Limits::standard();
     limits.entities = 4;
     limits.flows = 3;

@@ -13,6 +13,6 @@ pub returns-clause-none_opens : goal.returns-clause-none_opens
 returns-clause-none_opens c =
     let records = c.args.event.now.records.now in
     let open_nothing = c.other_calls_open_nothing.ensures c.args.limits.now.path records
-        (λ row is. sym (ap is_left_out_row is) ∙ c.requires) in
+    (λ row is. sym (ap is_left_out_row is) ∙ c.requires) in
     if_ok_so c.acts.result (λ made. made ≡ event_acts c.args.limits.now.path records) (λ made. any_opens made ≡ false)
     (λ made is. ap any_opens is ∙ none_open (event_acts c.args.limits.now.path records) open_nothing) c.acts.ensures

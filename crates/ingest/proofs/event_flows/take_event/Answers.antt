@@ -23,7 +23,7 @@ pub returns-in-Ok-clause-acts : goal.returns-in-Ok-clause-acts
 returns-in-Ok-clause-acts c =
     let event = event_seen c.args.event.now in
     let all : (released : List Event) → c.args.course.now.taken ≡ taken_in c.args.limits.now released → c.take_acts.new.course.taken ≡ taken_in c.args.limits.now (released ++ event ∷ []) =
-        λ released acts. next_taken c.args.limits.now event released _ _ _ _ c.in_ok-acts.ensures.acts c.in_ok-turned.ensures acts c.in-Ok.ensures.acts in
+    λ released acts. next_taken c.args.limits.now event released _ _ _ _ c.in_ok-acts.ensures.acts c.in_ok-turned.ensures acts c.in-Ok.ensures.acts in
     on_ok _ _ all
 
 pub returns-in-Ok-clause-fits : goal.returns-in-Ok-clause-fits
@@ -31,11 +31,11 @@ returns-in-Ok-clause-fits c =
     let event = event_seen c.args.event.now in
     let limits = c.args.limits.now in
     let so : length (flows c.take_acts.new.course.taken) ≤ limits.flows → (released : List Event) → c.args.course.now.taken ≡ taken_in c.args.limits.now released
-        → c.args.course.now.most_objects ≡ limits.entities → full_of limits released ≡ None → full_of limits (released ++ event ∷ []) ≡ None =
-        λ short released acts most none.
-            next_fits limits released event _ _ c.args.course.now.most_objects acts
-            (next_taken c.args.limits.now event released _ _ _ _ c.in_ok-acts.ensures.acts c.in_ok-turned.ensures acts c.in-Ok.ensures.acts)
-            most c.in-Ok.ensures.fits none short in
+    → c.args.course.now.most_objects ≡ limits.entities → full_of limits released ≡ None → full_of limits (released ++ event ∷ []) ≡ None =
+    λ short released acts most none.
+    next_fits limits released event _ _ c.args.course.now.most_objects acts
+    (next_taken c.args.limits.now event released _ _ _ _ c.in_ok-acts.ensures.acts c.in_ok-turned.ensures acts c.in-Ok.ensures.acts)
+    most c.in-Ok.ensures.fits none short in
     on_ok_so _ _ _ so c.look_at_flows.ensures.fits
 
 pub returns-in-Ok-clause-full : goal.returns-in-Ok-clause-full

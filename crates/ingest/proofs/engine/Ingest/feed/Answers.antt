@@ -9,7 +9,7 @@ use Rattle.ingest.proofs.engine.Ingest.feed.Goals.{in-Ok, in-Err}
 pub returns-clause-stop : goal.returns-clause-stop
 returns-clause-stop c =
     elim c.match-feed_within.branch [
-      in-Ok w ↦ rw w.result-is (λ limits h stands.
+      | in-Ok w ↦ rw w.result-is (λ limits h stands.
           let own = engine_own limits _ _ h c.self.view_is stands in
           let after = w.in-Ok.ensures.ok limits h stands in
           let late = engine_own limits _ _ _ c.self-2.view_is after in

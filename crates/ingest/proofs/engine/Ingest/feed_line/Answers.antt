@@ -12,7 +12,7 @@ returns-in-Ok-default-None-clause-ok c = λ limits h stands.
 pub returns-after-came-clause-ok : goal.returns-after-came-clause-ok
 returns-after-came-clause-ok c =
     elim c.match-came.branch [
-      in-Ok w ↦ rw w.result-is (λ limits h stands.
+      | in-Ok w ↦ rw w.result-is (λ limits h stands.
           let r = c.in-Ok-default-Some.ensures in
           line_some limits _ _ _ h c.args.piece.now c.in-Ok-default-Some.count c.in-Ok-default-Some.field-0-1 c.in-Ok-default-Some.item c.self.view_is c.in-Ok-default-Some.field-0-1-is r.within c.requires.room (r.stands limits h) (r.tells limits h) w.in-Ok.ensures.ok stands)
       | in-Err-came w ↦ rw w.result-is tt
@@ -21,7 +21,7 @@ returns-after-came-clause-ok c =
 pub returns-after-came-clause-stop : goal.returns-after-came-clause-stop
 returns-after-came-clause-stop c =
     elim c.match-came.branch [
-      in-Ok w ↦ rw w.result-is tt
+      | in-Ok w ↦ rw w.result-is tt
       | in-Err-came w ↦ rw w.result-is (λ limits h stands.
           let r = c.in-Ok-default-Some.ensures in
           let own = engine_own limits _ _ h c.self.view_is stands in

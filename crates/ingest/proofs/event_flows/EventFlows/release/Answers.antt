@@ -1,6 +1,6 @@
 use Rattle.std.proofs.Common.{◌≡◌, ◌∙◌, sym, refl, ap, arith, ◌++◌, ◌∷◌, [], List, length, None, Some}
 use Rattle.record_join.specs.StandsFor.{Joiner}
-use Rattle.ingest.proofs.Releasing.{Ends, begins, goes_on, stops_here, all_done, stands_next, joined_at, in_time_released, later_so, full_own, few_done, left_excess, joined_made}
+use Rattle.ingest.proofs.Releasing.{Ends, begins, goes_on, stops_here, all_done, stands_next, joined_at, in_time_released, acts_by, later_so, full_own, few_done, left_excess, joined_made}
 use Rattle.ingest.proofs.event_flows.EventFlows.release.Goals as goal
 
 pub loop-event-init : goal.loop-event-init
@@ -34,9 +34,10 @@ loop-event-preserved c =
           let own = u.stands in
           let next = c.in-Some.ensures.event limits u.rest own.join in
           let left = c.in-Some.ensures.stands limits u.rest own.join in
-          let acts = rw c.as_slice.ensures at (c.in-Ok.ensures.acts (released ++ u.done) own.acts) in
+          let mine = acts_by _ _ _ (released ++ u.done) (sym own.limits_are) own.acts in
+          let acts = acts_by _ _ _ ((released ++ u.done) ++ c.in-Some.event ∷ []) own.limits_are (rw c.as_slice.ensures at (c.in-Ok.ensures.acts (released ++ u.done) mine)) in
           let counts = rw c.as_slice.ensures at (c.in-Ok.ensures.counts (released ++ u.done) own.counts (few_done _ _ u.few)) in
-          let fits = rw c.as_slice.ensures at (c.in-Ok.ensures.fits (released ++ u.done) own.acts) in
+          let fits = rw c.as_slice.ensures at (c.in-Ok.ensures.fits (released ++ u.done) mine) in
           goes_on limits s released _ _ c.in-Some.event u ends next
           (stands_next limits _ _ u.rest _ (released ++ u.done) c.in-Some.event own refl left refl (left_excess limits u.rest c.in-Some.event next)
           counts
@@ -55,7 +56,8 @@ returns-in-Err-clause-full c = λ full is limits s released stands few.
     let u = c.loop-event.invariant.under_way limits s released stands few in
     let own = u.stands in
     let next = c.in-Some.ensures.event limits u.rest own.join in
-    let passes = rw c.as_slice.ensures at (c.in-Err.ensures.full full is (released ++ u.done) own.acts) in
+    let mine = acts_by _ _ _ (released ++ u.done) (sym own.limits_are) own.acts in
+    let passes = rw c.as_slice.ensures at (c.in-Err.ensures.full full is (released ++ u.done) mine) in
     stops_here limits s released _ c.in-Some.event full u ends next
     (full_own limits _ _ (released ++ u.done) ((released ++ u.done) ++ c.in-Some.event ∷ []) (Some full) own.limits_are own.fits own.most_objects passes)
 

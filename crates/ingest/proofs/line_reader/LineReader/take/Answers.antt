@@ -22,8 +22,8 @@ read_line-requires c =
     let short : c.in_ok-count.count ≤ length c.args.piece.now = omega (arith, c.in_ok-count.ensures.taken) in
     let lines = count_some _ _ _ _ c.in-Some.is c.in_ok-count.ensures.count in
     let w = within_more _ _ _ c.self.inside.tally c.self.inside.tally _ c.in_ok-count.count c.args.piece.now c.self.invariant c.in_ok-count.ensures.stands short
-        (fits_so _ _ _ _ c.self.view_is c.requires.room short)
-        (omega (arith, c.self.invariant.counted, lines)) in
+    (fits_so _ _ _ _ c.self.view_is c.requires.room short)
+    (omega (arith, c.self.invariant.counted, lines)) in
     omega (arith, few _ _ _ _ w, w.within, w.input, lines, c.self.invariant.counted)
 
 pub invariant_of-self-in_err-item-in-Some : goal.invariant_of-self-in_err-item-in-Some
