@@ -1,7 +1,7 @@
 -- Pieces of the questions, one after another.
 use Rattle.std.proofs.Common.{◌≡◌, ◌≤◌, ◌<◌, ◌-◌, ◌+◌, arith, length, ℕ, List, [], ◌∷◌, ◌++◌, map, take, drop, refl, ap, sym, append_assoc, ◌∙◌, Option, Some, None, subst, inl, inr}
 use Rattle.std.specs.Prelude.{◌⊎◌, Result, Ok, Err, OnOk}
-use Rattle.std.proofs.lemmas.List.{append-nil, map-append, length-drop}
+use Rattle.std.proofs.lemmas.List.{append-nil, map-append, length-drop, drop-drop}
 use Rattle.std.proofs.Math.Seq.{take-add}
 use Rattle.flow_base.specs.declared.limits.Limits.{Limits}
 use Rattle.flow_base.specs.declared.limits.Full.{Full}
@@ -13,7 +13,7 @@ use Rattle.audit_cli.specs.declared.halt.Halt.{Halt}
 use Rattle.audit_cli.specs.declared.halt.Halt.TheVariants as halt
 use Rattle.audit_cli.specs.declared.halt.Turn.{Turn}
 use Rattle.audit_cli.specs.declared.halt.Turn.TheVariants as turn
-use Rattle.audit_cli.specs.Dialogue.{Moment, Leads, asked, asks, texts, HistoryStops, QuestionsStop, input_full}
+use Rattle.audit_cli.specs.Dialogue.{Moment, Leads, asked, asks, texts, HistoryStops, QuestionsStop, ReadsNoFurther, input_full}
 use Rattle.audit_cli.specs.Course.{At, Course, Talked, IsDue, never}
 use Rattle.audit_cli.specs.Hearing.{Holds, Heard, WhenMore}
 use Rattle.audit_cli.specs.Listening.{PassesRoom, EndsWithin}
@@ -275,3 +275,16 @@ questions_closed_after limits n c e l old new from q within first x =
 pub on_ok : {T E : Type 0} → (r : Result T E) (P : Type 0) → P → OnOk r P
 on_ok (Ok t) P p = p
 on_ok (Err e) P p = tt
+
+-- one read more than what was heard whole
+pub no_further : (limits : Limits) (c : Cutter) (e : Engine) (l old new : Option (List ℕ)) (from : Moment) (q : List ℕ) (n count : ℕ) (left : Option (List ℕ))
+    → Heard limits never c e l old new (Ok turn.More) from [] (take n q) → count ≤ 65536 → left ≡ Some (drop count (drop n q)) → ReadsNoFurther limits from q left
+no_further limits c e l old new from q n count left first short told = record {
+  before = n;
+  count = count;
+  said = first.talked.course.0;
+  to = first.talked.to;
+  leads = subst (λ (ls : List (List ℕ)). Leads limits from (asks limits ls) first.talked.course.0 first.talked.to) (sym (whole_lines limits never c e l old new from [] (take n q) first)) first.talked.course.2;
+  short = short;
+  told = told ∙ ap Some (drop-drop count n q);
+}

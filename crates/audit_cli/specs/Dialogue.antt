@@ -1,5 +1,5 @@
 -- What is answered to a list of questions over a log.
-use Rattle.std.specs.Prelude.{◌≡◌, ◌<◌, ℕ, nat_lt, List, [], ◌∷◌, ◌++◌, map, take, drop, length, flat_map, Option, None, Some, if◌then◌else◌}
+use Rattle.std.specs.Prelude.{◌≡◌, ◌<◌, ◌≤◌, ◌+◌, ℕ, nat_lt, List, [], ◌∷◌, ◌++◌, map, take, drop, length, flat_map, Option, None, Some, if◌then◌else◌}
 use Rattle.flow_base.specs.declared.limits.Limits.{Limits}
 use Rattle.flow_base.specs.declared.limits.Full.{Full}
 use Rattle.flow_base.specs.declared.limits.Limit.TheVariants as limit
@@ -120,3 +120,14 @@ pub record QuestionsStop (limits : Limits) (from : Moment) (text : List ℕ) (fu
   pub leads : Leads limits from (asks limits (lines_of (with_bytes [] (take limits.input text)))) said to
   pub past : limits.input < length text
   pub is : full ≡ input_full limits
+
+-- what is left of the questions is all but one read of what follows bytes whose lines leave the dialogue going on. So
+-- no read is made after `end`
+pub record ReadsNoFurther (limits : Limits) (from : Moment) (text : List ℕ) (left : Option (List ℕ)) : Type 0 where
+  pub before : ℕ
+  pub count : ℕ
+  pub said : List Reply
+  pub to : Moment
+  pub leads : Leads limits from (asks limits (lines_of (with_bytes [] (take before text)))) said to
+  pub short : count ≤ 65536
+  pub told : left ≡ Some (drop (before + count) text)

@@ -12,7 +12,7 @@ use Rattle.ingest.specs.Stops.{Fits}
 use Rattle.audit_cli.specs.declared.words.Job.{Job}
 use Rattle.audit_cli.specs.declared.words.Job.TheVariants as job
 use Rattle.audit_cli.specs.Words.{job_of}
-use Rattle.audit_cli.specs.Dialogue.{Moment, Dialogue, IsFront, HistoryStops, QuestionsStop, begin, asks, lines_in, texts}
+use Rattle.audit_cli.specs.Dialogue.{Moment, Dialogue, IsFront, HistoryStops, QuestionsStop, ReadsNoFurther, begin, asks, lines_in, texts}
 
 -- what `back` asks: to take all of the log, to settle, and what the object can have come from
 abbrev pub back_questions : ℕ → List ℕ → List (Option Ask)
@@ -91,3 +91,8 @@ pub record Written (limits : Limits) (job : Job) (log asked : List ℕ) (old new
   pub bytes : List ℕ
   pub wrote : Appends old new bytes
   pub front : WritesFront limits job log asked bytes
+
+-- where the job has questions, they are read no further than to `end`
+abbrev pub LeavesQuestions : Limits → Job → (log asked : List ℕ) → Option (List ℕ) → Type 0
+LeavesQuestions limits (job.Back of) log asked left = ⊤
+LeavesQuestions limits (job.Watch mode name) log asked left = ReadsNoFurther limits (begin log) asked left

@@ -28,8 +28,8 @@ heeded (Err why) q = q
 -- what is left of the questions
 abbrev pub LeftAfter : List ℕ → Option (List ℕ) → Heed → Type 0
 LeftAfter q left (heed.Piece n) = (left ≡ Some (drop n q)) × (n ≤ length q)
-LeftAfter q left heed.Ended = ⊤
-LeftAfter q left heed.Silence = q ≡ []
+LeftAfter q left heed.Ended = (count : ℕ) × (count ≤ 65536) × (left ≡ Some (drop count q))
+LeftAfter q left heed.Silence = (q ≡ []) × (left ≡ Some q)
 
 -- a piece has a byte, and fits
 abbrev pub IsProgress : ℕ → Heed → Type 0

@@ -6,7 +6,7 @@ ghost use Rattle.std.specs.Prelude.{◌≡◌, ◌⊎◌, ◌≤◌, ◌<◌, �
 ghost use Rattle.flow_base.specs.declared.limits.Limits.{Limits};
 ghost use Rattle.outside.specs.Cause.{Rose};
 ghost use Rattle.audit_lex.specs.History.{History};
-ghost use Rattle.audit_cli.specs.Dialogue.{Moment, QuestionsStop, asks, lines_in};
+ghost use Rattle.audit_cli.specs.Dialogue.{Moment, QuestionsStop, ReadsNoFurther, asks, lines_in};
 ghost use Rattle.audit_cli.specs.Course.{At, GoesUp, HasCauses, EndTalked, never};
 ghost use Rattle.audit_cli.specs.Hearing.{Holds, Heard, HeardLast};
 ghost use Rattle.audit_cli.specs.Listening.{turn_heeded, heeded, LeftAfter, IsProgress, AreFew, PassesRoom, ClosesWithin, KeepsWithin};
@@ -113,6 +113,8 @@ pub fn watch<L: Source, Q: Source, O: Sink>(
         → EndTalked limits.now (QuestionsStop limits.now m q) engine.new (L.left log.new) (O.written out.old) (O.written out.new) result m (asks limits.now (lines_in q)) }
     ensures within { (m : Moment) (q : List ℕ) → At limits.now engine.old (L.left log.old) m → Q.left questions.old ≡ Some q
         → OnOk result (KeepsWithin limits.now m q) }
+    ensures left { (m : Moment) (q : List ℕ) → At limits.now engine.old (L.left log.old) m → Q.left questions.old ≡ Some q
+        → OnOk result (ReadsNoFurther limits.now m q (Q.left questions.new)) }
     ensures causes { IfErr result (HasCauses (Rose (L.faults log.old) (L.faults log.new) (L.spent log.new) ⊎ Rose (Q.faults questions.old) (Q.faults questions.new) (Q.spent questions.new))
         (Rose (O.faults out.old) (O.faults out.new) (O.spent out.new))) }
 {

@@ -6,7 +6,7 @@ ghost use Rattle.audit_cli.specs.declared.words.Job.{Job};
 ghost use Rattle.audit_cli.specs.Words.{job_of};
 ghost use Rattle.audit_cli.specs.Course.{HasCauses};
 ghost use Rattle.audit_cli.specs.Jobs.{JobTalked, KeepsLimit};
-ghost use Rattle.audit_cli.specs.Headline.{Tells, WhereTold, Finished, Written, PassesLimit, PassesNone};
+ghost use Rattle.audit_cli.specs.Headline.{Tells, WhereTold, Finished, Written, PassesLimit, PassesNone, LeavesQuestions};
 ghost use Rattle.audit_cli.specs.Standard.{IsStandard, WithStandard};
 ghost use Rattle.audit_cli.specs.Statuses.{StatusCause};
 
@@ -33,6 +33,8 @@ fn run<L: Source, Q: Source, O: Sink>(
         → JobTalked limits.now job.now bytes asked (L.left log.new) (O.written out.old) (O.written out.new) result }
     ensures within { (bytes asked : List ℕ) → L.left log.old ≡ Some bytes → Tells job.now (Q.left questions.old) asked
         → OnOk result (KeepsLimit limits.now job.now bytes asked) }
+    ensures left { (bytes asked : List ℕ) → L.left log.old ≡ Some bytes → Tells job.now (Q.left questions.old) asked
+        → OnOk result (LeavesQuestions limits.now job.now bytes asked (Q.left questions.new)) }
     ensures whole { (of : ℕ) (bytes : List ℕ) → job.now ≡ Job.Back of → L.left log.old ≡ Some bytes → OnOk result (L.left log.new ≡ Some []) }
     ensures causes { IfErr result (HasCauses (Rose (L.faults log.old) (L.faults log.new) (L.spent log.new) ⊎ Rose (Q.faults questions.old) (Q.faults questions.new) (Q.spent questions.new))
         (Rose (O.faults out.old) (O.faults out.new) (O.spent out.new))) }
@@ -68,6 +70,9 @@ pub fn audit_run<L: Source, Q: Source, O: Sink>(
         Written limits.now job bytes asked (O.written out.old) (O.written out.new)) }
     ensures whole { (of : ℕ) (bytes : List ℕ) → job_of (map string_bytes words.now) ≡ Some (Job.Back of) → L.left log.old ≡ Some bytes
         → result ≡ Status.Done → L.left log.new ≡ Some [] }
+    // No read of the questions is made after `end`.
+    ensures no_further { WhereTold (map string_bytes words.now) (L.left log.old) (Q.left questions.old) (λ job bytes asked.
+        result ≡ Status.Done → LeavesQuestions limits.now job bytes asked (Q.left questions.new)) }
     ensures full { WhereTold (map string_bytes words.now) (L.left log.old) (Q.left questions.old) (λ job bytes asked.
         (full : Full) → result ≡ Status.Full full → PassesLimit limits.now job bytes asked full) }
     ensures exact { WhereTold (map string_bytes words.now) (L.left log.old) (Q.left questions.old) (λ job bytes asked.
@@ -107,6 +112,8 @@ pub fn audit_main<L: Source, Q: Source, O: Sink>(
         Written limits job bytes asked (O.written out.old) (O.written out.new))) }
     ensures whole { (of : ℕ) (bytes : List ℕ) → job_of (map string_bytes words.now) ≡ Some (Job.Back of) → L.left log.old ≡ Some bytes
         → result ≡ Status.Done → L.left log.new ≡ Some [] }
+    ensures no_further { WithStandard (λ limits. WhereTold (map string_bytes words.now) (L.left log.old) (Q.left questions.old) (λ job bytes asked.
+        result ≡ Status.Done → LeavesQuestions limits job bytes asked (Q.left questions.new))) }
     ensures full { WithStandard (λ limits. WhereTold (map string_bytes words.now) (L.left log.old) (Q.left questions.old) (λ job bytes asked.
         (full : Full) → result ≡ Status.Full full → PassesLimit limits job bytes asked full)) }
     ensures exact { WithStandard (λ limits. WhereTold (map string_bytes words.now) (L.left log.old) (Q.left questions.old) (λ job bytes asked.

@@ -1,4 +1,4 @@
-use Rattle.std.proofs.Common.{◌≡◌, ◌<◌, ◌≤◌, ◌-◌, ℕ, List, [], ◌++◌, length, take, drop, sym, subst, arith, ap, ◌∙◌, Ok, Err}
+use Rattle.std.proofs.Common.{◌≡◌, ◌<◌, ◌≤◌, ◌-◌, ℕ, List, [], ◌++◌, length, take, drop, sym, subst, arith, rules, ap, ◌∙◌, Some, Ok, Err}
 use Rattle.std.proofs.lemmas.List.{take-append-drop}
 use Rattle.std.proofs.lemmas.Result.{err_from_is_err_and}
 use Rattle.audit_cli.specs.declared.halt.Turn.TheVariants as turn
@@ -74,3 +74,14 @@ returns-in-Ended-clause-closes g c = λ m h q at holds told.
     let same = front_told c.read.new.buf q c.min-allowed.result c.in-Ok.count read.1 (omega (arith, c.min-allowed.ensures)) in
     let heard = rw c.in-Ended.is at c.in_ok-hear.ensures.heard limits m h at holds in
     questions_closed c.lines_stay.ensures.stay limits _ _ _ _ _ m h _ q c.min-allowed.result (limits.input - c.args.heard) same (omega (arith, c.min-allowed.ensures)) heard
+
+pub returns-in-Ended-clause-left : goal.returns-in-Ended-clause-left
+returns-in-Ended-clause-left g c = λ q told.
+    let read = told_read _ _ q _ c.in-Ok.count told c.in-Ok.ensures.bytes.0 (sym c.in-Ok.ensures.bound.1) in
+    (c.in-Ok.count, omega (arith, c.in-Ok.ensures.bound.0, c.read.auto.buf), read.0)
+
+pub returns-then-count-eq0-clause-left : goal.returns-then-count-eq0-clause-left
+returns-then-count-eq0-clause-left g c = λ q told.
+    let read = told_read _ _ q _ c.in-Ok.count told c.in-Ok.ensures.bytes.0 (sym c.in-Ok.ensures.bound.1) in
+    let none : q ≡ [] = search rules in
+    (none, read.0 ∙ ap (λ (n : ℕ). Some (drop n q)) c.if-count-eq0.true)

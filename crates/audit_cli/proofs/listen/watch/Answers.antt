@@ -8,7 +8,7 @@ use Rattle.audit_cli.specs.Dialogue.{QuestionsStop, asks, lines_in}
 use Rattle.audit_cli.specs.Course.{EndTalked, never}
 use Rattle.audit_cli.specs.Hearing.{Heard, HeardLast}
 use Rattle.audit_cli.specs.Listening.{PassesRoom}
-use Rattle.audit_cli.proofs.HearLemmas.{heard_none, heard_both, heard_weaker, heard_more, questions_pass_after, questions_closed_after, on_ok}
+use Rattle.audit_cli.proofs.HearLemmas.{heard_none, heard_both, heard_weaker, heard_more, questions_pass_after, questions_closed_after, no_further, on_ok}
 use Rattle.audit_cli.proofs.ListenLemmas.{end_heard, end_both}
 use Rattle.audit_cli.proofs.listen.watch.Goals as goal
 
@@ -81,7 +81,7 @@ returns-in-Silence-clause-talked g c = λ m q at told.
     let limits = c.args.limits.now in
     let first = c.loop-cut.invariant.heard m q at told in
     let second = rw c.in-Silence.is at c.in_ok-count.ensures.heard first.talked.to (with_bytes [] (take n q)) (drop n q) first.talked.at first.holds (c.loop-cut.invariant.left q told) in
-    let none = rw c.in-Silence.is at c.in_ok-count.ensures.left (drop n q) (c.loop-cut.invariant.left q told) in
+    let none = (rw c.in-Silence.is at c.in_ok-count.ensures.left (drop n q) (c.loop-cut.invariant.left q told)).0 in
     let more = heard_more limits (PassesRoom limits (limits.input - n) first.talked.to (with_bytes [] (take n q)) (drop n q)) never _ _ _ _ _ _ _ _ second in
     let both = heard_both limits never _ _ _ _ _ _ _ _ _ _ m [] _ _ first more in
     let ended = end_both limits (QuestionsStop limits m q) _ _ _ _ _ _ _ _ _ m _ both (c.finish.ensures.heard limits both.talked.to _ both.talked.at both.holds) in
@@ -97,5 +97,19 @@ returns-in-Ended-clause-within g c = λ m q at told.
 
 pub returns-in-Silence-clause-within : goal.returns-in-Silence-clause-within
 returns-in-Silence-clause-within g c = λ m q at told.
-    let none = rw c.in-Silence.is at c.in_ok-count.ensures.left (drop c.loop-cut.heard q) (c.loop-cut.invariant.left q told) in
+    let none = (rw c.in-Silence.is at c.in_ok-count.ensures.left (drop c.loop-cut.heard q) (c.loop-cut.invariant.left q told)).0 in
     on_ok c.finish.result _ (inl (omega (arith, ap length none, length-drop c.loop-cut.heard q, c.loop-cut.invariant.within)))
+
+pub returns-in-Ended-clause-left : goal.returns-in-Ended-clause-left
+returns-in-Ended-clause-left g c = λ m q at told.
+    let n = c.loop-cut.heard in
+    let first = c.loop-cut.invariant.heard m q at told in
+    let left = rw c.in-Ended.is at c.in_ok-count.ensures.left (drop n q) (c.loop-cut.invariant.left q told) in
+    no_further c.args.limits.now _ _ _ _ _ m q n left.0 _ first left.1 left.2
+
+pub returns-in-Silence-clause-left : goal.returns-in-Silence-clause-left
+returns-in-Silence-clause-left g c = λ m q at told.
+    let n = c.loop-cut.heard in
+    let first = c.loop-cut.invariant.heard m q at told in
+    let left = rw c.in-Silence.is at c.in_ok-count.ensures.left (drop n q) (c.loop-cut.invariant.left q told) in
+    on_ok c.finish.result _ (no_further c.args.limits.now _ _ _ _ _ m q n 0 _ first (omega arith) left.1)

@@ -14,3 +14,6 @@ returns-clause-exact g c = (c.standard_limits-limits.result, c.standard_limits-l
 
 pub returns-clause-complete : goal.returns-clause-complete
 returns-clause-complete g c = (c.standard_limits-limits.result, c.standard_limits-limits.ensures, c.audit_run.ensures.complete)
+
+pub returns-clause-no_further : goal.returns-clause-no_further
+returns-clause-no_further g c = (c.standard_limits-limits.result, c.standard_limits-limits.ensures, c.audit_run.ensures.no_further)

@@ -47,3 +47,9 @@ pub returns-in-Ok-clause-whole : goal.returns-in-Ok-clause-whole
 returns-in-Ok-clause-whole g c = λ of bytes row told is.
     let same = job_same _ _ _ c.in-Ok.ensures.found row in
     done_only c.run.result _ (c.run.ensures.whole of bytes same told) (sym c.status_of.ensures ∙ is)
+
+pub returns-in-Ok-clause-no_further : goal.returns-in-Ok-clause-no_further
+returns-in-Ok-clause-no_further g c = λ done bytes asked row told tells is.
+    let same = job_same _ _ _ c.in-Ok.ensures.found row in
+    let left = c.run.ensures.left bytes asked told (subst (λ (j : Job). Tells j (g.Q.Source.left c.args.questions.now) asked) (sym same) tells) in
+    rw (← same) (done_only c.run.result _ left (sym c.status_of.ensures ∙ is))

@@ -30,3 +30,11 @@ returns-in-Back-clause-whole g c = λ of bytes is told.
     let within = c.args.limits.now.input_within in
     let small : c.args.limits.now.input < 2 ^ 64 - 1 = omega (arith, within) in
     c.back.ensures.whole c.args.limits.now bytes small (record { stands = c.new-engine.ensures; told = told })
+
+pub returns-in-Back-clause-left : goal.returns-in-Back-clause-left
+returns-in-Back-clause-left g c = λ bytes asked told tells. rw c.in-Back.is (on_ok c.back.result _ tt)
+
+pub returns-in-Watch-clause-left : goal.returns-in-Watch-clause-left
+returns-in-Watch-clause-left g c = λ bytes asked told tells.
+    let heard = rw c.in-Watch.is at tells in
+    rw c.in-Watch.is (c.watch.ensures.left (begin bytes) asked (record { stands = c.new-engine.ensures; told = told }) heard)
