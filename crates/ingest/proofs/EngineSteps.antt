@@ -10,7 +10,10 @@ use Rattle.record_join.specs.History.{Step as Told, Came, Settle as Settles, eve
 use Rattle.record_join.specs.declared.event.Event.{Event}
 use Rattle.ingest.specs.Counting.{bytes_in}
 use Rattle.ingest.specs.Events.{lines_since, lines_tell, tells_at, tells_after, state_of, events_of, released_at}
-use Rattle.ingest.specs.Parts.{Joined, Engine}
+use Rattle.std.specs.Prelude.{Result, Ok, Err, OnOk}
+use Rattle.std.proofs.lemmas.List.{length-take-le}
+use Rattle.ingest.specs.declared.stop.StopWhy.{StopWhy}
+use Rattle.ingest.specs.Parts.{Reader, Joined, Engine}
 use Rattle.ingest.specs.StandsFor.{ReaderStandsFor, JoinedStandsFor, StandsFor}
 use Rattle.ingest.specs.Stops.{Fits, Stops, StopsAmong, PassesAt, full_of, input_full}
 use Rattle.ingest.proofs.Bytes.{bytes_more, bytes_append, bytes_settled}
@@ -69,7 +72,7 @@ module _ (limits : Limits) where
   pub state_settled : (h : History) → tells_at limits h Settle ≡ Settles ∷ [] → state_of limits (h ++ Settle ∷ []) ≡ left_after limits (settled (state_of limits h))
   state_settled h tells = state_more limits h (Settle ∷ []) ∙ ap (state limits (state_of limits h)) (append-nil (tells_at limits h Settle) ∙ tells)
 
-  abbrev then : History → Record → Joining
+  abbrev pub then : History → Record → Joining
   then h item = left_after limits (enter limits (state_of limits h) item)
 
   pub events_ended : (h : History) (item : Record) → tells_at limits h Settle ≡ Came item ∷ Settles ∷ []
@@ -118,6 +121,11 @@ module _ (limits : Limits) where
     passes = inr (omega (arith, fits.input, bytes_settled h), among);
   }
 
+  -- bytes that end no line pass no limit but that of bytes
+  pub front_fits_too : (h : History) (part : List ℕ) → Fits limits h → bytes_in h + (length part + 1) ≤ limits.input → tells_after limits h (map Byte part) ≡ [] → Fits limits (with_bytes h part)
+  front_fits_too h part fits room quiet =
+      fit_so limits (with_bytes h part) (omega (arith, bytes_more h part, room)) (ap (full_of limits) (same_events limits h (map Byte part) quiet) ∙ events_fit limits h fits)
+
   -- a line feed that stops
   pub stops_line : (h : History) (part rest : List ℕ) (b : ℕ) (item : Record) (full : Full) → Fits limits h → bytes_in h + (length part + 1) ≤ limits.input
       → tells_after limits h (map Byte part) ≡ [] → tells_after limits h (map Byte part ++ Byte b ∷ []) ≡ Came item ∷ []
@@ -141,10 +149,143 @@ module _ (limits : Limits) where
         step = Byte b;
         back = map Byte rest;
         parts = refl;
-        fits = fit_so limits front (omega (arith, bytes_more h part, room)) (ap (full_of limits) events_are ∙ events_fit limits h fits);
+        fits = front_fits_too h part fits room quiet;
         passes = inr (
           omega (arith, bytes_append front (Byte b ∷ []), bytes_more h part, room),
           subst (λ (l : List Event). StopsAmong limits l (released_at limits front (Byte b)) full) (sym events_are)
           (subst (λ (l : List Event). StopsAmong limits (events_of limits h) l full) (sym released) among),
         );
       }
+
+-- ---- the engine's own fields
+
+pub engine_own : (limits : Limits) (old seen : Engine) (h : History) → old ≡ seen → StandsFor limits seen h → StandsFor limits old h
+engine_own limits old seen h is stands = subst (λ (e : Engine). StandsFor limits e h) (sym is) stands
+
+pub room_so : (limits : Limits) (reader : Reader) (h : History) (n : ℕ) → ReaderStandsFor limits reader h → reader.bytes + n ≤ reader.limits.input → bytes_in h + n ≤ limits.input
+room_so limits reader h n stands room =
+    let most : reader.limits.input ≡ limits.input = ap (λ (l : Limits). l.input) stands.limits_are in
+    omega (arith, stands.bytes, room, most)
+
+pub bytes_within : (limits : Limits) (h : History) (piece : List ℕ) (count : ℕ) → bytes_in h + length piece ≤ limits.input → count ≤ length piece → bytes_in (with_bytes h (take count piece)) ≤ limits.input
+bytes_within limits h piece count room within = omega (arith, bytes_more h (take count piece), length-take-le count piece within, room)
+
+pub tells_item : (o : Option Record) (item : Record) (l : List Told) → o ≡ Some item → l ≡ map Came (option_to_list o) → l ≡ Came item ∷ []
+tells_item o item l is e = e ∙ ap (λ (p : Option Record). map Came (option_to_list p)) is
+
+tells_none : (o : Option Record) (l : List Told) → o ≡ None → l ≡ map Came (option_to_list o) → l ≡ []
+tells_none o l is e = e ∙ ap (λ (p : Option Record). map Came (option_to_list p)) is
+
+-- bytes that end no used line
+pub line_none : (limits : Limits) (old seen new : Engine) (h : History) (piece : List ℕ) (count : ℕ) (item : Option Record) → old ≡ seen → item ≡ None → count ≤ length piece
+    → seen.reader.bytes + length piece ≤ seen.reader.limits.input → new.joined ≡ old.joined
+    → (ReaderStandsFor limits old.reader h → ReaderStandsFor limits new.reader (with_bytes h (take count piece)))
+    → (ReaderStandsFor limits old.reader h → tells_after limits h (map Byte (take count piece)) ≡ map Came (option_to_list item))
+    → StandsFor limits seen h → StandsFor limits new (with_bytes h (take count piece))
+line_none limits old seen new h piece count item is none within room same reads tells stands =
+    let own = engine_own limits old seen h is stands in
+    let quiet = tells_none item (tells_after limits h (map Byte (take count piece))) none (tells own.reader) in
+    engine_at limits new (with_bytes h (take count piece)) (reads own.reader)
+    (joined_to limits new.joined (state_of limits h) _ (events_of limits h) _ (same_state limits h (map Byte (take count piece)) quiet) (same_events limits h (map Byte (take count piece)) quiet)
+    (subst (λ (j : Joined). JoinedStandsFor limits j (state_of limits h) (events_of limits h)) (sym same) own.joined))
+    (bytes_within limits h piece count (room_so limits seen.reader h (length piece) stands.reader room) within)
+
+abbrev pub Comes : Joined → Joined → Record → Type 0
+Comes old new item = (limits : Limits) (s : Joining) (released : List Event) → JoinedStandsFor limits old s released → length released + (length s.waiting + s.excess) < 2 ^ 61
+    → JoinedStandsFor limits new (left_after limits (enter limits s item)) (released ++ released_after limits (enter limits s item))
+
+abbrev pub Settling : Joined → Joined → Type 0
+Settling old new = (limits : Limits) (s : Joining) (released : List Event) → JoinedStandsFor limits old s released → length released + (length s.waiting + s.excess) < 2 ^ 61
+    → JoinedStandsFor limits new (left_after limits (settled s)) (released ++ released_after limits (settled s))
+
+-- bytes that end a used line
+pub line_some : (limits : Limits) (old seen new : Engine) (h : History) (piece : List ℕ) (count : ℕ) (o : Option Record) (item : Record) → old ≡ seen → o ≡ Some item → count ≤ length piece
+    → seen.reader.bytes + length piece ≤ seen.reader.limits.input
+    → (ReaderStandsFor limits old.reader h → ReaderStandsFor limits new.reader (with_bytes h (take count piece)))
+    → (ReaderStandsFor limits old.reader h → tells_after limits h (map Byte (take count piece)) ≡ map Came (option_to_list o))
+    → Comes old.joined new.joined item
+    → StandsFor limits seen h → StandsFor limits new (with_bytes h (take count piece))
+line_some limits old seen new h piece count o item is some within room reads tells comes stands =
+    let own = engine_own limits old seen h is stands in
+    let told = tells_item o item (tells_after limits h (map Byte (take count piece))) some (tells own.reader) in
+    engine_at limits new (with_bytes h (take count piece)) (reads own.reader)
+    (joined_to limits new.joined _ _ _ _ (state_came limits h (map Byte (take count piece)) item told) (events_came limits h (map Byte (take count piece)) item told)
+    (comes limits (state_of limits h) (events_of limits h) own.joined (few_now limits h own.fits.input)))
+    (bytes_within limits h piece count (room_so limits seen.reader h (length piece) stands.reader room) within)
+
+-- what a settle tells
+pub told_none : (limits : Limits) (h : History) (o : Option Record) → o ≡ None → lines_tell limits (lines_since h (h ++ Settle ∷ [])) ≡ map Came (option_to_list o) → tells_at limits h Settle ≡ Settles ∷ []
+told_none limits h o none tells = settle_none limits h (tells_none o _ none tells)
+
+pub told_some : (limits : Limits) (h : History) (o : Option Record) (item : Record) → o ≡ Some item → lines_tell limits (lines_since h (h ++ Settle ∷ [])) ≡ map Came (option_to_list o) → tells_at limits h Settle ≡ Came item ∷ Settles ∷ []
+told_some limits h o item some tells = settle_some limits h item (tells_item o item _ some tells)
+
+settled_within : (limits : Limits) (h : History) → bytes_in h ≤ limits.input → bytes_in (h ++ Settle ∷ []) ≤ limits.input
+settled_within limits h within = omega (arith, bytes_settled h, within)
+
+few_still : (limits : Limits) (h : History) → bytes_in h ≤ limits.input → length (events_of limits h) + (length (state_of limits h).waiting + (state_of limits h).excess) ≤ 2 ^ 60
+few_still limits h within = omega (arith, few_events limits h, within, limits.input_within)
+
+module _ (old seen new : Engine) (o : Option Record) (is : old ≡ seen)
+    (reads : (limits : Limits) (h : History) → ReaderStandsFor limits old.reader h → ReaderStandsFor limits new.reader (h ++ Settle ∷ []))
+    (tells : (limits : Limits) (h : History) → ReaderStandsFor limits old.reader h → lines_tell limits (lines_since h (h ++ Settle ∷ [])) ≡ map Came (option_to_list o)) where
+  -- a settle that ends no used line
+  pub settle_none_ok : (r : Result (Unit {0}) StopWhy) → o ≡ None → OnOk r (Settling old.joined new.joined) → OnOk r ((limits : Limits) (h : History) → StandsFor limits seen h → StandsFor limits new (h ++ Settle ∷ []))
+  settle_none_ok (Ok u) none ok = λ limits h stands.
+      let own = engine_own limits old seen h is stands in
+      let told = told_none limits h o none (tells limits h own.reader) in
+      engine_at limits new (h ++ Settle ∷ []) (reads limits h own.reader)
+      (joined_to limits new.joined _ _ _ _ (state_settled limits h told) (events_settled limits h told) (ok limits (state_of limits h) (events_of limits h) own.joined (few_now limits h own.fits.input)))
+      (settled_within limits h own.fits.input)
+  settle_none_ok (Err e) none ok = tt
+
+  -- a settle that ends a used line
+  pub settle_some_ok : (r : Result (Unit {0}) StopWhy) (mid : Joined) (item : Record) → o ≡ Some item → Comes old.joined mid item → OnOk r (Settling mid new.joined)
+      → OnOk r ((limits : Limits) (h : History) → StandsFor limits seen h → StandsFor limits new (h ++ Settle ∷ []))
+  settle_some_ok (Ok u) mid item some comes ok = λ limits h stands.
+      let own = engine_own limits old seen h is stands in
+      let told = told_some limits h o item some (tells limits h own.reader) in
+      let half = comes limits (state_of limits h) (events_of limits h) own.joined (few_now limits h own.fits.input) in
+      engine_at limits new (h ++ Settle ∷ []) (reads limits h own.reader)
+      (joined_to limits new.joined _ _ _ _ (state_ended limits h item told) (events_ended limits h item told)
+      (ok limits _ _ half (few_then limits (state_of limits h) (events_of limits h) item (few_still limits h own.fits.input))))
+      (settled_within limits h own.fits.input)
+  settle_some_ok (Err e) mid item some comes ok = tt
+
+module _ (old seen : Engine) (o : Option Record) (is : old ≡ seen)
+    (tells : (limits : Limits) (h : History) → ReaderStandsFor limits old.reader h → lines_tell limits (lines_since h (h ++ Settle ∷ [])) ≡ map Came (option_to_list o)) where
+  pub settle_none_full : (limits : Limits) (h : History) (full : Full) → o ≡ None → StandsFor limits seen h
+      → ((s : Joining) (released : List Event) → JoinedStandsFor limits old.joined s released → length released + (length s.waiting + s.excess) < 2 ^ 61 → StopsAmong limits released (released_after limits (settled s)) full)
+      → Stops limits (h ++ Settle ∷ []) full
+  settle_none_full limits h full none stands stops =
+      let own = engine_own limits old seen h is stands in
+      let told = told_none limits h o none (tells limits h own.reader) in
+      let among = stops (state_of limits h) (events_of limits h) own.joined (few_now limits h own.fits.input) in
+      stops_settled limits h full own.fits
+      (subst (λ (l : List Told). StopsAmong limits (events_of limits h) (events limits (state_of limits h) l) full) (sym told)
+      (among_first limits (events_of limits h) (released_after limits (settled (state_of limits h))) [] full among))
+
+  pub settle_first_full : (limits : Limits) (h : History) (full : Full) (item : Record) → o ≡ Some item → StandsFor limits seen h
+      → ((s : Joining) (released : List Event) → JoinedStandsFor limits old.joined s released → length released + (length s.waiting + s.excess) < 2 ^ 61 → StopsAmong limits released (released_after limits (enter limits s item)) full)
+      → Stops limits (h ++ Settle ∷ []) full
+  settle_first_full limits h full item some stands stops =
+      let own = engine_own limits old seen h is stands in
+      let told = told_some limits h o item some (tells limits h own.reader) in
+      let among = stops (state_of limits h) (events_of limits h) own.joined (few_now limits h own.fits.input) in
+      stops_settled limits h full own.fits
+      (subst (λ (l : List Told). StopsAmong limits (events_of limits h) (events limits (state_of limits h) l) full) (sym told)
+      (among_first limits (events_of limits h) (released_after limits (enter limits (state_of limits h) item)) (events limits (then limits h item) (Settles ∷ [])) full among))
+
+  pub settle_then_full : (limits : Limits) (h : History) (full : Full) (mid : Joined) (item : Record) → o ≡ Some item → Comes old.joined mid item → StandsFor limits seen h
+      → ((s : Joining) (released : List Event) → JoinedStandsFor limits mid s released → length released + (length s.waiting + s.excess) < 2 ^ 61 → StopsAmong limits released (released_after limits (settled s)) full)
+      → Stops limits (h ++ Settle ∷ []) full
+  settle_then_full limits h full mid item some comes stands stops =
+      let own = engine_own limits old seen h is stands in
+      let told = told_some limits h o item some (tells limits h own.reader) in
+      let half = comes limits (state_of limits h) (events_of limits h) own.joined (few_now limits h own.fits.input) in
+      let first = released_after limits (enter limits (state_of limits h) item) in
+      let second = released_after limits (settled (then limits h item)) in
+      let among = stops _ _ half (few_then limits (state_of limits h) (events_of limits h) item (few_still limits h own.fits.input)) in
+      stops_settled limits h full own.fits
+      (subst (λ (l : List Told). StopsAmong limits (events_of limits h) (events limits (state_of limits h) l) full) (sym told)
+      (among_second limits (events_of limits h) first (second ++ []) full (among_first limits (events_of limits h ++ first) second [] full among)))

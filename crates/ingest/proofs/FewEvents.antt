@@ -16,7 +16,7 @@ use Rattle.ingest.proofs.Fewer.{size, enter_size, released_so}
 use Rattle.ingest.proofs.Telling.{since_parts}
 
 -- how many records came
-cames : List Told → ℕ
+abbrev cames : List Told → ℕ
 cames [] = 0
 cames (Came r ∷ steps) = 1 + cames steps
 cames (Settles ∷ steps) = cames steps

@@ -10,3 +10,4 @@ pub mod Fewer
 pub mod Releasing
 pub mod FewEvents
 pub mod EngineSteps
+pub mod StopLemmas

@@ -1,6 +1,7 @@
 -- A loop that releases all that is ripe, and follows each event.
 use Rattle.std.proofs.Common.{◌≡◌, ◌≤◌, ◌<◌, ◌+◌, ◌^◌, ◌++◌, ◌∙◌, sym, refl, ap, subst, ℕ, zero, suc, Bool, true, false, not, List, [], ◌∷◌, length, filter, arith, append_assoc, append-nil, length-append, Option, None, Some, max}
-use Rattle.std.specs.Prelude.{cond}
+use Rattle.std.specs.Prelude.{cond, Result, Ok, Err, OnOk}
+use Rattle.ingest.specs.declared.stop.StopWhy.{StopWhy}
 use Rattle.std.specs.List.{list_any}
 use Rattle.std.specs.Option.{option_to_list}
 use Rattle.flow_base.specs.declared.limits.Limits.{Limits}
@@ -16,7 +17,7 @@ use Rattle.ingest.specs.Counting.{counts_in}
 use Rattle.ingest.specs.Events.{taken_in}
 use Rattle.ingest.specs.declared.event_counts.EventCounts.{EventCounts}
 use Rattle.ingest.specs.Parts.{Joined}
-use Rattle.ingest.proofs.Fewer.{released_so, enter_time}
+use Rattle.ingest.proofs.Fewer.{released_so, enter_time, enter_size}
 use Rattle.acts.specs.Flows.{latest, TimesNeverFall}
 use Rattle.acts.specs.LookBack.{Course}
 use Rattle.record_join.specs.declared.clock.JoinClock.{JoinClock}
@@ -175,3 +176,50 @@ left_excess limits s event is = (released_so limits s event is).excess
 
 abbrev pub joined_made : Limits → Joiner → Course → EventCounts → ℕ → Joined
 joined_made limits join course counts excess = record { limits = limits; join = join; course = course; counts = counts; excess = excess }
+
+-- ---- whole steps
+
+-- all that is ripe is released
+abbrev pub Releases : Joined → Joined → Type 0
+Releases mid new = (limits : Limits) (s : Joining) (released : List Event) → JoinedStandsFor limits mid s released → length released + length s.waiting ≤ 2 ^ 61
+    → JoinedStandsFor limits new (left_after limits s) (released ++ released_after limits s)
+
+abbrev pub Few : List Event → Joining → Type 0
+Few released s = length released + (length s.waiting + s.excess) < 2 ^ 61
+
+pub few_entered : (limits : Limits) (s : Joining) (released : List Event) (item : Record) → Few released s → length released + length (enter limits s item).waiting ≤ 2 ^ 61
+few_entered limits s released item few = omega (arith, few, enter_size limits s item)
+
+pub few_excess : (s : Joining) (released : List Event) → Few released s → s.excess < 2 ^ 61
+few_excess s released few = omega (arith, few)
+
+pub entered_ok : (r : Result (Unit {0}) StopWhy) (old mid new : Joined) (item : Record)
+    → ((limits : Limits) (s : Joining) (released : List Event) → JoinedStandsFor limits old s released → s.excess < 2 ^ 61 → JoinedStandsFor limits mid (enter limits s item) released)
+    → OnOk r (Releases mid new)
+    → OnOk r ((limits : Limits) (s : Joining) (released : List Event) → JoinedStandsFor limits old s released → length released + (length s.waiting + s.excess) < 2 ^ 61
+    → JoinedStandsFor limits new (left_after limits (enter limits s item)) (released ++ released_after limits (enter limits s item)))
+entered_ok (Ok u) old mid new item came ok = λ limits s released stands few.
+    ok limits (enter limits s item) released (came limits s released stands (few_excess s released few)) (few_entered limits s released item few)
+entered_ok (Err e) old mid new item came ok = tt
+
+pub settled_ok : (r : Result (Unit {0}) StopWhy) (old mid new : Joined)
+    → ((limits : Limits) (s : Joining) (released : List Event) → JoinedStandsFor limits old s released → JoinedStandsFor limits mid (settled s) released)
+    → OnOk r (Releases mid new)
+    → OnOk r ((limits : Limits) (s : Joining) (released : List Event) → JoinedStandsFor limits old s released → length released + (length s.waiting + s.excess) < 2 ^ 61
+    → JoinedStandsFor limits new (left_after limits (settled s)) (released ++ released_after limits (settled s)))
+settled_ok (Ok u) old mid new came ok = λ limits s released stands few.
+    ok limits (settled s) released (came limits s released stands) (omega (arith, few))
+settled_ok (Err e) old mid new came ok = tt
+
+pub stands_settled : (limits own : Limits) (join after : Joiner) (course : Course) (counts : EventCounts) (excess : ℕ) (s : Joining) (released : List Event)
+    → JoinedStandsFor limits (joined_made own join course counts excess) s released → JoinStandsFor limits after (settled s)
+    → JoinedStandsFor limits (joined_made own after course counts excess) (settled s) released
+stands_settled limits own join after course counts excess s released stands settled = record {
+  limits_are = stands.limits_are;
+  join = settled;
+  excess = stands.excess;
+  counts = stands.counts;
+  acts = stands.acts;
+  most_objects = stands.most_objects;
+  fits = stands.fits;
+}

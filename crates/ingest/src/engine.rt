@@ -58,14 +58,16 @@ impl Ingest {
             return self.feed_within(piece);
         }
         let done = room as usize;
-        self.feed_within(&piece[..done])?;
-        Err(Stop {
-            done,
-            why: StopWhy::Full(Full {
-                limit: Limit::Input,
-                number: self.reader.most(),
+        match self.feed_within(&piece[..done]) {
+            Ok(()) => Err(Stop {
+                done,
+                why: StopWhy::Full(Full {
+                    limit: Limit::Input,
+                    number: self.reader.most(),
+                }),
             }),
-        })
+            Err(stop) => Err(stop),
+        }
     }
 
     /// Ends the last line, where it has a byte, and releases all that waits.
@@ -137,6 +139,7 @@ impl Ingest {
         requires room { self.old.reader.bytes + length piece.now ≤ self.old.reader.limits.input }
         ensures within { IfOk result (λ n. n ≤ length piece.now) }
         ensures some { IfOk result (λ n. 0 < length piece.now → 0 < n) }
+        ensures short { IfErr result (λ stop. stop.done ≤ length piece.now) }
         ensures bytes { IfOk result (λ n. self.new.reader.bytes ≡ self.old.reader.bytes + n) }
         ensures limits { IfOk result (λ _. self.new.reader.limits ≡ self.old.reader.limits) }
         ensures ok { IfOk result (λ n. (limits : Limits) (h : History) → StandsFor limits self.old h → StandsFor limits self.new (with_bytes h (take n piece.now))) }
