@@ -1,0 +1,245 @@
+//! The table of objects and names.
+ghost use Rattle.std.specs.Prelude.{◌≡◌, ◌≤◌, ◌<◌, ◌+◌, ◌^◌, ◌↔◌, ℕ, [], ◌∷◌, ◌++◌, List, Option, Some, None, Err, true, false, length, OnOk, OnErr, IfOk, IfErr, option_map, position, slice_get, is_some, nat_eq, ◌≢◌, ◌⊎◌, IsOk, vec_capacity, min, IfSome, if◌then◌else◌};
+ghost use Rattle.std.specs.List.{list_any};
+ghost use Rattle.std.specs.Option.{option_map_or};
+ghost use Rattle.std.specs.Cmp.Lexicographic.{pointwise};
+ghost use Rattle.flow_base.specs.declared.types.Key.{Key};
+ghost use Rattle.flow_base.specs.contracts.types.KeyPartialEq.TheImpl.{ghosts};
+ghost use Rattle.flow_base.specs.declared.limits.Full.{Full};
+ghost use Rattle.acts.specs.Keys.{put_new};
+ghost use Rattle.flow_base.specs.declared.types.EntityId.{EntityId};
+ghost use Rattle.entity_names.specs.declared.fault.EnterFault.TheVariants as fault;
+ghost use Rattle.entity_names.specs.Known.{NamesAs, ids_where, HasPlace, full_at, names_at, capacity_at, with_name_within};
+
+use crate::fault::EnterFault;
+use acts::copy_key;
+use flow_base::{Bytes, EntityId, Full, Key, Limit, Limits, List, NoMemory, equal_keys_are_one};
+use indexmap::{IndexMap, IndexSet};
+use std::alloc::Global;
+use std::marker::Model;
+
+/// The objects by number, and the names of keys, known or not.
+#[derive(Drop)]
+pub struct Entities {
+    keys: IndexSet<Key>,
+    names: IndexMap<Key, Vec<Bytes>>,
+    limit: u32,
+    most_names: usize,
+}
+
+impl Model for Entities {
+    ghost use Rattle.std.specs.Prelude.{◌≤◌, ◌<◌, ◌^◌, length};
+    ghost use Rattle.entity_names.specs.Known.{Known};
+    ghost use Rattle.indexmap.specs.IndexSet as set;
+
+    ghost Value = { Known };
+
+    ghost view = { λ a. record { keys = a.keys.keys; limit = a.limit; most_names = a.most_names; names = a.names.entries; spare = set.spare a.keys } };
+
+    ghost invariant = { λ a. (length a.keys.keys ≤ a.limit) × ((a.limit < 2 ^ 32) × (a.most_names ≤ 16)) };
+}
+
+impl Entities {
+    /// No objects and no names, and room for no more of them than the limits say.
+    pub fn new(alloc: Global, limits: &Limits) -> Entities
+        ensures keys { result.keys ≡ [] }
+        ensures limit { result.limit ≡ limits.now.entities }
+        ensures most_names { result.most_names ≡ limits.now.names }
+        ensures names { NamesAs result [] }
+    {
+        Entities {
+            keys: IndexSet::new(alloc),
+            names: IndexMap::new(alloc),
+            limit: limits.entities,
+            most_names: limits.names,
+        }
+    }
+
+    /// How many objects are known.
+    pub fn count(&self) -> u32
+        ensures { result ≡ length self.now.keys }
+    {
+        self.keys.len() as u32
+    }
+
+    /// The key of an object.
+    pub fn key(&self, id: EntityId) -> &Key
+        requires { id.0 < length self.now.keys }
+        ensures { slice_get self.now.keys id.0 ≡ Some result.now }
+    {
+        match self.keys.get_index(id.0 as usize) {
+            Some(key) => key,
+            None => unreachable!(),
+        }
+    }
+
+    /// The number of a key, where it is known.
+    pub fn id(&self, key: &Key) -> Option<EntityId>
+        ensures place { option_map (λ (id : EntityId). id.0) result ≡ position (ghosts.eq key.now) self.now.keys }
+        ensures known { is_some result ≡ list_any (ghosts.eq key.now) self.now.keys }
+    {
+        match self.keys.get_index_of(key) {
+            Some(index) => Some(EntityId(index as u32)),
+            None => None,
+        }
+    }
+
+    /// The number of a key, which is the next one where the key is new.
+    pub fn enter(&mut self, key: Key) -> Result<EntityId, EnterFault>
+        ensures keys { OnOk result (self.new.keys ≡ put_new ghosts.eq self.old.keys key) }
+        ensures id { IfOk result (λ (id : EntityId). position (ghosts.eq key) self.new.keys ≡ Some id.0) }
+        ensures full { (full : Full) → (result ≡ Err (fault.Full full)) ↔ ((full ≡ full_at self.old.limit) × ((list_any (ghosts.eq key) self.old.keys ≡ false) × (length self.old.keys ≡ self.old.limit))) }
+        ensures room { 1 ≤ self.old.spare → IfErr result (λ e. e ≡ fault.Full (full_at self.old.limit)) }
+        ensures spare { self.old.spare ≤ self.new.spare + 1 }
+        ensures err { OnErr result (self.new.keys ≡ self.old.keys) }
+        ensures rest { self.new ≡ record self.old { keys = self.new.keys; spare = self.new.spare } }
+    {
+        if let Some(id) = self.id(&key) {
+            return Ok(id);
+        }
+        if self.count() == self.limit {
+            return Err(EnterFault::Full(Full {
+                limit: Limit::Entities,
+                number: u64::from(self.limit),
+            }));
+        }
+        match self.keys.insert_full(key) {
+            Ok((index, _)) => Ok(EntityId(index as u32)),
+            Err(_) => Err(EnterFault::NoMemory),
+        }
+    }
+
+    /// The objects that have exactly this name, ascending.
+    pub fn find(&self, text: &[u8]) -> Result<List<EntityId>, NoMemory>
+        ensures { IfOk result (λ ids. ids ≡ ids_where (λ key. list_any (pointwise nat_eq text.now) (names_at self.now key)) 0 self.now.keys) }
+    {
+        let mut ids = List::new(*self.names.allocator());
+        let mut next = 0;
+        for key in self.keys.iter() {
+            if self.has_name(key, text) {
+                ids.push(EntityId(next))?;
+            }
+            next += 1;
+        }
+        Ok(ids)
+    }
+
+    /// Whether this is a name of the key.
+    fn has_name(&self, key: &Key, text: &[u8]) -> bool
+        ensures { result ≡ list_any (pointwise nat_eq text.now) (names_at self.now key.now) }
+    {
+        match self.names.get(key) {
+            Some(list) => is_listed(list.as_slice(), text),
+            None => false,
+        }
+    }
+
+    /// Makes room for more keys, and for one more name for each of these.
+    pub fn reserve(&mut self, keys: usize, named: &[Key]) -> Result<(), NoMemory>
+        ensures rest { self.new ≡ record self.old { names = self.new.names; spare = self.new.spare } }
+        ensures names { (k : Key) → names_at self.new k ≡ names_at self.old k }
+        ensures spare { OnOk result (keys ≤ self.new.spare) }
+        ensures room { OnOk result ((k : Key) → list_any (ghosts.eq k) named.now ≡ true → min self.old.most_names (length (names_at self.old k) + length named.now) ≤ capacity_at self.new k) }
+    {
+        for key in named {
+            self.make_room(key, named.len())?;
+        }
+        self.keys.reserve(keys)?;
+        Ok(())
+    }
+
+    /// Makes room for more names of a key, as many as are kept.
+    fn make_room(&mut self, key: &Key, more: usize) -> Result<(), NoMemory>
+        ensures rest { self.new ≡ record self.old { names = self.new.names } }
+        ensures names { (k : Key) → names_at self.new k ≡ names_at self.old k }
+        ensures room { OnOk result ((k : Key) → ghosts.eq k key.now ≡ true → min self.old.most_names (length (names_at self.old k) + more) ≤ capacity_at self.new k) }
+        ensures capacity { (k : Key) → capacity_at self.old k ≤ capacity_at self.new k }
+    {
+        equal_keys_are_one();
+        let alloc = *self.names.allocator();
+        let more = more.min(self.most_names);
+        match self.names.get_mut(key) {
+            Some(list) => match list.reserve(more) {
+                Ok(()) => Ok(()),
+                Err(_) => Err(NoMemory),
+            },
+            None => {
+                let list = Vec::with_capacity(alloc, more)?;
+                match self.names.insert(copy_key(key)?, list) {
+                    Ok(_) => Ok(()),
+                    Err(_) => Err(NoMemory),
+                }
+            }
+        }
+    }
+
+    /// The names of a key, where it has one.
+    pub fn names(&self, key: &Key) -> Option<&[Bytes]>
+        ensures names { option_map_or (λ (list : _). list.now) result [] ≡ names_at self.now key.now }
+        ensures some { IfSome result (λ list. list.now ≢ []) }
+    {
+        match self.names.get(key) {
+            Some(list) if !list.is_empty() => Some(list.as_slice()),
+            _ => None,
+        }
+    }
+
+    #[tactic(auto, using(crate::proofs::Names::one_more))]
+    /// Gives a key a name. One that it has, and one past the most that a key may have, changes nothing.
+    pub fn add_name(&mut self, key: Key, text: Bytes) -> Result<(), NoMemory>
+        ensures ok { OnOk result ((k : Key) → names_at self.new k ≡ (if ghosts.eq key k then with_name_within self.old.most_names (names_at self.old k) text else names_at self.old k)) }
+        ensures next { OnOk result ((given : List (Key × List ℕ)) → NamesAs self.old given → NamesAs self.new (given ++ (key, text) ∷ [])) }
+        ensures err { OnErr result ((k : Key) → names_at self.new k ≡ names_at self.old k) }
+        ensures rest { self.new ≡ record self.old { names = self.new.names } }
+        ensures room { HasPlace self.old key → IsOk result }
+        ensures capacity { (k : Key) → capacity_at self.old k ≤ capacity_at self.new k }
+    {
+        equal_keys_are_one();
+        let alloc = *self.names.allocator();
+        let most = self.most_names;
+        match self.names.get_mut(&key) {
+            Some(list) => match add_text(list, text, most) {
+                Ok(()) => Ok(()),
+                Err(fault) => Err(fault),
+            },
+            None if most == 0 => Ok(()),
+            None => {
+                let list = one_name(alloc, text, most)?;
+                match self.names.insert(key, list) {
+                    Ok(_) => Ok(()),
+                    Err(_) => Err(NoMemory),
+                }
+            }
+        }
+    }
+}
+
+/// The first name of a key.
+fn one_name(alloc: Global, text: Bytes, most: usize) -> Result<Vec<Bytes>, NoMemory>
+    ensures { IfOk result (λ list. list.items ≡ with_name_within most [] text) }
+{
+    let mut list = Vec::new(alloc);
+    add_text(&mut list, text, most)?;
+    Ok(list)
+}
+
+/// Puts a name last where it is new and there is a place for it.
+fn add_text(list: &mut Vec<Bytes>, text: Bytes, most: usize) -> Result<(), NoMemory>
+    ensures ok { OnOk result (list.new.items ≡ with_name_within most list.old.items text) }
+    ensures err { OnErr result (list.new.items ≡ list.old.items) }
+    ensures room { (length list.old.items < vec_capacity list.old) ⊎ (most ≤ length list.old.items) → IsOk result }
+    ensures capacity { vec_capacity list.old ≤ vec_capacity list.new }
+{
+    if is_listed(list.as_slice(), text.as_slice()) || list.len() >= most {
+        return Ok(());
+    }
+    list.push(text)?;
+    Ok(())
+}
+
+/// Whether these bytes are among the names.
+fn is_listed(list: &[Bytes], text: &[u8]) -> bool
+    ensures { result ≡ list_any (pointwise nat_eq text.now) list.now }
+{
+    list.iter().any(|name| text == name.as_slice())
+}

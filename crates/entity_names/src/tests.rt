@@ -1,0 +1,71 @@
+//! Numbers and names of a few keys, worked out by hand from the rules.
+
+use crate::*;
+use flow_base::{Bytes, EntityId, Full, Key, Limit, Limits};
+use std::alloc::Global;
+use std::test::Fail;
+
+fn small() -> Limits {
+    let mut limits = Limits::standard();
+    limits.entities = 2;
+    limits.names = 2;
+    limits
+}
+
+fn process(pid: u32) -> Key {
+    Key::Process { pid, life: 0 }
+}
+
+fn is_full(entered: &Result<EntityId, EnterFault>) -> bool {
+    match entered {
+        Err(EnterFault::Full(full)) => full.limit == Limit::Entities && full.number == 2,
+        _ => false,
+    }
+}
+
+fn is_number(entered: &Result<EntityId, EnterFault>, number: u32) -> bool {
+    match entered {
+        Ok(id) => id.0 == number,
+        Err(_) => false,
+    }
+}
+
+#[test]
+fn keys_are_numbered_as_they_come(rt: HostRuntime) {
+    let mut entities = Entities::new(rt.alloc(), &small());
+    assert!(rt; is_number(&entities.enter(process(7)), 0));
+    assert!(rt; is_number(&entities.enter(process(5)), 1));
+    assert!(rt; is_number(&entities.enter(process(7)), 0));
+    assert!(rt; is_full(&entities.enter(process(9))));
+    assert_eq!(rt; entities.count(), 2);
+}
+
+#[test]
+fn names_come_before_their_key_and_stop_at_their_limit(rt: HostRuntime) -> Result<(), Fail> {
+    let alloc = rt.alloc();
+    let mut entities = Entities::new(alloc, &small());
+    for text in [
+        b"/a".as_slice(),
+        b"/b".as_slice(),
+        b"/a".as_slice(),
+        b"/c".as_slice(),
+    ] {
+        entities.add_name(process(7), Bytes::from_slice(alloc, text)?)?;
+    }
+    assert!(rt; entities.find(b"/b".as_slice())?.as_slice().is_empty());
+    assert!(rt; is_number(&entities.enter(process(7)), 0));
+    assert_eq!(rt;
+        entities.find(b"/b".as_slice())?.as_slice(),
+        [EntityId(0)].as_slice()
+    );
+    assert!(rt; entities.find(b"/c".as_slice())?.as_slice().is_empty());
+    assert!(rt; entities.names(&process(5)).is_none());
+    match entities.names(&process(7)) {
+        Some([first, second]) => {
+            assert_eq!(rt; first.as_slice(), b"/a".as_slice());
+            assert_eq!(rt; second.as_slice(), b"/b".as_slice());
+        }
+        _ => assert!(rt; false),
+    }
+    Ok(())
+}
