@@ -1,5 +1,5 @@
 -- Moments of a log that is taken in pieces.
-use Rattle.std.proofs.Common.{◌≡◌, ◌≤◌, ◌<◌, ◌+◌, ◌-◌, ℕ, zero, suc, List, [], ◌∷◌, ◌++◌, map, length, take, drop, refl, ap, sym, arith, append_assoc, ◌∙◌, subst, Option, Some, None}
+use Rattle.std.proofs.Common.{◌≡◌, ◌≤◌, ◌<◌, ◌+◌, ◌-◌, ℕ, zero, suc, List, [], ◌∷◌, ◌++◌, map, length, take, drop, refl, ap, sym, arith, append_assoc, ◌∙◌, subst, Option, Some, None, min}
 use Rattle.std.proofs.Math.Seq.{take-add, drop-append_seam, take-append_seam}
 use Rattle.std.proofs.lemmas.List.{append-nil, length-drop, length-append, drop-drop, map-append, take_all as list_take_all}
 use Rattle.std.proofs.Math.ListN.{drop_of_length-le}
@@ -117,3 +117,7 @@ front_told buf q n count read short =
 pub none_found : (line : List ℕ) (found : Option Ask) → found ≡ ask_of line → ((asks : Ask) → ask_of line ≡ Some asks → ⊥) → None ≡ found
 none_found line None is none = refl
 none_found line (Some asks) is none = absurd (none asks (sym is))
+
+-- the lesser of two is no more than the second
+pub no_more : (least first second : ℕ) → least ≡ min first second → least ≤ second
+no_more least first second is = omega (arith, is)

@@ -7,7 +7,7 @@ use Rattle.audit_cli.specs.Dialogue.{input_full}
 use Rattle.audit_cli.specs.Course.{never}
 use Rattle.audit_cli.specs.Hearing.{Heard}
 use Rattle.audit_cli.specs.Listening.{PassesRoom}
-use Rattle.audit_cli.proofs.MomentLemmas.{told_read, front_told}
+use Rattle.audit_cli.proofs.MomentLemmas.{told_read, front_told, no_more}
 use Rattle.audit_cli.proofs.HearLemmas.{heard_none, heard_nothing, heard_longer, heard_weaker, heard_full, questions_pass, questions_closed}
 use Rattle.audit_cli.proofs.listen.listen.Goals as goal
 
@@ -73,7 +73,7 @@ returns-in-Ended-clause-closes g c = λ m h q at holds told.
     let read = told_read _ _ q _ c.in-Ok.count told c.in-Ok.ensures.bytes.0 (sym c.in-Ok.ensures.bound.1) in
     let same = front_told c.read.new.buf q c.min-allowed.result c.in-Ok.count read.1 (omega (arith, c.min-allowed.ensures)) in
     let heard = rw c.in-Ended.is at c.in_ok-hear.ensures.heard limits m h at holds in
-    questions_closed c.lines_stay.ensures.stay limits _ _ _ _ _ m h _ q c.min-allowed.result (limits.input - c.args.heard) same (omega (arith, c.min-allowed.ensures)) heard
+    questions_closed c.lines_stay.ensures.stay limits _ _ _ _ _ m h _ q c.min-allowed.result (limits.input - c.args.heard) same (no_more _ _ _ c.min-allowed.ensures) heard
 
 pub returns-in-Ended-clause-left : goal.returns-in-Ended-clause-left
 returns-in-Ended-clause-left g c = λ q told.

@@ -11,8 +11,8 @@ returns-in-Back-clause-talked g c = λ bytes asked told tells.
     rw c.in-Back.is (back_talked c.args.limits.now c.in-Back.of bytes asked _ _ _ _ c.back.result
     (c.back.ensures.talked c.args.limits.now bytes small (record { stands = c.new-engine.ensures; told = told })))
 
-pub returns-in-Watch-clause-talked : goal.returns-in-Watch-clause-talked
-returns-in-Watch-clause-talked g c = λ bytes asked told tells.
+pub returns-clause-talked : goal.returns-clause-talked
+returns-clause-talked g c = λ bytes asked told tells.
     let heard = rw c.in-Watch.is at tells in
     rw c.in-Watch.is (watch_talked c.args.limits.now _ _ bytes asked _ _ _ _ c.watch.result
     (c.watch.ensures.talked (begin bytes) asked (record { stands = c.new-engine.ensures; told = told }) heard))
@@ -20,8 +20,8 @@ returns-in-Watch-clause-talked g c = λ bytes asked told tells.
 pub returns-in-Back-clause-within : goal.returns-in-Back-clause-within
 returns-in-Back-clause-within g c = λ bytes asked told tells. rw c.in-Back.is (on_ok c.back.result _ tt)
 
-pub returns-in-Watch-clause-within : goal.returns-in-Watch-clause-within
-returns-in-Watch-clause-within g c = λ bytes asked told tells.
+pub returns-clause-within : goal.returns-clause-within
+returns-clause-within g c = λ bytes asked told tells.
     let heard = rw c.in-Watch.is at tells in
     rw c.in-Watch.is (c.watch.ensures.within (begin bytes) asked (record { stands = c.new-engine.ensures; told = told }) heard)
 
@@ -34,7 +34,7 @@ returns-in-Back-clause-whole g c = λ of bytes is told.
 pub returns-in-Back-clause-left : goal.returns-in-Back-clause-left
 returns-in-Back-clause-left g c = λ bytes asked told tells. rw c.in-Back.is (on_ok c.back.result _ tt)
 
-pub returns-in-Watch-clause-left : goal.returns-in-Watch-clause-left
-returns-in-Watch-clause-left g c = λ bytes asked told tells.
+pub returns-clause-left : goal.returns-clause-left
+returns-clause-left g c = λ bytes asked told tells.
     let heard = rw c.in-Watch.is at tells in
     rw c.in-Watch.is (c.watch.ensures.left (begin bytes) asked (record { stands = c.new-engine.ensures; told = told }) heard)
