@@ -39,6 +39,11 @@ const REACHED: &[u8] = b"{\"back\":2,\"ids\":[0,1,2]}\n";
 
 const NOTHING: &[u8] = b"";
 
+// The status at a limit of this number.
+fn full(limit: Limit, number: u64) -> Status {
+    Status::Full(Full { limit, number })
+}
+
 // The limits of the program, with these in place of four of them.
 fn limits(input: u64, entities: u32, records: usize, question: usize) -> Limits {
     let standard = Limits::standard();
@@ -281,99 +286,115 @@ fn the_longest_line_is_taken_and_a_longer_one_is_malformed(rt: HostRuntime) -> R
     Ok(())
 }
 
+// A log of the tables of limits: of no lines, of two events with a flow each, and of one event with three records.
+#[derive(Clone, Copy)]
+enum Log {
+    Empty,
+    TwoFlows,
+    OneEvent,
+}
+
+fn bytes_of(rt: &HostRuntime, log: Log) -> Result<Bytes, Fail> {
+    match log {
+        Log::Empty => Ok(Bytes::new(rt.alloc())),
+        Log::TwoFlows => joined(rt, &[FORK, WRITE, FEED]),
+        Log::OneEvent => joined(rt, &[FILE, FILE, FILE]),
+    }
+}
+
 #[test]
 fn a_limit_is_kept_on_both_sides(rt: HostRuntime) -> Result<(), Fail> {
-    let full = |limit, number| Status::Full(Full { limit, number });
     let rows = [
         // the whole log, and a byte more than may come
         (
-            limits(279, 3, 9, 99),
+            (279u64, 3u32, 9usize, 99usize),
             "back 2",
-            [FORK, WRITE, FEED].as_slice(),
+            Log::TwoFlows,
             b"".as_slice(),
             Status::Done,
             REACHED,
         ),
         (
-            limits(278, 3, 9, 99),
+            (278u64, 3u32, 9usize, 99usize),
             "back 2",
-            [FORK, WRITE, FEED].as_slice(),
+            Log::TwoFlows,
             b"".as_slice(),
             full(Limit::Input, 278),
             NOTHING,
         ),
         // the questions are counted apart from the log, and the lines before the limit are answered
         (
-            limits(279, 3, 9, 99),
+            (279u64, 3u32, 9usize, 99usize),
             "watch plain log",
-            [FORK, WRITE, FEED].as_slice(),
+            Log::TwoFlows,
             b"take 999\n".as_slice(),
             Status::Done,
             b"{\"take\":279}\n".as_slice(),
         ),
         (
-            limits(13, 3, 9, 99),
+            (13u64, 3u32, 9usize, 99usize),
             "watch plain log",
-            [].as_slice(),
+            Log::Empty,
             b"take 0\nbogus\n".as_slice(),
             Status::Done,
             b"{\"take\":0}\n{\"error\":\"BadQuestion\"}\n".as_slice(),
         ),
         (
-            limits(12, 3, 9, 99),
+            (12u64, 3u32, 9usize, 99usize),
             "watch plain log",
-            [].as_slice(),
+            Log::Empty,
             b"take 0\nbogus\n".as_slice(),
             full(Limit::Input, 12),
             b"{\"take\":0}\n".as_slice(),
         ),
         // `end` within the limit leaves nothing past it
         (
-            limits(4, 3, 9, 99),
+            (4u64, 3u32, 9usize, 99usize),
             "watch plain log",
-            [].as_slice(),
+            Log::Empty,
             b"end\ntake 0\n".as_slice(),
             Status::Done,
             b"{\"end\":true}\n".as_slice(),
         ),
         // the third object comes with the second event
         (
-            limits(999, 2, 9, 99),
+            (999u64, 2u32, 9usize, 99usize),
             "back 2",
-            [FORK, WRITE, FEED].as_slice(),
+            Log::TwoFlows,
             b"".as_slice(),
             full(Limit::Entities, 2),
             NOTHING,
         ),
         (
-            limits(999, 2, 9, 99),
+            (999u64, 2u32, 9usize, 99usize),
             "watch plain log",
-            [FORK, WRITE, FEED].as_slice(),
+            Log::TwoFlows,
             b"take 999\nsettle\nback 0\n".as_slice(),
             full(Limit::Entities, 2),
             b"{\"take\":279}\n".as_slice(),
         ),
         // records in excess
         (
-            limits(999, 2, 2, 99),
+            (999u64, 2u32, 2usize, 99usize),
             "watch plain log",
-            [FILE, FILE, FILE].as_slice(),
+            Log::OneEvent,
             b"take 999\nstat\n".as_slice(),
             Status::Done,
             b"{\"take\":246}\n{\"blank\":0,\"bytes\":246,\"events\":0,\"excess\":1,\"flows\":0,\"kept\":0,\"known\":0,\"late\":0,\"lines\":3,\"malformed\":0,\"malformed_lines\":[],\"other\":0,\"unmapped\":0,\"used\":3,\"waiting\":1}\n".as_slice(),
         ),
         // a question of as many bytes as it may have, and a longer one
         (
-            limits(999, 2, 9, 6),
+            (999u64, 2u32, 9usize, 6usize),
             "watch plain log",
-            [].as_slice(),
+            Log::Empty,
             b"take 0\ntake 00\n".as_slice(),
             Status::Done,
             b"{\"take\":0}\n{\"error\":\"BadQuestion\"}\n".as_slice(),
         ),
     ];
-    for (limits, words, lines, asked, status, text) in rows {
-        let log = joined(&rt, lines)?;
+    for (most, words, log, asked, status, text) in rows {
+        let limits = limits(most.0, most.1, most.2, most.3);
+        let log = bytes_of(&rt, log)?;
         let asked = Bytes::from_slice(rt.alloc(), asked)?;
         let (ended, written) = run(&rt, &limits, words, log, asked)?;
         assert_eq!(rt; ended, status, "{words}");
