@@ -1,11 +1,11 @@
 //! The tables of continuous mode.
-ghost use Rattle.std.specs.Prelude.{◌≡◌, ◌≢◌, ℕ, ◌≤◌, ◌+◌, [], List, Some, OnOk, nat_eq};
+ghost use Rattle.std.specs.Prelude.{◌≡◌, ◌≢◌, ℕ, ◌≤◌, ◌+◌, ◌∷◌, ◌++◌, [], List, length, Some, OnOk, nat_eq};
 ghost use Rattle.flow_base.specs.declared.types.Flow.{Flow as AFlow};
 ghost use Rattle.indexmap.specs.IndexMap.{IsUnchanged, get, spare};
-ghost use Rattle.reach_model.specs.Flows.{place};
 ghost use Rattle.reach_model.specs.Rows.{Row as ARow};
 ghost use Rattle.reach_model.specs.declared.modes.Mode.TheVariants.{Continuous as ContinuousMode};
-ghost use Rattle.reach_rows.specs.Kept.{ComesAfter};
+ghost use Rattle.reach_rows.specs.Kept.{ComesAfter, row_of_kept};
+ghost use Rattle.reach_rows.specs.Verdicts.{AreFew};
 ghost use Rattle.reduce_continuous.specs.Tables.{StandsFor, Holds, HasTables, HasRuns, HasRoom, Takes, Names, pair_eq};
 
 use crate::places::{Run, is_after, later, raise};
@@ -61,6 +61,84 @@ impl Continuous {
         set_run(&mut self.runs, (flow.from.0, flow.to.0), Run { row, place });
         set_place(&mut self.into, flow.to.0, place);
         set_place(&mut self.out, flow.from.0, place);
+    }
+
+    /// Takes in a row that was kept before, in the room that was made for it. The ends of such rows come in any order.
+    fn put_back(&mut self, row: &Row)
+        requires { HasRoom self.old 1 }
+        ensures rows { (R : List ARow) → StandsFor self.old R → AreFew R → StandsFor self.new (R ++ row_of_kept row.now ∷ []) }
+        ensures holds { (R : List ARow) → Holds self.old R → AreFew R → Holds self.new (R ++ row_of_kept row.now ∷ []) }
+    {
+        let (from, to) = (row.from.0, row.to.0);
+        let place = row.last.at.place;
+        let new = Run {
+            row: self.count,
+            place,
+        };
+        let run = later(self.runs.get(&(from, to)), new);
+        let into = raise(self.into.get(&to), place);
+        let out = raise(self.out.get(&from), place);
+        set_run(&mut self.runs, (from, to), run);
+        set_place(&mut self.into, to, into);
+        set_place(&mut self.out, from, out);
+        self.count = self.count.saturating_add(1);
+    }
+}
+
+impl Reducer for Continuous {
+    ghost mode = { ContinuousMode };
+
+    ghost stands_for = { StandsFor };
+
+    ghost holds = { Holds };
+
+    ghost covers = { λ s flows. HasRoom s (length flows) };
+
+    fn mode(&self) -> Mode {
+        Mode::Continuous
+    }
+
+    fn allowed(&self, _question: &Question, _first: First) -> bool {
+        true
+    }
+
+    fn decide(&self, flow: &Flow) -> Verdict {
+        match self.runs.get(&(flow.from.0, flow.to.0)) {
+            None => Verdict::Add,
+            Some(run) => {
+                let into = is_after(self.into.get(&flow.from.0), run.place);
+                let out = is_after(self.out.get(&flow.to.0), run.place);
+                if into {
+                    return Verdict::Add;
+                }
+                if out {
+                    return Verdict::Add;
+                }
+                Verdict::Extend { row: run.row }
+            }
+        }
+    }
+
+    fn reserve(&mut self, flows: &[Flow]) -> Result<(), NoMemory> {
+        self.grow(flows.len())
+    }
+
+    fn note(&mut self, flow: &Flow, verdict: Verdict) {
+        match verdict {
+            Verdict::Drop => {}
+            Verdict::Add => {
+                let row = self.count;
+                self.put(flow, row);
+                self.count = row.saturating_add(1);
+            }
+            Verdict::Extend { row } => self.put(flow, row),
+        }
+    }
+
+    fn recall(&mut self, row: &Row) -> Result<(), NoMemory> {
+        self.grow(1)?;
+        self.put_back(row);
+        Ok(())
     }
 }
 
