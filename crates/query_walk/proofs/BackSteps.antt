@@ -8,10 +8,7 @@ use Rattle.reach_model.specs.Paths.{Path, IsUntil, Back}
 use Rattle.reach_model.proofs.Members.{Contains-cons_cases}
 use Rattle.reach_model.proofs.PathLemmas.{path_weaker, path_later}
 use Rattle.reach_model.proofs.Within.{Among}
-
--- the places of a list ascend
-abbrev pub DoAscend : List Flow → Type 0
-DoAscend K = (i j : ℕ) (d : Flow) → i < j → j < length K → place (get_or K i d) < place (get_or K j d)
+use Rattle.query_walk.specs.Walks.{DoAscend}
 
 -- by no flows an object is reached from itself alone
 pub back_none : (v : ℕ) (t : Option ℕ) (u : ℕ) → Back [] v t u ↔ (u ≡ v)

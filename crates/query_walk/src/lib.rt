@@ -7,7 +7,9 @@
 
 mod back;
 mod fault;
+mod fore;
 mod marks;
 
 pub use back::backward;
 pub use fault::WalkFault;
+pub use fore::forward;

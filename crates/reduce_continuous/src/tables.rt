@@ -18,10 +18,10 @@ use std::alloc::Global;
 /// The last row of each pair, and the places of the last flows into and out of each object.
 #[derive(Drop)]
 pub struct Continuous {
-    pub count: u64,
-    pub runs: IndexMap<(u32, u32), Run>,
-    pub into: IndexMap<u32, u64>,
-    pub out: IndexMap<u32, u64>,
+    count: u64,
+    runs: IndexMap<(u32, u32), Run>,
+    into: IndexMap<u32, u64>,
+    out: IndexMap<u32, u64>,
 }
 
 impl Continuous {
