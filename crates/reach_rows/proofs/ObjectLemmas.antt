@@ -1,18 +1,16 @@
 -- What is known of each object, after one more row.
-use Rattle.std.proofs.Common.{◌≡◌, ◌≢◌, ℕ, suc, ◌+◌, ◌<◌, ◌≤◌, max, List, [], ◌∷◌, ◌++◌, length, get_or, set, Option, Some, None, Bool, true, false, refl, sym, ap, subst, ◌∙◌, arith, inl, inr, ◌==◌}
-use Rattle.std.specs.List.{Contains}
-use Rattle.std.specs.Option.{option_or}
-use Rattle.std.proofs.lemmas.List.{get_or_append_left, get_or_push, length-append, length-set, get_or-set_same, get_or-set_other, get_or_default}
-use Rattle.std.proofs.lemmas.List.Elements.{Contains-push_cases, Contains-get_or}
+use Rattle.std.proofs.Common.{◌≡◌, ◌≢◌, ℕ, ◌+◌, ◌<◌, ◌≤◌, List, [], ◌∷◌, ◌++◌, length, get_or, set, Option, Some, None, true, false, refl, sym, subst, ◌∙◌, arith, inl, inr}
+use Rattle.std.proofs.lemmas.List.{get_or_append_left, get_or_push, length-append, length-set, get_or-set_same, get_or-set_other}
+use Rattle.std.proofs.lemmas.List.Elements.{Contains-push_cases}
 use Rattle.std.proofs.lemmas.Bool.{cases_eq, cases_lt, eq-eqb, ne_eqb}
 use Rattle.flow_base.specs.declared.types.Flow.{Flow}
 use Rattle.reach_model.specs.Flows.{source, target}
-use Rattle.reach_model.specs.Numbers.{known, beyond}
+use Rattle.reach_model.specs.Numbers.{known}
 use Rattle.reach_model.specs.Sources.{first_at}
 use Rattle.reach_model.proofs.Numbering.{known_push, ends_known}
 use Rattle.reach_model.proofs.Exists.{first_member, first_touches}
 use Rattle.reach_model.proofs.FirstFlows.{touched, first_new, known_or_not, touches_source, touches_target, first_stays}
-use Rattle.reach_rows.specs.Kept.{IsFirstOf, IsLastAt, IsLastOf, Enters, Leaves}
+use Rattle.reach_rows.specs.Kept.{IsFirstOf, IsLastOf, Enters, Leaves}
 use Rattle.reach_rows.specs.Objects.{IsObject, AreObjects, HasLeft}
 use Rattle.reach_rows.specs.declared.questions.First.{First}
 use Rattle.reach_rows.specs.declared.objects.Object.{Object}

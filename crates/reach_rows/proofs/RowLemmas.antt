@@ -1,5 +1,5 @@
 -- Lists of rows, after one more row and after a row goes on.
-use Rattle.std.proofs.Common.{◌≡◌, ◌≢◌, ℕ, suc, ◌+◌, ◌^◌, ◌<◌, ◌≤◌, max, List, [], ◌∷◌, ◌++◌, length, get_or, set, take, map, refl, sym, ap, subst, ◌∙◌, arith, inl, inr}
+use Rattle.std.proofs.Common.{◌≡◌, ◌≢◌, ℕ, ◌^◌, ◌<◌, ◌≤◌, List, [], ◌∷◌, ◌++◌, length, get_or, set, take, map, refl, sym, ap, subst, ◌∙◌, arith, inl, inr}
 use Rattle.std.specs.List.{Contains}
 use Rattle.std.proofs.lemmas.List.{get_or_append_left, get_or_push, length-append, length-set, length-map, get_or-set_same, get_or-set_other, map-append, map-set, get_or-map, take-append-le}
 use Rattle.std.proofs.lemmas.List.Elements.{Contains-push_cases, Contains-get_or}
@@ -11,9 +11,9 @@ use Rattle.reach_model.specs.Flows.{source, target, time, place}
 use Rattle.reach_model.specs.Numbers.{known, IsNumbered}
 use Rattle.reach_model.specs.Rows.{Row, SamePair, firsts, lasts, row_of, rows_after}
 use Rattle.reach_model.proofs.Members.{Contains-map, from_map}
-use Rattle.reach_model.proofs.Numbering.{known_push, ends_known, numbered_push}
+use Rattle.reach_model.proofs.Numbering.{ends_known, numbered_push}
 use Rattle.reach_model.proofs.Redundant.{set_cases}
-use Rattle.reach_rows.specs.Kept.{AreRows, ComesAfter, GoesOn, row_of_kept, IsLastOf, IsRowAt, Enters, Leaves}
+use Rattle.reach_rows.specs.Kept.{AreRows, ComesAfter, GoesOn, row_of_kept, IsRowAt}
 use Rattle.reach_rows.specs.InMemory.{AreKept, HasLinks}
 use Rattle.reach_rows.specs.Objects.{AreObjects}
 use Rattle.reach_rows.specs.declared.objects.Object.{Object}

@@ -1,5 +1,5 @@
 -- Rows in memory, as contracts see them.
-use Rattle.std.specs.Prelude.{◌≡◌, ℕ, ◌*◌, ◌<◌, ◌≤◌, ◌^◌, List, length, map, take, slice_index_or}
+use Rattle.std.specs.Prelude.{ℕ, ◌*◌, ◌<◌, ◌≤◌, ◌^◌, List, length, map, take, slice_index_or}
 use Rattle.flow_base.specs.declared.types.Flow.{Flow}
 use Rattle.reach_model.specs.Rows.{Row, firsts}
 use Rattle.reach_rows.specs.Kept.{AreRows, row_of_kept, IsLastOf, Enters, Leaves}

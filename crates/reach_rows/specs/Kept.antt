@@ -1,5 +1,5 @@
 -- Lists of rows, and how the code's rows are read as such.
-use Rattle.std.specs.Prelude.{◌≡◌, ◌≢◌, ℕ, suc, ◌<◌, ◌≤◌, ◌^◌, max, List, length, take, map, slice_index_or, Option, Some, None, Bool, ◌==◌}
+use Rattle.std.specs.Prelude.{◌≡◌, ◌≢◌, ℕ, suc, ◌<◌, ◌≤◌, ◌^◌, max, List, length, take, slice_index_or, Option, Some, None, ◌==◌}
 use Rattle.std.specs.List.{Contains}
 use Rattle.flow_base.specs.declared.types.Flow.{Flow}
 use Rattle.reach_model.specs.Flows.{source, target, time, place}

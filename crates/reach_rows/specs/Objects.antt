@@ -1,7 +1,7 @@
 -- What rows in memory keep of each object.
 use Rattle.std.specs.Prelude.{◌≡◌, ◌≢◌, ℕ, suc, ◌<◌, max, List, [], ◌∷◌, ◌++◌, length, slice_index_or}
 use Rattle.flow_base.specs.declared.types.Flow.{Flow}
-use Rattle.reach_model.specs.Flows.{source, target}
+use Rattle.reach_model.specs.Flows.{source}
 use Rattle.reach_model.specs.Numbers.{known}
 use Rattle.reach_rows.specs.Kept.{IsFirstOf, IsLastOf, Enters, Leaves}
 use Rattle.reach_rows.specs.declared.objects.Object.{Object}

@@ -1,9 +1,9 @@
-use Rattle.std.proofs.Common.{◌≡◌, ◌≢◌, ℕ, sym, ap, subst, ◌∙◌, Some, inl, inr, refl}
+use Rattle.std.proofs.Common.{◌≡◌, sym, subst, ◌∙◌, inl, inr, refl}
 use Rattle.std.specs.Prelude.{nat_eq}
 use Rattle.std.proofs.lemmas.Bool.{cases_eq}
 use Rattle.indexmap.specs.IndexMap.{get}
 use Rattle.flow_base.specs.declared.types.Flow.{Flow}
-use Rattle.reach_model.specs.Flows.{source, target, place}
+use Rattle.reach_model.specs.Flows.{source, target}
 use Rattle.reduce_continuous.specs.Tables.{IsRun, IsGreatest, MayName, pair_eq}
 use Rattle.reduce_continuous.proofs.Noting.{pair_cases, greatest_here, greatest_there, run_here, run_there, names_here, names_there}
 use Rattle.reduce_continuous.proofs.tables.Continuous.put.Goals as goal

@@ -1,8 +1,8 @@
-use Rattle.std.proofs.Common.{◌+◌, arith, List, [], ◌∷◌, ◌++◌, length, sym, subst, ◌∙◌}
+use Rattle.std.proofs.Common.{arith, [], ◌∷◌, ◌++◌, sym, subst, ◌∙◌}
 use Rattle.std.proofs.lemmas.List.{length-append, length-set}
 use Rattle.reach_model.specs.declared.modes.Mode.TheVariants.{Continuous as ContinuousMode}
 use Rattle.reach_model.specs.declared.modes.Verdict.TheVariants.{Extend}
-use Rattle.reach_model.specs.Rows.{Row, row_of, rows_after}
+use Rattle.reach_model.specs.Rows.{row_of, rows_after}
 use Rattle.reach_model.specs.ByRows.{IsVerdictByRows}
 use Rattle.reduce_continuous.specs.Tables.{StandsFor, Takes}
 use Rattle.reduce_continuous.proofs.Noting.{adds, extends}
