@@ -1,3 +1,5 @@
+ghost use Rattle.std.specs.Prelude.{◌≡◌, IfOk};
+
 use crate::table::Table;
 use flow_base::{EntityId, Flow, How, List, NoMemory, Stamp};
 use query_walk::{WalkFault, backward, forward};
@@ -34,7 +36,9 @@ fn row(written: Written) -> Row {
 }
 
 /// A table of rows between so many objects.
-fn table(alloc: Global, written: &[Written], known: u32) -> Result<Table, NoMemory> {
+fn table(alloc: Global, written: &[Written], known: u32) -> Result<Table, NoMemory>
+    ensures { IfOk result (λ made. made.known ≡ known) }
+{
     let mut rows = Vec::new(alloc);
     for written in written {
         rows.push(row(*written))?;
