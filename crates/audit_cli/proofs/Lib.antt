@@ -1,10 +1,8 @@
-pub mod Ats
-pub mod Dues
-pub mod Entering
-pub mod Floats
-pub mod Going
-pub mod KeyNumbers
-pub mod LawfulFlows
-pub mod Numbers
-pub mod Stopping
-pub mod Within
+mod BackLemmas
+mod ExactLemmas
+mod HearLemmas
+mod JobLemmas
+mod ListenLemmas
+mod MomentLemmas
+mod Numbers
+mod TalkLemmas

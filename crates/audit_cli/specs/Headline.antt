@@ -1,79 +1,98 @@
--- What a run over a log writes, and how it ends.
-use Rattle.std.specs.Prelude.{◌≡◌, ⊤, ℕ, List, [], ◌∷◌, ◌++◌, length, take, Option, None, Some}
+-- What a run writes, and how it ends.
+use Rattle.std.specs.Prelude.{◌≡◌, ◌⊎◌, ⊤, ℕ, List, [], ◌∷◌, ◌++◌, length, Option, None, Some}
 use Rattle.std.specs.Io.KnownBytes.{Appends}
 use Rattle.flow_base.specs.declared.limits.Limits.{Limits}
-use Rattle.flow_base.specs.declared.types.EntityId.{EntityId}
-use Rattle.flow_base.specs.declared.types.Flow.{Flow}
-use Rattle.audit_lex.specs.History.{Settle, with_bytes}
-use Rattle.audit_cli.specs.declared.call_line.Call.{Call}
-use Rattle.audit_cli.specs.declared.halt.Halt.TheVariants as halt
-use Rattle.audit_cli.specs.declared.reply.Reply.{Reply}
-use Rattle.audit_cli.specs.declared.status.Status.{Status}
-use Rattle.audit_cli.specs.declared.status.Status.TheVariants as status
+use Rattle.flow_base.specs.declared.limits.Full.{Full}
+use Rattle.report_json.specs.declared.ask.Ask.{Ask}
+use Rattle.report_json.specs.declared.ask.Ask.TheVariants as ask
+use Rattle.report_json.specs.declared.questions.Question.TheVariants as question
+use Rattle.report_json.specs.declared.reply.Reply.{Reply}
+use Rattle.report_json.specs.Replies.{text_of}
+use Rattle.ingest.specs.Stops.{Fits}
+use Rattle.audit_cli.specs.declared.words.Job.{Job}
 use Rattle.audit_cli.specs.declared.words.Job.TheVariants as job
 use Rattle.audit_cli.specs.Words.{job_of}
-use Rattle.audit_cli.specs.Lines.{calls_of}
-use Rattle.audit_cli.specs.Logs.{stop_of}
-use Rattle.audit_cli.specs.Replies.{IsReply, text_of}
-use Rattle.audit_cli.specs.Stage.{objects, flows}
-use Rattle.audit_cli.specs.Taking.{newest_lines}
+use Rattle.audit_cli.specs.Dialogue.{Moment, Dialogue, IsFront, HistoryStops, QuestionsStop, ReadsNoFurther, begin, asks, lines_in, texts}
 
--- the lines of a log, the last one ended by the log's end; the newest first
-abbrev pub lines_in : List ℕ → List (List ℕ)
-lines_in bytes = newest_lines (with_bytes [] bytes ++ Settle ∷ [])
+-- what `back` asks: to take all of the log, to settle, and what the object can have come from
+abbrev pub back_questions : ℕ → List ℕ → List (Option Ask)
+back_questions of log =
+    Some (ask.Take (length log)) ∷ Some ask.Settle ∷ Some (ask.Question (question.Back (record { 0 = of }) None)) ∷ []
 
--- the calls that all lines of a log tell, the newest first
-abbrev pub calls_in : Limits → List ℕ → List Call
-calls_in limits bytes = calls_of limits.line (lines_in bytes)
+-- what a job asks, over a log and a text of questions
+abbrev pub questions_of : Limits → Job → (log asked : List ℕ) → List (Option Ask)
+questions_of limits (job.Back of) log asked = back_questions of log
+questions_of limits (job.Watch mode name) log asked = asks limits (lines_in asked)
 
--- the flows of all lines of a log
-abbrev pub flows_in : Limits → List ℕ → List Flow
-flows_in limits bytes = flows (calls_in limits bytes)
+-- the source of the questions tells them, where the job has questions
+abbrev pub Tells : Job → Option (List ℕ) → List ℕ → Type 0
+Tells (job.Back of) left asked = ⊤
+Tells (job.Watch mode name) left asked = left ≡ Some asked
 
--- how many objects they know
-abbrev pub known_in : Limits → List ℕ → ℕ
-known_in limits bytes = length (objects (calls_in limits bytes))
+-- the claim holds of the job that the words name and of the bytes that the log and the questions tell
+abbrev pub WhereTold : List (List ℕ) → (log questions : Option (List ℕ)) → (Job → List ℕ → List ℕ → Type 0) → Type 0
+WhereTold words log questions claim =
+    (done : Job) (bytes asked : List ℕ) → job_of words ≡ Some done → log ≡ Some bytes → Tells done questions asked → claim done bytes asked
 
--- the claim holds of the object that the words ask about and of the bytes that the log tells
-abbrev pub WhereTold : List (List ℕ) → Option (List ℕ) → (EntityId → List ℕ → Type 0) → Type 0
-WhereTold words left claim = (of : EntityId) (bytes : List ℕ) → job_of words ≡ Some (job.Back of.0) → left ≡ Some bytes → claim of bytes
+-- the bytes are the text of the last reply alone
+pub record IsLast (limits : Limits) (from : Moment) (questions : List (Option Ask)) (bytes : List ℕ) (to : Moment) : Type 0 where
+  pub said : List Reply
+  pub last : Reply
+  pub dialogue : Dialogue limits from questions (said ++ last ∷ []) to
+  pub bytes_are : bytes ≡ text_of last
 
--- a reply to `back` over the flows of all lines of the log
-abbrev pub Answers : Limits → List ℕ → EntityId → Reply → Type 0
-Answers limits bytes of reply = IsReply (known_in limits bytes) (flows_in limits bytes) of reply
+-- the bytes are the texts of all replies
+pub record AreAll (limits : Limits) (from : Moment) (questions : List (Option Ask)) (bytes : List ℕ) (to : Moment) : Type 0 where
+  pub said : List Reply
+  pub dialogue : Dialogue limits from questions said to
+  pub bytes_are : bytes ≡ texts said
 
--- the bytes that were written are the text of such a reply
-pub record WritesReply (limits : Limits) (bytes : List ℕ) (of : EntityId) (old new : Option (List ℕ)) : Type 0 where
-  pub reply : Reply
-  pub answers : Answers limits bytes of reply
-  pub wrote : Appends old new (text_of reply)
+-- the bytes are a front of the last reply's text
+pub record IsLastFront (limits : Limits) (from : Moment) (questions : List (Option Ask)) (bytes : List ℕ) : Type 0 where
+  pub to : Moment
+  pub more : List ℕ
+  pub last : IsLast limits from questions (bytes ++ more) to
 
--- the bytes that were written are a front of the text of such a reply
-pub record WritesFront (limits : Limits) (bytes : List ℕ) (of : EntityId) (old new : Option (List ℕ)) : Type 0 where
-  pub reply : Reply
-  pub answers : Answers limits bytes of reply
-  pub done : ℕ
-  pub wrote : Appends old new (take done (text_of reply))
+-- the bytes are what the job writes, and this moment is its end: `back` writes the last reply, `watch` all of them
+abbrev pub Writes : Limits → Job → (log asked bytes : List ℕ) → Moment → Type 0
+Writes limits (job.Back of) log asked bytes to = IsLast limits (begin log) (questions_of limits (job.Back of) log asked) bytes to
+Writes limits (job.Watch mode name) log asked bytes to = AreAll limits (begin log) (questions_of limits (job.Watch mode name) log asked) bytes to
 
--- with status Done the whole reply is written, with WriteFault a front of it, and with any other status nothing
-abbrev pub Writes : Limits → List ℕ → EntityId → (old new : Option (List ℕ)) → Status → Type 0
-Writes limits bytes of old new status.Done = WritesReply limits bytes of old new
-Writes limits bytes of old new status.WriteFault = WritesFront limits bytes of old new
-Writes limits bytes of old new _ = Appends old new []
+-- the bytes are a front of what the job would write
+abbrev pub WritesFront : Limits → Job → (log asked bytes : List ℕ) → Type 0
+WritesFront limits (job.Back of) log asked bytes = (bytes ≡ []) ⊎ IsLastFront limits (begin log) (questions_of limits (job.Back of) log asked) bytes
+WritesFront limits (job.Watch mode name) log asked bytes = IsFront limits (begin log) (questions_of limits (job.Watch mode name) log asked) bytes
 
--- the status is the one that the log has: that of its first stop, or Done where nothing stops the run. Want of memory and
--- faults of devices may come in place of it
-abbrev pub Ends : Limits → List ℕ → Status → Type 0
-Ends limits bytes status.Done = stop_of limits bytes ≡ None
-Ends limits bytes status.BadWords = ⊥
-Ends limits bytes status.NoMemory = ⊤
-Ends limits bytes status.ReadFault = ⊤
-Ends limits bytes status.WriteFault = stop_of limits bytes ≡ None
-Ends limits bytes (status.Full full) = stop_of limits bytes ≡ Some (halt.Full full)
-Ends limits bytes (status.Unbuilt line) = stop_of limits bytes ≡ Some (halt.Unbuilt line)
+-- the history would pass this limit at one of the questions, or the questions the limit on input
+abbrev pub PassesLimit : Limits → Job → (log asked : List ℕ) → Full → Type 0
+PassesLimit limits (job.Back of) log asked full = HistoryStops limits (begin log) (questions_of limits (job.Back of) log asked) full
+PassesLimit limits (job.Watch mode name) log asked full =
+    HistoryStops limits (begin log) (questions_of limits (job.Watch mode name) log asked) full ⊎ QuestionsStop limits (begin log) asked full
 
--- each fault of a device has its cause
-abbrev pub StatusCause : (read write : Type 0) → Status → Type 0
-StatusCause read write status.ReadFault = read
-StatusCause read write status.WriteFault = write
-StatusCause read write _ = ⊤
+-- no limit would be passed
+abbrev pub PassesNone : Limits → Job → (log asked : List ℕ) → Type 0
+PassesNone limits done log asked = (full : Full) → ¬ PassesLimit limits done log asked full
+
+-- the history is within the limits, and the log is left as the dialogue left it
+pub record Ends (limits : Limits) (left : Option (List ℕ)) (to : Moment) : Type 0 where
+  pub within : Fits limits to.history
+  pub told : left ≡ Some to.log
+
+-- the bytes that were written are what the job writes, up to this end
+pub record Finished (limits : Limits) (job : Job) (log asked : List ℕ) (left old new : Option (List ℕ)) : Type 0 where
+  pub to : Moment
+  pub bytes : List ℕ
+  pub wrote : Appends old new bytes
+  pub writes : Writes limits job log asked bytes to
+  pub ends : Ends limits left to
+
+-- the bytes that were written are a front of what the job would write
+pub record Written (limits : Limits) (job : Job) (log asked : List ℕ) (old new : Option (List ℕ)) : Type 0 where
+  pub bytes : List ℕ
+  pub wrote : Appends old new bytes
+  pub front : WritesFront limits job log asked bytes
+
+-- where the job has questions, they are read no further than to `end`
+abbrev pub LeavesQuestions : Limits → Job → (log asked : List ℕ) → Option (List ℕ) → Type 0
+LeavesQuestions limits (job.Back of) log asked left = ⊤
+LeavesQuestions limits (job.Watch mode name) log asked left = ReadsNoFurther limits (begin log) asked left

@@ -1,5 +1,5 @@
 -- How a run ended: numbers and texts.
-use Rattle.std.specs.Prelude.{ℕ, ◌++◌, List, [], Result, Ok, Err, codes, decimal}
+use Rattle.std.specs.Prelude.{⊤, ℕ, ◌++◌, List, [], Result, Ok, Err, codes, decimal}
 use Rattle.flow_base.specs.declared.limits.Limit.{Limit}
 use Rattle.flow_base.specs.declared.limits.Limit.TheVariants as limit
 use Rattle.audit_cli.specs.declared.halt.Halt.{Halt}
@@ -15,7 +15,6 @@ number_of status.NoMemory = 3
 number_of status.ReadFault = 4
 number_of status.WriteFault = 5
 number_of (status.Full full) = 9
-number_of (status.Unbuilt line) = 11
 
 -- the name of a limit
 abbrev pub limit_name : Limit → List ℕ
@@ -33,7 +32,6 @@ text_of status.NoMemory = codes "no memory"
 text_of status.ReadFault = codes "read fault"
 text_of status.WriteFault = codes "write fault"
 text_of (status.Full full) = codes "full: " ++ (limit_name full.limit ++ (codes " " ++ decimal full.number))
-text_of (status.Unbuilt line) = codes "unbuilt line " ++ decimal line
 
 -- the status of a run
 abbrev pub status_for : Result Unit Halt → Status
@@ -42,4 +40,9 @@ status_for (Err halt.NoMemory) = status.NoMemory
 status_for (Err halt.ReadFault) = status.ReadFault
 status_for (Err halt.WriteFault) = status.WriteFault
 status_for (Err (halt.Full full)) = status.Full full
-status_for (Err (halt.Unbuilt number)) = status.Unbuilt number
+
+-- each fault of a device in a status has its cause
+abbrev pub StatusCause : (read write : Type 0) → Status → Type 0
+StatusCause read write status.ReadFault = read
+StatusCause read write status.WriteFault = write
+StatusCause read write _ = ⊤

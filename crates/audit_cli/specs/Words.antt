@@ -4,6 +4,8 @@ use Rattle.std.specs.List.{list_all}
 use Rattle.std.specs.Char.{is_ascii_digit}
 use Rattle.std.specs.Str.{bytes_eq}
 use Rattle.std.specs.Str.Parse.{digits_value}
+use Rattle.reach_model.specs.declared.modes.Mode.{Mode}
+use Rattle.reach_model.specs.declared.modes.Mode.TheVariants as mode
 use Rattle.audit_cli.specs.declared.words.Job.{Job}
 use Rattle.audit_cli.specs.declared.words.Job.TheVariants as job
 
@@ -17,9 +19,23 @@ id_of text =
 abbrev pub back_job : List ℕ → List ℕ → Option Job
 back_job word id = if bytes_eq word (codes "back") then option_map (λ of. job.Back of) (id_of id) else None
 
+-- a mode by its name
+abbrev pub mode_of : List ℕ → Option Mode
+mode_of word = if bytes_eq word (codes "plain") then Some mode.Plain else None
+
+-- a log has a name of at least one byte
+abbrev pub watch_of : Option Mode → List ℕ → Option Job
+watch_of None log = None
+watch_of (Some kept) log = if nat_lt 0 (length log) then Some (job.Watch kept log) else None
+
+-- `watch MODE LOG`
+abbrev pub watch_job : List ℕ → List ℕ → List ℕ → Option Job
+watch_job word kept log = if bytes_eq word (codes "watch") then watch_of (mode_of kept) log else None
+
 -- the job of the words, where they are a row of the table
 abbrev pub job_of : List (List ℕ) → Option Job
 job_of [] = None
 job_of (a ∷ []) = None
 job_of (a ∷ b ∷ []) = back_job a b
-job_of (a ∷ b ∷ c ∷ more) = None
+job_of (a ∷ b ∷ c ∷ []) = watch_job a b c
+job_of (a ∷ b ∷ c ∷ d ∷ more) = None

@@ -1,11 +1,10 @@
-//! Why a run stops before its end.
+//! Why a run stops before its end, and how far a dialogue has come.
 ghost use Rattle.std.specs.Prelude.{◌≡◌};
 ghost use Rattle.audit_cli.specs.declared.halt.Halt.TheVariants as halt;
-ghost use Rattle.audit_cli.specs.Lines.{halt_by};
-ghost use Rattle.audit_cli.specs.Logs.{HasCauses};
+ghost use Rattle.audit_cli.specs.Course.{halt_for};
 
-use crate::refusal::Refusal;
 use flow_base::{Full, NoMemory};
+use ingest::StopWhy;
 
 /// Why a run stops before its end.
 #[derive(Clone, Copy, Debug, PartialEq, Eq)]
@@ -14,8 +13,6 @@ pub enum Halt {
     ReadFault,
     WriteFault,
     Full(Full),
-    /// This line, numbered from 1 on, isn't one that the stage takes.
-    Unbuilt(u64),
 }
 
 impl From<NoMemory> for Halt {
@@ -26,14 +23,30 @@ impl From<NoMemory> for Halt {
     }
 }
 
-/// The halt where a line of this number is refused.
-pub fn halt_at(number: u64, why: Refusal) -> Halt
-    ensures halt { result ≡ halt_by number why }
-    ensures causes { HasCauses ⊥ ⊥ result }
+/// Why the engine stopped, as a halt.
+pub fn halt_of(why: StopWhy) -> Halt
+    ensures { result ≡ halt_for why }
 {
     match why {
-        Refusal::NoMemory => Halt::NoMemory,
-        Refusal::Unbuilt => Halt::Unbuilt(number),
-        Refusal::Full(full) => Halt::Full(full),
+        StopWhy::NoMemory => Halt::NoMemory,
+        StopWhy::Full(full) => Halt::Full(full),
     }
+}
+
+/// Whether a question ended the dialogue.
+#[derive(Clone, Copy, Debug, PartialEq, Eq)]
+pub enum Turn {
+    More,
+    Ended,
+}
+
+/// What a read of the questions brought.
+#[derive(Clone, Copy, Debug, PartialEq, Eq)]
+pub enum Heed {
+    /// So many bytes, all of them heard.
+    Piece(usize),
+    /// The end of the dialogue.
+    Ended,
+    /// No byte: the questions are over.
+    Silence,
 }

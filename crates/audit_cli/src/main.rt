@@ -1,48 +1,73 @@
 //! The program: which objects an object's contents can have come from, over the audit log of a host.
 //!
 //!     audit_cli back ID < LOG
+//!     audit_cli watch plain LOG < QUESTIONS
 //!
-//! `audit_main` is the whole of it over any source and sink, and its contract is the theorem. `main` makes the real
+//! `audit_main` is the whole of it over any sources and sink, and its contract is the theorem. `main` makes the real
 //! ones, says on standard error how a run ended that wasn't done, and ends with the status's number.
 #![tactic(auto)]
 
-mod answer;
-mod call_line;
+mod back;
 mod halt;
-mod laws;
+mod hear;
+mod listen;
 mod log;
-mod real;
-mod refusal;
-mod reply;
 mod run;
-mod stage;
 mod status;
-mod taking;
 #[cfg(test)]
 mod tests;
+mod turn;
 mod words;
 
-pub use laws::{fields_of_calls_are_there, runs_stop_at_the_first_line};
+use flow_base::Bytes;
 use outside::put_all;
-use real::{Reading, Writing};
-pub use reply::Reply;
+use outside_real::{Reading, Writing, open_log};
 pub use run::{audit_main, audit_run};
 pub use status::{Status, status_number, status_text};
+use std::fs::File;
 use std::process::ExitCode;
-use std::{env, io};
+use std::{env, io, str};
 pub use words::{Job, WordsFault, read_words};
 
 fn main(rt: HostRuntime) -> ExitCode {
     let status = match arguments(&rt) {
-        Ok(words) => {
-            let mut log = Reading::new(rt.stdin());
-            let mut out = Writing::new(rt.stdout());
-            audit_main(rt.alloc(), words.as_slice(), &mut log, &mut out)
-        }
+        Ok(words) => audited(&rt, words.as_slice()),
         Err(status) => status,
     };
     report(&rt, &status);
     ExitCode::from(status_number(&status))
+}
+
+// Does what the words say, with the log and the questions that their job has.
+fn audited(rt: &HostRuntime, words: &[String]) -> Status {
+    let alloc = rt.alloc();
+    let mut out = Writing::new(rt.stdout());
+    match read_words(alloc, words) {
+        Err(WordsFault::NoMemory) => Status::NoMemory,
+        Err(WordsFault::BadWords) => {
+            let mut log: Reading<File> = Reading::unopened();
+            let mut questions: Reading<File> = Reading::unopened();
+            audit_main(alloc, words, &mut log, &mut questions, &mut out)
+        }
+        Ok(Job::Back(_)) => {
+            let mut log = Reading::new(rt.stdin());
+            let mut questions: Reading<File> = Reading::unopened();
+            audit_main(alloc, words, &mut log, &mut questions, &mut out)
+        }
+        Ok(Job::Watch { mode: _, log: name }) => {
+            let mut log = log_named(rt, &name);
+            let mut questions = Reading::new(rt.stdin());
+            audit_main(alloc, words, &mut log, &mut questions, &mut out)
+        }
+    }
+}
+
+// The file of this name, opened for reading.
+fn log_named(rt: &HostRuntime, name: &Bytes) -> Reading<File> {
+    match str::from_utf8(name.as_slice()) {
+        Ok(path) => open_log(rt, path),
+        Err(_) => Reading::unopened(),
+    }
 }
 
 // The words behind the program's own name. Words that aren't UTF-8 name no job.

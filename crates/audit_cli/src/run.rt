@@ -1,153 +1,131 @@
-//! The top call: from words, a log and a sink to a status.
-ghost use Rattle.std.specs.Prelude.{Option, ◌≡◌, ◌↔◌, ◌⊎◌, ◌^◌, List, ℕ, [], None, Some, length, map, take, string_bytes, OnOk, OnErr, IfOk, IfErr};
-ghost use Rattle.std.specs.Io.KnownBytes.{Appends};
+//! The top call: from words, a log, questions and a sink to a status.
+ghost use Rattle.std.specs.Prelude.{◌≡◌, ◌≢◌, ◌↔◌, ◌⊎◌, ◌^◌, ℕ, List, [], map, string_bytes, None, Some, OnOk, IfErr};
+ghost use Rattle.flow_base.specs.declared.limits.Full.{Full};
 ghost use Rattle.outside.specs.Cause.{Rose};
-ghost use Rattle.reach_model.specs.Numbers.{IsLawfulWith};
 ghost use Rattle.audit_cli.specs.declared.words.Job.{Job};
-ghost use Rattle.audit_cli.specs.declared.halt.Halt.{Halt};
 ghost use Rattle.audit_cli.specs.Words.{job_of};
-ghost use Rattle.audit_cli.specs.Tables.{StandsFor};
-ghost use Rattle.audit_cli.specs.Logs.{stop_of, MayHalt, HasCauses, GoesUp};
-ghost use Rattle.audit_cli.specs.Replies.{text_of, SaidInPart};
-ghost use Rattle.audit_cli.specs.Statuses.{status_for};
+ghost use Rattle.audit_cli.specs.Course.{HasCauses};
+ghost use Rattle.audit_cli.specs.Jobs.{JobTalked, KeepsLimit};
+ghost use Rattle.audit_cli.specs.Headline.{Tells, WhereTold, Finished, Written, PassesLimit, PassesNone, LeavesQuestions};
 ghost use Rattle.audit_cli.specs.Standard.{IsStandard, WithStandard};
-ghost use Rattle.audit_cli.specs.Headline.{WhereTold, calls_in, Answers, WritesReply, Writes, Ends, StatusCause};
+ghost use Rattle.audit_cli.specs.Statuses.{StatusCause};
 
-use crate::answer::answer;
+use crate::back::back;
 use crate::halt::Halt;
-use crate::log::take_log;
-use crate::reply::{Reply, reply_text};
-use crate::stage::Stage;
+use crate::listen::watch;
 use crate::status::{Status, status_of};
-use crate::taking::take_end;
 use crate::words::{Job, WordsFault, read_words};
-use audit_lex::LineCut;
-use flow_base::{EntityId, Limits, equal_keys_are_one};
-use outside::{Sink, Source, put_all};
-use reach_model::lawful_flows_grow;
+use flow_base::{EntityId, Limits};
+use ingest::{Ingest, stops_stay, what_fits_never_stops};
+use outside::{Sink, Source};
 use std::alloc::Global;
 
-// Takes a log whole.
-fn take_whole<L: Source>(alloc: Global, limits: &Limits, log: &mut L) -> Result<Stage, Halt>
-    ensures stands { (bytes : List ℕ) → L.left log.old ≡ Some bytes
-        → IfOk result (λ stage. StandsFor limits.now stage (calls_in limits.now bytes)) }
-    ensures whole { (bytes : List ℕ) → L.left log.old ≡ Some bytes
-        → OnOk result ((L.left log.new ≡ Some []) × (stop_of limits.now bytes ≡ None)) }
-    ensures lawful { IfOk result (λ stage. IsLawfulWith (length stage.keys) stage.flows) }
-    ensures halts { (bytes : List ℕ) → L.left log.old ≡ Some bytes
-        → IfErr result (MayHalt (stop_of limits.now bytes)) }
-    ensures causes { IfErr result (HasCauses (Rose (L.faults log.old) (L.faults log.new) (L.spent log.new)) ⊥) }
-    ensures counts { GoesUp (L.faults log.old) (L.faults log.new) (L.spent log.old) (L.spent log.new) }
+// Does a job with a new engine.
+fn run<L: Source, Q: Source, O: Sink>(
+    alloc: Global,
+    limits: &Limits,
+    job: &Job,
+    log: &mut L,
+    questions: &mut Q,
+    out: &mut O,
+) -> Result<(), Halt>
+    ensures talked { (bytes asked : List ℕ) → L.left log.old ≡ Some bytes → Tells job.now (Q.left questions.old) asked
+        → JobTalked limits.now job.now bytes asked (L.left log.new) (O.written out.old) (O.written out.new) result }
+    ensures within { (bytes asked : List ℕ) → L.left log.old ≡ Some bytes → Tells job.now (Q.left questions.old) asked
+        → OnOk result (KeepsLimit limits.now job.now bytes asked) }
+    ensures left { (bytes asked : List ℕ) → L.left log.old ≡ Some bytes → Tells job.now (Q.left questions.old) asked
+        → OnOk result (LeavesQuestions limits.now job.now bytes asked (Q.left questions.new)) }
+    ensures whole { (of : ℕ) (bytes : List ℕ) → job.now ≡ Job.Back of → L.left log.old ≡ Some bytes → OnOk result (L.left log.new ≡ Some []) }
+    ensures causes { IfErr result (HasCauses (Rose (L.faults log.old) (L.faults log.new) (L.spent log.new) ⊎ Rose (Q.faults questions.old) (Q.faults questions.new) (Q.spent questions.new))
+        (Rose (O.faults out.old) (O.faults out.new) (O.spent out.new))) }
+    ensures other { (of : ℕ) → job.now ≡ Job.Back of → questions.new ≡ questions.old }
 {
-    equal_keys_are_one();
-    lawful_flows_grow();
-    let mut cut = LineCut::new(alloc, limits.line);
-    let mut stage = Stage::new(alloc, limits);
-    take_log(&mut cut, &mut stage, limits, log)?;
-    take_end(&mut cut, &mut stage, limits)?;
-    Ok(stage)
-}
-
-// Writes a reply.
-fn say<O: Sink>(alloc: Global, out: &mut O, reply: &Reply) -> Result<(), Halt>
-    ensures said { OnOk result (Appends (O.written out.old) (O.written out.new) (text_of reply.now)) }
-    ensures cut { IfErr result (SaidInPart (O.written out.old) (O.written out.new) reply.now) }
-    ensures causes { IfErr result (HasCauses ⊥ (Rose (O.faults out.old) (O.faults out.new) (O.spent out.new))) }
-    ensures halts { (due : Option Halt) → IfErr result (MayHalt due) }
-{
-    let text = reply_text(alloc, reply)?;
-    match put_all(out, text.as_slice()) {
-        Ok(()) => Ok(()),
-        Err(_) => Err(Halt::WriteFault),
+    let mut engine = Ingest::new(alloc, limits);
+    match job {
+        Job::Back(of) => back(alloc, &mut engine, log, out, EntityId(*of)),
+        Job::Watch { mode: _, log: _ } => { watch(alloc, limits, &mut engine, log, questions, out) }
     }
 }
 
-// Takes the log to its end, and writes the reply.
-fn run<L: Source, O: Sink>(
-    alloc: Global,
-    limits: &Limits,
-    of: EntityId,
-    log: &mut L,
-    out: &mut O,
-) -> Result<(), Halt>
-    ensures written { (bytes : List ℕ) → L.left log.old ≡ Some bytes
-        → Writes limits.now bytes of (O.written out.old) (O.written out.new) (status_for result) }
-    ensures ends { (bytes : List ℕ) → L.left log.old ≡ Some bytes
-        → Ends limits.now bytes (status_for result) }
-    ensures whole { (bytes : List ℕ) → L.left log.old ≡ Some bytes
-        → OnOk result (L.left log.new ≡ Some []) }
-    ensures causes { IfErr result (HasCauses (Rose (L.faults log.old) (L.faults log.new) (L.spent log.new))
-        (Rose (O.faults out.old) (O.faults out.new) (O.spent out.new))) }
-{
-    let stage = take_whole(alloc, limits, log)?;
-    let reply = answer(alloc, &stage, of)?;
-    say(alloc, out, &reply)?;
-    Ok(())
-}
-
 /// Does what the words say, within these limits.
-pub fn audit_run<L: Source, O: Sink>(
+pub fn audit_run<L: Source, Q: Source, O: Sink>(
     alloc: Global,
     limits: &Limits,
     words: &[String],
     log: &mut L,
+    questions: &mut Q,
     out: &mut O,
 ) -> Status
     ensures bad_words { (result ≡ Status.BadWords) ↔ (job_of (map string_bytes words.now) ≡ None) }
     ensures untouched { job_of (map string_bytes words.now) ≡ None
-        → (log.new ≡ log.old) × (out.new ≡ out.old) }
-    ensures causes { StatusCause (Rose (L.faults log.old) (L.faults log.new) (L.spent log.new))
+        → (log.new ≡ log.old) × (questions.new ≡ questions.old) × (out.new ≡ out.old) }
+    ensures other { (of : ℕ) → job_of (map string_bytes words.now) ≡ Some (Job.Back of) → questions.new ≡ questions.old }
+    ensures causes { StatusCause (Rose (L.faults log.old) (L.faults log.new) (L.spent log.new) ⊎ Rose (Q.faults questions.old) (Q.faults questions.new) (Q.spent questions.new))
         (Rose (O.faults out.old) (O.faults out.new) (O.spent out.new)) result }
-    // At Done exactly the text of the right reply was written.
-    ensures headline { WhereTold (map string_bytes words.now) (L.left log.old) (λ of bytes.
-        result ≡ Status.Done → WritesReply limits.now bytes of (O.written out.old) (O.written out.new)) }
-    // With any status what was written is a front of it.
-    ensures prefix { WhereTold (map string_bytes words.now) (L.left log.old) (λ of bytes.
-        Writes limits.now bytes of (O.written out.old) (O.written out.new) result) }
-    // Full and Unbuilt come exactly where the log has them.
-    ensures exact { WhereTold (map string_bytes words.now) (L.left log.old) (λ of bytes.
-        Ends limits.now bytes result) }
-    ensures whole { WhereTold (map string_bytes words.now) (L.left log.old) (λ of bytes.
-        result ≡ Status.Done → L.left log.new ≡ Some []) }
-    ensures complete { WhereTold (map string_bytes words.now) (L.left log.old) (λ of bytes.
+    // At Done the bytes written in this call are those of the right replies.
+    ensures headline { WhereTold (map string_bytes words.now) (L.left log.old) (Q.left questions.old) (λ job bytes asked.
+        result ≡ Status.Done → Finished limits.now job bytes asked (L.left log.new) (O.written out.old) (O.written out.new)) }
+    // With any status they are a front of them.
+    ensures prefix { WhereTold (map string_bytes words.now) (L.left log.old) (Q.left questions.old) (λ job bytes asked.
+        Written limits.now job bytes asked (O.written out.old) (O.written out.new)) }
+    ensures whole { (of : ℕ) (bytes : List ℕ) → job_of (map string_bytes words.now) ≡ Some (Job.Back of) → L.left log.old ≡ Some bytes
+        → result ≡ Status.Done → L.left log.new ≡ Some [] }
+    // No read of the questions is made after `end`.
+    ensures no_further { WhereTold (map string_bytes words.now) (L.left log.old) (Q.left questions.old) (λ job bytes asked.
+        result ≡ Status.Done → LeavesQuestions limits.now job bytes asked (Q.left questions.new)) }
+    ensures full { WhereTold (map string_bytes words.now) (L.left log.old) (Q.left questions.old) (λ job bytes asked.
+        (full : Full) → result ≡ Status.Full full → PassesLimit limits.now job bytes asked full) }
+    ensures exact { WhereTold (map string_bytes words.now) (L.left log.old) (Q.left questions.old) (λ job bytes asked.
+        result ≡ Status.Done → PassesNone limits.now job bytes asked) }
+    ensures complete { WhereTold (map string_bytes words.now) (L.left log.old) (Q.left questions.old) (λ job bytes asked.
         ¬ Rose (L.faults log.old) (L.faults log.new) (L.spent log.new)
+        → ¬ Rose (Q.faults questions.old) (Q.faults questions.new) (Q.spent questions.new)
         → ¬ Rose (O.faults out.old) (O.faults out.new) (O.spent out.new)
-        → stop_of limits.now bytes ≡ None → (result ≡ Status.Done) ⊎ (result ≡ Status.NoMemory)) }
+        → PassesNone limits.now job bytes asked → (result ≡ Status.Done) ⊎ (result ≡ Status.NoMemory)) }
 {
-    match read_words(words) {
+    stops_stay();
+    what_fits_never_stops();
+    match read_words(alloc, words) {
         Err(WordsFault::BadWords) => Status::BadWords,
         Err(WordsFault::NoMemory) => Status::NoMemory,
-        Ok(Job::Back(of)) => status_of(run(alloc, limits, EntityId(of), log, out)),
+        Ok(job) => status_of(run(alloc, limits, &job, log, questions, out)),
     }
 }
 
 /// Does what the words say, within the program's limits.
-pub fn audit_main<L: Source, O: Sink>(
+pub fn audit_main<L: Source, Q: Source, O: Sink>(
     alloc: Global,
     words: &[String],
     log: &mut L,
+    questions: &mut Q,
     out: &mut O,
 ) -> Status
     ensures bad_words { (result ≡ Status.BadWords) ↔ (job_of (map string_bytes words.now) ≡ None) }
     ensures untouched { job_of (map string_bytes words.now) ≡ None
-        → (log.new ≡ log.old) × (out.new ≡ out.old) }
-    ensures causes { StatusCause (Rose (L.faults log.old) (L.faults log.new) (L.spent log.new))
+        → (log.new ≡ log.old) × (questions.new ≡ questions.old) × (out.new ≡ out.old) }
+    ensures other { (of : ℕ) → job_of (map string_bytes words.now) ≡ Some (Job.Back of) → questions.new ≡ questions.old }
+    ensures causes { StatusCause (Rose (L.faults log.old) (L.faults log.new) (L.spent log.new) ⊎ Rose (Q.faults questions.old) (Q.faults questions.new) (Q.spent questions.new))
         (Rose (O.faults out.old) (O.faults out.new) (O.spent out.new)) result }
-    ensures headline { WhereTold (map string_bytes words.now) (L.left log.old) (λ of bytes.
-        result ≡ Status.Done → WithStandard (λ limits. WritesReply limits bytes of (O.written out.old) (O.written out.new))) }
-    ensures prefix { WhereTold (map string_bytes words.now) (L.left log.old) (λ of bytes.
-        WithStandard (λ limits. Writes limits bytes of (O.written out.old) (O.written out.new) result)) }
-    ensures exact { WhereTold (map string_bytes words.now) (L.left log.old) (λ of bytes.
-        WithStandard (λ limits. Ends limits bytes result)) }
-    ensures whole { WhereTold (map string_bytes words.now) (L.left log.old) (λ of bytes.
-        result ≡ Status.Done → L.left log.new ≡ Some []) }
-    ensures complete { WhereTold (map string_bytes words.now) (L.left log.old) (λ of bytes.
+    ensures headline { WithStandard (λ limits. WhereTold (map string_bytes words.now) (L.left log.old) (Q.left questions.old) (λ job bytes asked.
+        result ≡ Status.Done → Finished limits job bytes asked (L.left log.new) (O.written out.old) (O.written out.new))) }
+    ensures prefix { WithStandard (λ limits. WhereTold (map string_bytes words.now) (L.left log.old) (Q.left questions.old) (λ job bytes asked.
+        Written limits job bytes asked (O.written out.old) (O.written out.new))) }
+    ensures whole { (of : ℕ) (bytes : List ℕ) → job_of (map string_bytes words.now) ≡ Some (Job.Back of) → L.left log.old ≡ Some bytes
+        → result ≡ Status.Done → L.left log.new ≡ Some [] }
+    ensures no_further { WithStandard (λ limits. WhereTold (map string_bytes words.now) (L.left log.old) (Q.left questions.old) (λ job bytes asked.
+        result ≡ Status.Done → LeavesQuestions limits job bytes asked (Q.left questions.new))) }
+    ensures full { WithStandard (λ limits. WhereTold (map string_bytes words.now) (L.left log.old) (Q.left questions.old) (λ job bytes asked.
+        (full : Full) → result ≡ Status.Full full → PassesLimit limits job bytes asked full)) }
+    ensures exact { WithStandard (λ limits. WhereTold (map string_bytes words.now) (L.left log.old) (Q.left questions.old) (λ job bytes asked.
+        result ≡ Status.Done → PassesNone limits job bytes asked)) }
+    ensures complete { WithStandard (λ limits. WhereTold (map string_bytes words.now) (L.left log.old) (Q.left questions.old) (λ job bytes asked.
         ¬ Rose (L.faults log.old) (L.faults log.new) (L.spent log.new)
+        → ¬ Rose (Q.faults questions.old) (Q.faults questions.new) (Q.spent questions.new)
         → ¬ Rose (O.faults out.old) (O.faults out.new) (O.spent out.new)
-        → WithStandard (λ limits. stop_of limits bytes ≡ None → (result ≡ Status.Done) ⊎ (result ≡ Status.NoMemory))) }
+        → PassesNone limits job bytes asked → (result ≡ Status.Done) ⊎ (result ≡ Status.NoMemory))) }
 {
     let limits = standard_limits();
-    audit_run(alloc, &limits, words, log, out)
+    audit_run(alloc, &limits, words, log, questions, out)
 }
 
 fn standard_limits() -> Limits

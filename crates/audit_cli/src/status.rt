@@ -7,7 +7,6 @@
 //!     4        ReadFault     read fault
 //!     5        WriteFault    write fault
 //!     9        Full          full: LIMIT NUMBER
-//!     11       Unbuilt       unbuilt line LINE
 ghost use Rattle.std.specs.Prelude.{◌≡◌, ◌++◌, IfOk, codes, decimal, string_bytes};
 ghost use Rattle.audit_cli.specs.Statuses.{number_of, text_of, limit_name, status_for};
 
@@ -18,20 +17,18 @@ use std::alloc::{AllocError, Global};
 /// How a run ended.
 #[derive(Clone, Copy, Debug, PartialEq, Eq)]
 pub enum Status {
-    /// The log was read to its end, and the reply was written.
+    /// The questions were answered, and `back` took its log to the end.
     Done,
     /// The words name no job.
     BadWords,
     /// No memory was found.
     NoMemory,
-    /// The log couldn't be read.
+    /// The log or the questions couldn't be read.
     ReadFault,
-    /// The reply couldn't be written.
+    /// A reply couldn't be written.
     WriteFault,
     /// A limit would have been passed.
     Full(Full),
-    /// This line, numbered from 1 on, can't be taken yet.
-    Unbuilt(u64),
 }
 
 /// The number with which the program ends.
@@ -45,7 +42,6 @@ pub fn status_number(status: &Status) -> u8
         Status::ReadFault => 4,
         Status::WriteFault => 5,
         Status::Full(_) => 9,
-        Status::Unbuilt(_) => 11,
     }
 }
 
@@ -63,10 +59,6 @@ pub fn status_text(alloc: Global, status: &Status) -> Result<Bytes, NoMemory>
             let text = full_text(alloc, full)?;
             Bytes::from_slice(alloc, text.as_bytes())
         }
-        Status::Unbuilt(line) => {
-            let text = unbuilt_text(alloc, line)?;
-            Bytes::from_slice(alloc, text.as_bytes())
-        }
     }
 }
 
@@ -76,12 +68,6 @@ fn full_text(alloc: Global, full: Full) -> Result<String, AllocError>
     let limit = name_of(full.limit);
     let number = full.number;
     format!(in alloc; "full: {limit} {number}")
-}
-
-fn unbuilt_text(alloc: Global, line: u64) -> Result<String, AllocError>
-    ensures { IfOk result (λ text. string_bytes text ≡ codes "unbuilt line " ++ decimal line) }
-{
-    format!(in alloc; "unbuilt line {line}")
 }
 
 // The name of a limit.
@@ -107,6 +93,5 @@ pub fn status_of(outcome: Result<(), Halt>) -> Status
         Err(Halt::ReadFault) => Status::ReadFault,
         Err(Halt::WriteFault) => Status::WriteFault,
         Err(Halt::Full(full)) => Status::Full(full),
-        Err(Halt::Unbuilt(line)) => Status::Unbuilt(line),
     }
 }

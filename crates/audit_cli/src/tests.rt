@@ -4,8 +4,7 @@ use flow_base::{Bytes, Full, Limit, Limits, List};
 use outside::{MemSink, MemSource};
 use std::test::Fail;
 
-// Two lines of 139 and 138 bytes, the second without its line feed: process 100 forks 101, which writes to its
-// descriptor 1.
+// Process 100 forks 101, which writes to its descriptor 1: lines of 139 and 138 bytes, the second without its line feed.
 const FORK: &[u8] =
     b"type=SYSCALL msg=audit(1.000:1): arch=c000003e syscall=57 success=yes exit=101 a0=0 a1=0 a2=0 a3=0 items=0 ppid=1 pid=100 comm=\"p\" exe=\"/p\"\n";
 
@@ -14,16 +13,12 @@ const WRITE: &[u8] =
 
 const FEED: &[u8] = b"\n";
 
-// The end of the second event.
-const END: &[u8] = b"type=EOE msg=audit(1.001:2): \n";
+// Two more forks by process 100, two seconds after the first one.
+const LATER: &[u8] =
+    b"type=SYSCALL msg=audit(3.000:2): arch=c000003e syscall=57 success=yes exit=102 a0=0 a1=0 a2=0 a3=0 items=0 ppid=1 pid=100 comm=\"p\" exe=\"/p\"\n";
 
-// The file that a call names.
-const FILE: &[u8] =
-    b"type=PATH msg=audit(1.001:2): item=0 name=\"/f7\" inode=7 dev=08:01 nametype=NORMAL\n";
-
-// A fork by process 100 of 102 before the first line.
-const EARLIER: &[u8] =
-    b"type=SYSCALL msg=audit(0.999:1): arch=c000003e syscall=57 success=yes exit=102 a0=0 a1=0 a2=0 a3=0 items=0 ppid=1 pid=100 comm=\"p\" exe=\"/p\"\n";
+const LAST: &[u8] =
+    b"type=SYSCALL msg=audit(3.001:3): arch=c000003e syscall=57 success=yes exit=103 a0=0 a1=0 a2=0 a3=0 items=0 ppid=1 pid=100 comm=\"p\" exe=\"/p\"\n";
 
 // A fork of 101 with what a collector adds, one of 102 with the name of its host, and a name without its closing quote.
 const ENRICHED: &[u8] =
@@ -35,21 +30,35 @@ const FROM_A_HOST: &[u8] =
 const UNCLOSED: &[u8] =
     b"type=PATH msg=audit(1.001:2): item=0 name=\"/f7 inode=7 dev=08:01 nametype=NORMAL\n";
 
-// The limits of the program, with these in place of three of them.
-fn limits(line: usize, input: u64, entities: u32, flows: u64) -> Limits {
+const FILE: &[u8] =
+    b"type=PATH msg=audit(1.000:1): item=0 name=\"/f7\" inode=7 dev=08:01 nametype=NORMAL\n";
+
+const UNKNOWN: &[u8] = b"{\"error\":\"Unknown\"}\n";
+
+const REACHED: &[u8] = b"{\"back\":2,\"ids\":[0,1,2]}\n";
+
+const NOTHING: &[u8] = b"";
+
+// The status at a limit of this number.
+fn full(limit: Limit, number: u64) -> Status {
+    Status::Full(Full { limit, number })
+}
+
+// The limits of the program, with these in place of four of them.
+fn limits(input: u64, entities: u32, records: usize, question: usize) -> Limits {
     let standard = Limits::standard();
     Limits {
-        line: line.min(standard.line),
+        line: standard.line,
         groups: standard.groups,
         text: standard.text,
-        records: standard.records,
+        records: records.min(standard.records).max(1),
         input: input.min(standard.input),
         entities: entities.min(standard.entities),
-        flows: flows.min(standard.flows),
+        flows: standard.flows,
         payload: standard.payload,
         store: standard.store,
         batch: standard.batch,
-        question: standard.question,
+        question: question.min(standard.question),
         shown: standard.shown,
         names: standard.names,
         path: standard.path,
@@ -65,13 +74,13 @@ fn words_of(rt: &HostRuntime, line: &str) -> Result<Vec<String>, Fail> {
     Ok(words)
 }
 
-// The lines in one log.
-fn log_of(rt: &HostRuntime, lines: &[&[u8]]) -> Result<Bytes, Fail> {
-    let mut log = Bytes::new(rt.alloc());
-    for line in lines {
-        log.append(line)?;
+// These texts, one behind the other.
+fn joined(rt: &HostRuntime, parts: &[&[u8]]) -> Result<Bytes, Fail> {
+    let mut bytes = Bytes::new(rt.alloc());
+    for part in parts {
+        bytes.append(part)?;
     }
-    Ok(log)
+    Ok(bytes)
 }
 
 // The numbers of calls that fail.
@@ -83,28 +92,56 @@ fn calls(rt: &HostRuntime, numbers: &[u64]) -> Result<List<u64>, Fail> {
     Ok(list)
 }
 
+// The calls that fail, by their numbers.
+#[derive(Clone, Copy)]
+struct Fails<'a> {
+    log: &'a [u64],
+    questions: &'a [u64],
+    out: &'a [u64],
+}
+
+// How a run ends, and what it writes, where these calls fail.
+fn run_with(
+    rt: &HostRuntime,
+    limits: &Limits,
+    words: &str,
+    log: Bytes,
+    questions: Bytes,
+    fails: Fails<'_>,
+) -> Result<(Status, Bytes), Fail> {
+    let words = words_of(rt, words)?;
+    let mut log = MemSource::new(log, calls(rt, fails.log)?);
+    let mut questions = MemSource::new(questions, calls(rt, fails.questions)?);
+    let mut out = MemSink::new(Bytes::new(rt.alloc()), calls(rt, fails.out)?);
+    let status = audit_run(
+        rt.alloc(),
+        limits,
+        words.as_slice(),
+        &mut log,
+        &mut questions,
+        &mut out,
+    );
+    Ok((status, Bytes::from_slice(rt.alloc(), out.written())?))
+}
+
 // How a run ends, and what it writes.
 fn run(
     rt: &HostRuntime,
     limits: &Limits,
     words: &str,
     log: Bytes,
-    reads: &[u64],
-    writes: &[u64],
+    questions: Bytes,
 ) -> Result<(Status, Bytes), Fail> {
-    let words = words_of(rt, words)?;
-    let mut log = MemSource::new(log, calls(rt, reads)?);
-    let mut out = MemSink::new(Bytes::new(rt.alloc()), calls(rt, writes)?);
-    let status = audit_run(rt.alloc(), limits, words.as_slice(), &mut log, &mut out);
-    Ok((status, Bytes::from_slice(rt.alloc(), out.written())?))
+    let none = Fails {
+        log: &[],
+        questions: &[],
+        out: &[],
+    };
+    run_with(rt, limits, words, log, questions, none)
 }
 
-const UNKNOWN: &[u8] = b"{\"error\":\"Unknown\"}\n";
-
-const REACHED: &[u8] = b"{\"back\":2,\"ids\":[0,1,2]}\n";
-
 #[test]
-fn a_question_is_answered_over_the_whole_log(rt: HostRuntime) -> Result<(), Fail> {
+fn back_is_answered_over_the_whole_log(rt: HostRuntime) -> Result<(), Fail> {
     let rows = [
         (
             "back 2",
@@ -125,61 +162,40 @@ fn a_question_is_answered_over_the_whole_log(rt: HostRuntime) -> Result<(), Fail
             UNKNOWN,
         ),
         ("back 0", [].as_slice(), Status::Done, UNKNOWN),
+        // the last line has no line feed
+        ("back 2", [FORK, WRITE].as_slice(), Status::Done, REACHED),
         (
             "back x",
             [FORK, WRITE, FEED].as_slice(),
             Status::BadWords,
-            b"".as_slice(),
+            NOTHING,
         ),
         (
             "back 4294967296",
-            [FORK, WRITE, FEED].as_slice(),
+            [FORK].as_slice(),
             Status::BadWords,
-            b"".as_slice(),
+            NOTHING,
         ),
+        ("back", [FORK].as_slice(), Status::BadWords, NOTHING),
+        ("back 2 2", [FORK].as_slice(), Status::BadWords, NOTHING),
+        ("watch", [FORK].as_slice(), Status::BadWords, NOTHING),
+        ("watch plain", [FORK].as_slice(), Status::BadWords, NOTHING),
         (
-            "back",
-            [FORK, WRITE, FEED].as_slice(),
+            "watch full log",
+            [FORK].as_slice(),
             Status::BadWords,
-            b"".as_slice(),
+            NOTHING,
         ),
         (
-            "watch",
-            [FORK, WRITE, FEED].as_slice(),
+            "watch plain log store",
+            [FORK].as_slice(),
             Status::BadWords,
-            b"".as_slice(),
-        ),
-        (
-            "back 2 2",
-            [FORK, WRITE, FEED].as_slice(),
-            Status::BadWords,
-            b"".as_slice(),
-        ),
-        // a line that comes again, with the same key
-        (
-            "back 2",
-            [FORK, WRITE, FEED, WRITE, FEED].as_slice(),
-            Status::Unbuilt(3),
-            b"".as_slice(),
-        ),
-        // the last line has no line feed
-        ("back 2", [FORK, WRITE].as_slice(), Status::Done, REACHED),
-        (
-            "back 2",
-            [WRITE, FEED, FORK].as_slice(),
-            Status::Unbuilt(2),
-            b"".as_slice(),
+            NOTHING,
         ),
     ];
     for (words, lines, status, text) in rows {
-        let (ended, written) = run(
-            &rt,
-            &Limits::standard(),
-            words,
-            log_of(&rt, lines)?,
-            &[],
-            &[],
-        )?;
+        let log = joined(&rt, lines)?;
+        let (ended, written) = run(&rt, &Limits::standard(), words, log, Bytes::new(rt.alloc()))?;
         assert_eq!(rt; ended, status, "{words}");
         assert_eq!(rt; written.as_slice(), text, "{words}");
     }
@@ -187,62 +203,326 @@ fn a_question_is_answered_over_the_whole_log(rt: HostRuntime) -> Result<(), Fail
 }
 
 #[test]
-fn a_limit_stops_the_run_one_past_it(rt: HostRuntime) -> Result<(), Fail> {
-    // two lines of 139 and 138 bytes and their line feeds, three objects, two flows
-    let full = |limit, number| Status::Full(Full { limit, number });
+fn questions_are_answered_at_their_moment(rt: HostRuntime) -> Result<(), Fail> {
     let rows = [
-        (limits(139, 279, 3, 2), Status::Done, REACHED),
-        // the fork is too long, and is passed over
-        (limits(138, 279, 3, 2), Status::Done, UNKNOWN),
         (
-            limits(139, 278, 3, 2),
-            full(Limit::Input, 278),
-            b"".as_slice(),
+            [].as_slice(),
+            b"stat\nend\n".as_slice(),
+            b"{\"blank\":0,\"bytes\":0,\"events\":0,\"excess\":0,\"flows\":0,\"kept\":0,\"known\":0,\"late\":0,\"lines\":0,\"malformed\":0,\"malformed_lines\":[],\"other\":0,\"unmapped\":0,\"used\":0,\"waiting\":0}\n{\"end\":true}\n".as_slice(),
         ),
         (
-            limits(139, 279, 2, 2),
-            full(Limit::Entities, 2),
-            b"".as_slice(),
+            [FORK, WRITE, FEED].as_slice(),
+            b"take 1000\nsettle\nback 2\n".as_slice(),
+            b"{\"take\":279}\n{\"settle\":2}\n{\"back\":2,\"ids\":[0,1,2]}\n".as_slice(),
+        ),
+        // the last question has no line feed, and that of the log neither
+        (
+            [FORK, WRITE].as_slice(),
+            b"take 278\nsettle\nback 2".as_slice(),
+            b"{\"take\":278}\n{\"settle\":2}\n{\"back\":2,\"ids\":[0,1,2]}\n".as_slice(),
         ),
         (
-            limits(139, 279, 3, 1),
-            full(Limit::Flows, 1),
-            b"".as_slice(),
+            [ENRICHED, FROM_A_HOST, UNCLOSED].as_slice(),
+            b"take 1000\nsettle\nstat\n".as_slice(),
+            b"{\"take\":396}\n{\"settle\":2}\n{\"blank\":0,\"bytes\":396,\"events\":2,\"excess\":0,\"flows\":2,\"kept\":2,\"known\":3,\"late\":0,\"lines\":3,\"malformed\":1,\"malformed_lines\":[[3,5]],\"other\":0,\"unmapped\":0,\"used\":2,\"waiting\":0}\n".as_slice(),
         ),
-        // of two limits that one line would pass, that of the objects
         (
-            limits(139, 279, 2, 1),
-            full(Limit::Entities, 2),
-            b"".as_slice(),
+            [FORK, LATER, LAST].as_slice(),
+            b"take 280\nback 0\ntake 140\nback 1\nback 2\nsettle\nback 2\n".as_slice(),
+            b"{\"take\":280}\n{\"error\":\"Unknown\"}\n{\"take\":140}\n{\"back\":1,\"ids\":[0,1]}\n{\"error\":\"Unknown\"}\n{\"settle\":3}\n{\"back\":2,\"ids\":[0,2]}\n".as_slice(),
         ),
+        // what isn't a question, and nothing after `end`
+        (
+            [FORK, WRITE, FEED].as_slice(),
+            b"back 1\nback x\n\ntake 999\nsettle\nback 1\nback 3\nend\ntake 1\nback 1\n".as_slice(),
+            b"{\"error\":\"Unknown\"}\n{\"error\":\"BadQuestion\"}\n{\"error\":\"BadQuestion\"}\n{\"take\":279}\n{\"settle\":2}\n{\"back\":1,\"ids\":[0,1]}\n{\"error\":\"Unknown\"}\n{\"end\":true}\n".as_slice(),
+        ),
+        ([FORK].as_slice(), b"".as_slice(), NOTHING),
     ];
-    for (limits, status, text) in rows {
-        let log = log_of(&rt, &[FORK, WRITE, FEED])?;
-        let (ended, written) = run(&rt, &limits, "back 2", log, &[], &[])?;
-        assert_eq!(rt; ended, status);
+    for (lines, asked, text) in rows {
+        let log = joined(&rt, lines)?;
+        let asked = Bytes::from_slice(rt.alloc(), asked)?;
+        let (ended, written) = run(&rt, &Limits::standard(), "watch plain log", log, asked)?;
+        assert_eq!(rt; ended, Status::Done);
         assert_eq!(rt; written.as_slice(), text);
     }
-    // a line that can't be taken goes before the limit that it would pass
-    let log = log_of(&rt, &[FORK, EARLIER])?;
-    let (ended, _) = run(&rt, &limits(139, 300, 2, 2), "back 2", log, &[], &[])?;
-    assert_eq!(rt; ended, Status::Unbuilt(2));
+    Ok(())
+}
+
+#[test]
+fn a_log_may_be_cut_at_every_byte(rt: HostRuntime) -> Result<(), Fail> {
+    let mut asked = Bytes::new(rt.alloc());
+    let mut text = Bytes::new(rt.alloc());
+    for _ in 0..279 {
+        asked.append(b"take 1\n".as_slice())?;
+        text.append(b"{\"take\":1}\n".as_slice())?;
+    }
+    asked.append(b"take 1\nsettle\nback 2\n".as_slice())?;
+    text.append(b"{\"take\":0}\n{\"settle\":2}\n{\"back\":2,\"ids\":[0,1,2]}\n".as_slice())?;
+    let log = joined(&rt, &[FORK, WRITE, FEED])?;
+    let (ended, written) = run(&rt, &Limits::standard(), "watch plain log", log, asked)?;
+    assert_eq!(rt; ended, Status::Done);
+    assert_eq!(rt; written.as_slice(), text.as_slice());
+    Ok(())
+}
+
+#[test]
+fn the_longest_line_is_taken_and_a_longer_one_is_malformed(rt: HostRuntime) -> Result<(), Fail> {
+    let mut log = Bytes::new(rt.alloc());
+    for length in [65_536usize, 65_537] {
+        log.append(b"type=USER_MSG msg=audit(1.000:1): ".as_slice())?;
+        for _ in 34..length {
+            log.append(b"x".as_slice())?;
+        }
+        log.append(FEED)?;
+    }
+    let asked = Bytes::from_slice(rt.alloc(), b"take 200000\nstat\n".as_slice())?;
+    let (ended, written) = run(&rt, &Limits::standard(), "watch plain log", log, asked)?;
+    assert_eq!(rt; ended, Status::Done);
+    assert_eq!(rt;
+        written.as_slice(),
+        b"{\"take\":131075}\n{\"blank\":0,\"bytes\":131075,\"events\":0,\"excess\":0,\"flows\":0,\"kept\":0,\"known\":0,\"late\":0,\"lines\":2,\"malformed\":1,\"malformed_lines\":[[2,1]],\"other\":1,\"unmapped\":0,\"used\":0,\"waiting\":0}\n".as_slice()
+    );
+    Ok(())
+}
+
+// A log of the tables of limits: of no lines, of two events with a flow each, and of one event with three records.
+#[derive(Clone, Copy)]
+enum Log {
+    Empty,
+    TwoFlows,
+    OneEvent,
+}
+
+fn bytes_of(rt: &HostRuntime, log: Log) -> Result<Bytes, Fail> {
+    match log {
+        Log::Empty => Ok(Bytes::new(rt.alloc())),
+        Log::TwoFlows => joined(rt, &[FORK, WRITE, FEED]),
+        Log::OneEvent => joined(rt, &[FILE, FILE, FILE]),
+    }
+}
+
+#[test]
+fn a_limit_is_kept_on_both_sides(rt: HostRuntime) -> Result<(), Fail> {
+    let rows = [
+        // the whole log, and a byte more than may come
+        (
+            (279u64, 3u32, 9usize, 99usize),
+            "back 2",
+            Log::TwoFlows,
+            b"".as_slice(),
+            Status::Done,
+            REACHED,
+        ),
+        (
+            (278u64, 3u32, 9usize, 99usize),
+            "back 2",
+            Log::TwoFlows,
+            b"".as_slice(),
+            full(Limit::Input, 278),
+            NOTHING,
+        ),
+        // the questions are counted apart from the log, and the lines before the limit are answered
+        (
+            (279u64, 3u32, 9usize, 99usize),
+            "watch plain log",
+            Log::TwoFlows,
+            b"take 999\n".as_slice(),
+            Status::Done,
+            b"{\"take\":279}\n".as_slice(),
+        ),
+        (
+            (13u64, 3u32, 9usize, 99usize),
+            "watch plain log",
+            Log::Empty,
+            b"take 0\nbogus\n".as_slice(),
+            Status::Done,
+            b"{\"take\":0}\n{\"error\":\"BadQuestion\"}\n".as_slice(),
+        ),
+        (
+            (12u64, 3u32, 9usize, 99usize),
+            "watch plain log",
+            Log::Empty,
+            b"take 0\nbogus\n".as_slice(),
+            full(Limit::Input, 12),
+            b"{\"take\":0}\n".as_slice(),
+        ),
+        // `end` within the limit leaves nothing past it
+        (
+            (4u64, 3u32, 9usize, 99usize),
+            "watch plain log",
+            Log::Empty,
+            b"end\ntake 0\n".as_slice(),
+            Status::Done,
+            b"{\"end\":true}\n".as_slice(),
+        ),
+        // the third object comes with the second event
+        (
+            (999u64, 2u32, 9usize, 99usize),
+            "back 2",
+            Log::TwoFlows,
+            b"".as_slice(),
+            full(Limit::Entities, 2),
+            NOTHING,
+        ),
+        (
+            (999u64, 2u32, 9usize, 99usize),
+            "watch plain log",
+            Log::TwoFlows,
+            b"take 999\nsettle\nback 0\n".as_slice(),
+            full(Limit::Entities, 2),
+            b"{\"take\":279}\n".as_slice(),
+        ),
+        // records in excess
+        (
+            (999u64, 2u32, 2usize, 99usize),
+            "watch plain log",
+            Log::OneEvent,
+            b"take 999\nstat\n".as_slice(),
+            Status::Done,
+            b"{\"take\":246}\n{\"blank\":0,\"bytes\":246,\"events\":0,\"excess\":1,\"flows\":0,\"kept\":0,\"known\":0,\"late\":0,\"lines\":3,\"malformed\":0,\"malformed_lines\":[],\"other\":0,\"unmapped\":0,\"used\":3,\"waiting\":1}\n".as_slice(),
+        ),
+        // a question of as many bytes as it may have, and a longer one
+        (
+            (999u64, 2u32, 9usize, 6usize),
+            "watch plain log",
+            Log::Empty,
+            b"take 0\ntake 00\n".as_slice(),
+            Status::Done,
+            b"{\"take\":0}\n{\"error\":\"BadQuestion\"}\n".as_slice(),
+        ),
+    ];
+    for (most, words, log, asked, status, text) in rows {
+        let limits = limits(most.0, most.1, most.2, most.3);
+        let log = bytes_of(&rt, log)?;
+        let asked = Bytes::from_slice(rt.alloc(), asked)?;
+        let (ended, written) = run(&rt, &limits, words, log, asked)?;
+        assert_eq!(rt; ended, status, "{words}");
+        assert_eq!(rt; written.as_slice(), text, "{words}");
+    }
     Ok(())
 }
 
 #[test]
 fn a_failing_device_is_named_and_nothing_false_is_written(rt: HostRuntime) -> Result<(), Fail> {
+    let none = [].as_slice();
+    let first = [0u64].as_slice();
+    let second = [1u64].as_slice();
+    let taken = b"{\"take\":279}\n".as_slice();
     let rows = [
-        ([0u64].as_slice(), [].as_slice(), Status::ReadFault),
-        ([1].as_slice(), [].as_slice(), Status::ReadFault),
-        ([].as_slice(), [0].as_slice(), Status::WriteFault),
-        ([2].as_slice(), [1].as_slice(), Status::Done),
+        (
+            "back 2",
+            Fails {
+                log: first,
+                questions: none,
+                out: none,
+            },
+            Status::ReadFault,
+            NOTHING,
+        ),
+        (
+            "back 2",
+            Fails {
+                log: second,
+                questions: none,
+                out: none,
+            },
+            Status::ReadFault,
+            NOTHING,
+        ),
+        (
+            "back 2",
+            Fails {
+                log: none,
+                questions: none,
+                out: first,
+            },
+            Status::WriteFault,
+            NOTHING,
+        ),
+        (
+            "back 2",
+            Fails {
+                log: none,
+                questions: first,
+                out: second,
+            },
+            Status::Done,
+            REACHED,
+        ),
+        (
+            "watch plain log",
+            Fails {
+                log: first,
+                questions: none,
+                out: none,
+            },
+            Status::ReadFault,
+            NOTHING,
+        ),
+        (
+            "watch plain log",
+            Fails {
+                log: none,
+                questions: first,
+                out: none,
+            },
+            Status::ReadFault,
+            NOTHING,
+        ),
+        (
+            "watch plain log",
+            Fails {
+                log: none,
+                questions: second,
+                out: none,
+            },
+            Status::ReadFault,
+            taken,
+        ),
+        (
+            "watch plain log",
+            Fails {
+                log: none,
+                questions: none,
+                out: first,
+            },
+            Status::WriteFault,
+            NOTHING,
+        ),
     ];
-    for (reads, writes, status) in rows {
-        let log = log_of(&rt, &[FORK, WRITE, FEED])?;
-        let (ended, written) = run(&rt, &Limits::standard(), "back 2", log, reads, writes)?;
-        assert_eq!(rt; ended, status);
-        assert_eq!(rt; written.as_slice().is_empty(), status != Status::Done);
+    for (words, fails, status, text) in rows {
+        let log = joined(&rt, &[FORK, WRITE, FEED])?;
+        let asked = Bytes::from_slice(rt.alloc(), b"take 999\n".as_slice())?;
+        let (ended, written) = run_with(&rt, &Limits::standard(), words, log, asked, fails)?;
+        assert_eq!(rt; ended, status, "{words}");
+        assert_eq!(rt; written.as_slice(), text, "{words}");
     }
+    Ok(())
+}
+
+#[test]
+fn a_log_that_is_not_asked_for_is_not_read(rt: HostRuntime) -> Result<(), Fail> {
+    let fails = Fails {
+        log: &[0],
+        questions: &[],
+        out: &[],
+    };
+    let log = joined(&rt, &[FORK])?;
+    let asked = Bytes::from_slice(rt.alloc(), b"take 0\nend\n".as_slice())?;
+    let (ended, written) = run_with(
+        &rt,
+        &Limits::standard(),
+        "watch plain log",
+        log,
+        asked,
+        fails,
+    )?;
+    assert_eq!(rt; ended, Status::Done);
+    assert_eq!(rt;
+        written.as_slice(),
+        b"{\"take\":0}\n{\"end\":true}\n".as_slice()
+    );
     Ok(())
 }
 
@@ -262,7 +542,6 @@ fn a_status_has_its_number_and_text(rt: HostRuntime) -> Result<(), Fail> {
             9,
             b"full: entities 2".as_slice(),
         ),
-        (Status::Unbuilt(3), 11, b"unbuilt line 3".as_slice()),
     ];
     for (status, number, text) in rows {
         assert_eq!(rt; status_number(&status), number);

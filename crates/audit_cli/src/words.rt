@@ -1,17 +1,24 @@
 //! The words of the command line, which name a job.
 //!
-//!     back ID     ID is one or more decimal digits, of value at most 4294967295
-ghost use Rattle.std.specs.Prelude.{◌≡◌, ◌↔◌, Err, Some, None, IfOk, IfErr, map, string_bytes};
+//!     back ID           ID is one or more decimal digits, of value at most 4294967295
+//!     watch MODE LOG    MODE is `plain`, LOG any word of at least one byte
+ghost use Rattle.std.specs.Prelude.{◌≡◌, ◌↔◌, Err, Some, None, IfOk, map, string_bytes};
 ghost use Rattle.std.specs.List.{list_all};
 ghost use Rattle.std.specs.Char.{is_ascii_digit};
-ghost use Rattle.audit_cli.specs.Words.{id_of, job_of, back_job};
+ghost use Rattle.audit_cli.specs.Words.{id_of, job_of, back_job, watch_job, mode_of};
 ghost use Rattle.audit_cli.specs.declared.words.WordsFault.TheVariants as fault;
 
+use flow_base::{Bytes, NoMemory};
+use reach_model::Mode;
+use std::alloc::Global;
+
 /// What a run does.
-#[derive(Clone, Copy, Debug, PartialEq, Eq)]
+#[derive(Drop)]
 pub enum Job {
-    /// Answers which objects this one's contents can have come from, over the whole log.
+    /// Answers which objects this one's contents can have come from, over the whole log on standard input.
     Back(u32),
+    /// Answers questions while the log of this name is taken.
+    Watch { mode: Mode, log: Bytes },
 }
 
 /// Why the words name no job.
@@ -21,20 +28,28 @@ pub enum WordsFault {
     NoMemory,
 }
 
-/// The job that the words name. It is refused exactly where the words aren't a row of the table above.
-pub fn read_words(words: &[String]) -> Result<Job, WordsFault>
+impl From<NoMemory> for WordsFault {
+    ghost from_gives = { λ _ e. e ≡ fault.NoMemory };
+
+    fn from(_fault: NoMemory) -> WordsFault {
+        WordsFault::NoMemory
+    }
+}
+
+/// The job that the words name. They are refused as bad words exactly where they aren't a row of the table above.
+pub fn read_words(alloc: Global, words: &[String]) -> Result<Job, WordsFault>
     ensures found { IfOk result (λ job. job_of (map string_bytes words.now) ≡ Some job) }
     ensures refused { (result ≡ Err fault.BadWords) ↔ (job_of (map string_bytes words.now) ≡ None) }
-    ensures ready { IfErr result (λ why. why ≡ fault.BadWords) }
 {
     match words {
-        [job, id] => job_named(job, id).ok_or(WordsFault::BadWords),
+        [job, id] => back_named(job, id).ok_or(WordsFault::BadWords),
+        [job, mode, log] => watch_named(alloc, job, mode, log),
         _ => Err(WordsFault::BadWords),
     }
 }
 
 // The job of two words.
-fn job_named(job: &String, id: &String) -> Option<Job>
+fn back_named(job: &String, id: &String) -> Option<Job>
     ensures { result ≡ back_job (string_bytes job.now) (string_bytes id.now) }
 {
     if job.as_bytes() != b"back".as_slice() {
@@ -44,6 +59,34 @@ fn job_named(job: &String, id: &String) -> Option<Job>
         Some(of) => Some(Job::Back(of)),
         None => None,
     }
+}
+
+// The job of three words.
+fn watch_named(alloc: Global, job: &String, mode: &String, log: &String) -> Result<Job, WordsFault>
+    ensures found { IfOk result (λ found. watch_job (string_bytes job.now) (string_bytes mode.now) (string_bytes log.now) ≡ Some found) }
+    ensures refused { (result ≡ Err fault.BadWords) ↔ (watch_job (string_bytes job.now) (string_bytes mode.now) (string_bytes log.now) ≡ None) }
+{
+    if job.as_bytes() != b"watch".as_slice() {
+        return Err(WordsFault::BadWords);
+    }
+    match mode_named(mode) {
+        None => Err(WordsFault::BadWords),
+        Some(_) if log.as_bytes().is_empty() => Err(WordsFault::BadWords),
+        Some(mode) => {
+            let log = Bytes::from_slice(alloc, log.as_bytes())?;
+            Ok(Job::Watch { mode, log })
+        }
+    }
+}
+
+// The mode of this name.
+fn mode_named(word: &String) -> Option<Mode>
+    ensures { result ≡ mode_of (string_bytes word.now) }
+{
+    if word.as_bytes() == b"plain".as_slice() {
+        return Some(Mode::Plain);
+    }
+    None
 }
 
 // The number that a word spells.

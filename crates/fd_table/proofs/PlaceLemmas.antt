@@ -1,5 +1,5 @@
 -- What entering and leaving makes of the places.
-use Rattle.std.proofs.Common.{suc, zero, not, ◌||◌, ◌≡◌, ◌∙◌, sym, ap, refl, ℕ, ◌+◌, ◌-◌, ◌≤◌, ◌<◌, ◌==◌, ◌&&◌, Bool, true, false, cond, List, [], ◌∷◌, length, Option, Some, None, is_some, unwrap_or, if◌then◌else◌, nat_eq, nat_lt, arith}
+use Rattle.std.proofs.Common.{suc, zero, not, ◌||◌, ◌≡◌, ◌∙◌, sym, ap, refl, ℕ, ◌+◌, ◌≤◌, ◌<◌, ◌==◌, ◌&&◌, Bool, true, false, cond, List, [], ◌∷◌, length, Option, Some, None, is_some, unwrap_or, if◌then◌else◌, nat_lt, arith}
 use Rattle.std.proofs.lemmas.Grind.{common_steps}
 use Rattle.std.specs.Option.{IfSome}
 use Rattle.std.specs.Map.{lookup, remove_entry}
@@ -49,6 +49,7 @@ spared test other apart (e ∷ es) = by (test e.0) (apart e.0) (spared test othe
     passed : (o : Bool) → (o ≡ true → true ≡ false) → lookup other es ≡ cond o (Some e.1) (lookup other es)
     passed true wrong = let no : true ≡ false = wrong refl in cc
     passed false wrong = refl
+
     by : (t : Bool) → (other e.0 ≡ true → t ≡ false) → lookup other (remove_entry test es) ≡ lookup other es → lookup other (cond t es (e ∷ remove_entry test es)) ≡ cond (other e.0) (Some e.1) (lookup other es)
     by true wrong rest = passed (other e.0) wrong
     by false wrong rest = ap (λ r. cond (other e.0) (Some e.1) r) rest

@@ -9,7 +9,7 @@
 //!
 //! N is 1 to 15 decimal digits. ID is 1 to 10, for a number of 32 bits. TIME is seconds: 1 to 15 digits, a point and
 //! 3 digits. Words are parted by exactly one space. Every other line is a bad question.
-ghost use Rattle.std.specs.Prelude.{◌≡◌, IfOk, IfErr, List, ℕ, option_map};
+ghost use Rattle.std.specs.Prelude.{◌≡◌, ◌↔◌, IfOk, IfErr, List, ℕ, Some, option_map};
 ghost use Rattle.report_json.specs.Asks.{IsAsk};
 ghost use Rattle.report_json.specs.Reading.{ask_of, word_of, words_of, bounded_of};
 
@@ -97,4 +97,9 @@ fn id_and_time(text: &[u8]) -> Option<(EntityId, Option<u64>)>
 /// A line asks at most one thing.
 pub fn a_line_asks_one_thing()
     ensures { (line : List ℕ) (first second : Ask) → IsAsk line first → IsAsk line second → first ≡ second }
+{}
+
+/// What is found in a line is what the line asks.
+pub fn what_is_found_is_asked()
+    ensures { (line : List ℕ) (asked : Ask) → (ask_of line ≡ Some asked) ↔ IsAsk line asked }
 {}

@@ -1,63 +1,66 @@
-use Rattle.std.proofs.Common.{◌≡◌, ◌+◌, ◌++◌, [], take, drop, length, ap, arith, rules}
-use Rattle.std.proofs.lemmas.List.{drop-drop, length-drop}
-use Rattle.audit_lex.specs.History.{with_bytes}
-use Rattle.audit_cli.proofs.Ats.{more_taken, pieces_join}
-use Rattle.audit_cli.proofs.Within.{stop_goes_on, all_taken}
+use Rattle.std.proofs.Common.{◌≡◌, ◌≤◌, ◌<◌, ◌+◌, ℕ, List, [], length, take, drop, arith, sym, ◌∙◌, ap, subst, Some, rules}
+use Rattle.std.proofs.lemmas.List.{length-take, length-drop}
+use Rattle.std.proofs.lemmas.Result.{err_from_is_err_and}
+use Rattle.report_json.specs.declared.ask.Ask.TheVariants as ask
+use Rattle.ingest.specs.Stops.{Stops}
+use Rattle.audit_cli.specs.Dialogue.{Moment, after}
+use Rattle.audit_cli.specs.Course.{At, GoesUp}
+use Rattle.audit_cli.proofs.MomentLemmas.{take_both, take_all, take_none, due_weaker, stop_later, left_none}
 use Rattle.audit_cli.proofs.log.take_log.Goals as goal
 
-pub returns-in_err-count-clause-halts : goal.returns-in_err-count-clause-halts
-returns-in_err-count-clause-halts g c = λ bytes told at.
-    let limits = c.args.limits.now in
-    let heard = c.loop-count.heard in
-    let now = c.loop-count.invariant.told bytes told at in
-    let so_far = c.in_err-count.ensures.halts (with_bytes [] (take heard bytes)) (drop heard bytes) now.0 (c.loop-count.invariant.at bytes told at) in
-    let due = rw (stop_goes_on limits [] limits.input heard bytes c.loop-count.invariant.heard now.1) at so_far in
-    search (rules, due)
+pub returns-in_err-taken-clause-due : goal.returns-in_err-taken-clause-due
+returns-in_err-taken-clause-due g c = λ limits m h.
+    let count = c.loop-count.count in
+    let here = c.loop-count.invariant.at limits m h in
+    let due = c.in_err-taken.ensures.due limits _ here in
+    let room = length (take c.min-room.result c.loop-count.buf) in
+    let small = length-take c.min-room.result c.loop-count.buf in
+    let within : count + room ≤ c.args.most = omega arith in
+    let p = err_from_is_err_and c.from_residual.result c.from_residual.ensures.1 in
+    rw (p.1, p.2) (due_weaker _ _ _ (λ full over. stop_later c.stops_stay.ensures limits m (count + room) c.args.most full within (subst (λ (x : Moment). Stops limits x.history full) (take_both m count room) over)) due)
 
-pub returns-then-count-eq0-clause-took : goal.returns-then-count-eq0-clause-took
-returns-then-count-eq0-clause-took g c = λ bytes told at.
-    let heard = c.loop-count.heard in
-    let now = c.loop-count.invariant.told bytes told at in
-    let took = c.in_ok-count.ensures.took (with_bytes [] (take heard bytes)) (drop heard bytes) now.0 (c.loop-count.invariant.at bytes told at) in
-    let none : c.in_ok-count.count ≡ 0 = cc in
-    let sum : heard + c.in_ok-count.count ≡ heard = omega arith in
-    rw (more_taken [] heard c.in_ok-count.count bytes, sum, all_taken heard bytes (took.ended none)) at took.at
+pub returns-then-taken-eq0-clause-took : goal.returns-then-taken-eq0-clause-took
+returns-then-taken-eq0-clause-took g c = λ limits m h.
+    let count = c.loop-count.count in
+    let here = c.loop-count.invariant.at limits m h in
+    let took = c.in_ok-taken.ensures.took limits _ here in
+    let none = (c.in_ok-taken.ensures.some limits _ here).ended c.if-taken-eq0.true in
+    let all = left_none m count none in
+    let whole : length m.log ≤ c.args.most = omega (arith, all) in
+    let e = ap (λ (n : ℕ). after (Some (ask.Take n)) (after (Some (ask.Take count)) m)) c.if-taken-eq0.true ∙ take_none (after (Some (ask.Take count)) m) ∙ take_all m count c.args.most all whole in
+    subst (λ (x : Moment). At limits c.take_piece.new.engine (g.L.Source.left c.take_piece.new.log) x) e took
 
-pub returns-then-count-eq0-clause-whole : goal.returns-then-count-eq0-clause-whole
-returns-then-count-eq0-clause-whole g c = λ bytes told at.
-    let heard = c.loop-count.heard in
-    let now = c.loop-count.invariant.told bytes told at in
-    let took = c.in_ok-count.ensures.took (with_bytes [] (take heard bytes)) (drop heard bytes) now.0 (c.loop-count.invariant.at bytes told at) in
-    let none : c.in_ok-count.count ≡ 0 = cc in
-    let ended : drop heard bytes ≡ [] = took.ended none in
-    (rw (ended, none) at took.told, omega (arith, ap length ended, length-drop heard bytes, c.loop-count.invariant.heard))
+pub returns-then-taken-eq0-clause-count : goal.returns-then-taken-eq0-clause-count
+returns-then-taken-eq0-clause-count g c = λ limits m h.
+    let here = c.loop-count.invariant.at limits m h in
+    let none = (c.in_ok-taken.ensures.some limits _ here).ended c.if-taken-eq0.true in
+    let all = left_none m c.loop-count.count none in
+    omega (arith, all, c.loop-count.invariant.part limits m h, length-take c.args.most m.log)
 
 pub loop-count-preserved : goal.loop-count-preserved
 loop-count-preserved g c =
-    let heard = c.loop-count.heard in
+    let count = c.loop-count.count in
+    let taken = c.in_ok-taken.taken in
+    let small = length-take c.min-room.result c.loop-count.buf in
+    let bound = c.in_ok-taken.ensures.within in
     record {
-      heard = c.in_ok-count.ensures.fits;
-      lines = c.in_ok-count.ensures.lines;
-      told = λ bytes told at.
-          let now = c.loop-count.invariant.told bytes told at in
-          let took = c.in_ok-count.ensures.took (with_bytes [] (take heard bytes)) (drop heard bytes) now.0 (c.loop-count.invariant.at bytes told at) in
-          (rw (drop-drop c.in_ok-count.count heard bytes) at took.told, omega (arith, took.within, length-drop heard bytes, now.1));
-      at = λ bytes told at.
-          let now = c.loop-count.invariant.told bytes told at in
-          let took = c.in_ok-count.ensures.took (with_bytes [] (take heard bytes)) (drop heard bytes) now.0 (c.loop-count.invariant.at bytes told at) in
-          rw (more_taken [] heard c.in_ok-count.count bytes) at took.at;
-      goes = λ at.
-          let before = c.loop-count.invariant.goes at in
-          let more = c.in_ok-count.ensures.goes (with_bytes [] before.0) before.1 in
-          (before.0 ++ more.0, rw (pieces_join [] before.0 more.0) at more.1);
-      counts = record {
-        later = omega (arith, c.loop-count.invariant.counts.later, c.take_read.ensures.counts.later);
-        stays = λ spent. c.take_read.ensures.counts.stays (c.loop-count.invariant.counts.stays spent);
-      };
+      within = omega arith;
+      at = λ limits m h.
+          let here = c.loop-count.invariant.at limits m h in
+          let took = c.in_ok-taken.ensures.took limits _ here in
+          subst (λ (x : Moment). At limits c.take_piece.new.engine (g.L.Source.left c.take_piece.new.log) x) (take_both m count taken) took;
+      part = λ limits m h.
+          let here = c.loop-count.invariant.at limits m h in
+          omega (arith, (c.in_ok-taken.ensures.some limits _ here).within, c.loop-count.invariant.part limits m h, length-drop count m.log);
+      counts = search rules;
     }
 
-pub returns-then-count-eq0-clause-goes : goal.returns-then-count-eq0-clause-goes
-returns-then-count-eq0-clause-goes g c = λ at.
-    let before = c.loop-count.invariant.goes at in
-    let more = c.in_ok-count.ensures.goes (with_bytes [] before.0) before.1 in
-    (before.0 ++ more.0, rw (pieces_join [] before.0 more.0) at more.1)
+pub returns-clause-took : goal.returns-clause-took
+returns-clause-took g c = λ limits m h.
+    let all : c.loop-count.count ≡ c.args.most = omega arith in
+    subst (λ (n : ℕ). At limits c.loop-count.engine (g.L.Source.left c.loop-count.log) (after (Some (ask.Take n)) m)) all (c.loop-count.invariant.at limits m h)
+
+pub returns-clause-count : goal.returns-clause-count
+returns-clause-count g c = λ limits m h.
+    let all : c.loop-count.count ≡ c.args.most = omega arith in
+    omega (arith, all, c.loop-count.invariant.part limits m h, length-take c.args.most m.log)

@@ -1,21 +1,20 @@
-use Rattle.std.proofs.Common.{◌≡◌, ◌≤◌, ◌-◌, List, ℕ, [], Some, length, take, drop}
-use Rattle.audit_lex.specs.History.{with_bytes}
-use Rattle.audit_cli.specs.Taking.{IsAt}
-use Rattle.audit_cli.specs.Logs.{GoesUp}
+use Rattle.std.proofs.Common.{ℕ, length, ◌-◌, ◌≤◌, Some}
+use Rattle.flow_base.specs.declared.limits.Limits.{Limits}
+use Rattle.report_json.specs.declared.ask.Ask.TheVariants as ask
+use Rattle.audit_cli.specs.Dialogue.{Moment, after}
+use Rattle.audit_cli.specs.Course.{At, GoesUp}
 use Rattle.audit_cli.proofs.log.take_log.Given as goal
 
--- the bytes before `heard` were taken, and the source has those after them
+-- the first `count` bytes were taken
 abbrev pub invariant-loop-count : goal.invariant-loop-count
 invariant-loop-count g l =
-    let log = g.L.Source in
+    let source = g.L.Source in
     record {
-      heard : l.heard ≤ l.limits.input;
-      lines : l.cut.lines ≤ l.heard;
-      told : (bytes : List ℕ) → log.left l.initial.log ≡ Some bytes → IsAt l.limits l.initial.cut l.initial.stage [] → (log.left l.log ≡ Some (drop l.heard bytes)) × (l.heard ≤ length bytes);
-      at : (bytes : List ℕ) → log.left l.initial.log ≡ Some bytes → IsAt l.limits l.initial.cut l.initial.stage [] → IsAt l.limits l.cut l.stage (with_bytes [] (take l.heard bytes));
-      goes : IsAt l.limits l.initial.cut l.initial.stage [] → (bytes : List ℕ) × IsAt l.limits l.cut l.stage (with_bytes [] bytes);
-      counts : GoesUp (log.faults l.initial.log) (log.faults l.log) (log.spent l.initial.log) (log.spent l.log);
+      within : l.count ≤ l.most;
+      at : (limits : Limits) (m : Moment) → At limits l.initial.engine (source.left l.initial.log) m → At limits l.engine (source.left l.log) (after (Some (ask.Take l.count)) m);
+      part : (limits : Limits) (m : Moment) → At limits l.initial.engine (source.left l.initial.log) m → l.count ≤ length m.log;
+      counts : GoesUp (source.faults l.initial.log) (source.faults l.log) (source.spent l.initial.log) (source.spent l.log);
     }
 
 abbrev pub decreases-loop-count : goal.decreases-loop-count
-decreases-loop-count g l = l.limits.input - l.heard
+decreases-loop-count g l = l.most - l.count

@@ -1,4 +1,40 @@
+use Rattle.std.proofs.Common.{◌≡◌, ◌<◌, ◌-◌, ◌^◌, ◌∙◌, sym, ℕ, List, arith}
+use Rattle.audit_cli.specs.Dialogue.{begin}
+use Rattle.audit_cli.proofs.JobLemmas.{back_talked, watch_talked}
+use Rattle.audit_cli.proofs.HearLemmas.{on_ok}
 use Rattle.audit_cli.proofs.run.run.Goals as goal
 
-pub returns-clause-whole : goal.returns-clause-whole
-returns-clause-whole g c = λ bytes told. (c.in_ok-stage.ensures.whole bytes told).0
+pub returns-in-Back-clause-talked : goal.returns-in-Back-clause-talked
+returns-in-Back-clause-talked g c = λ bytes asked told tells.
+    let within = c.args.limits.now.input_within in
+    let small : c.args.limits.now.input < 2 ^ 64 - 1 = omega (arith, within) in
+    rw c.in-Back.is (back_talked c.args.limits.now c.in-Back.of bytes asked _ _ _ _ c.back.result
+    (c.back.ensures.talked c.args.limits.now bytes small (record { stands = c.new-engine.ensures; told = told })))
+
+pub returns-clause-talked : goal.returns-clause-talked
+returns-clause-talked g c = λ bytes asked told tells.
+    let heard = rw c.in-Watch.is at tells in
+    rw c.in-Watch.is (watch_talked c.args.limits.now _ _ bytes asked _ _ _ _ c.watch.result
+    (c.watch.ensures.talked (begin bytes) asked (record { stands = c.new-engine.ensures; told = told }) heard))
+
+pub returns-in-Back-clause-within : goal.returns-in-Back-clause-within
+returns-in-Back-clause-within g c = λ bytes asked told tells. rw c.in-Back.is (on_ok c.back.result _ tt)
+
+pub returns-clause-within : goal.returns-clause-within
+returns-clause-within g c = λ bytes asked told tells.
+    let heard = rw c.in-Watch.is at tells in
+    rw c.in-Watch.is (c.watch.ensures.within (begin bytes) asked (record { stands = c.new-engine.ensures; told = told }) heard)
+
+pub returns-in-Back-clause-whole : goal.returns-in-Back-clause-whole
+returns-in-Back-clause-whole g c = λ of bytes is told.
+    let within = c.args.limits.now.input_within in
+    let small : c.args.limits.now.input < 2 ^ 64 - 1 = omega (arith, within) in
+    c.back.ensures.whole c.args.limits.now bytes small (record { stands = c.new-engine.ensures; told = told })
+
+pub returns-in-Back-clause-left : goal.returns-in-Back-clause-left
+returns-in-Back-clause-left g c = λ bytes asked told tells. rw c.in-Back.is (on_ok c.back.result _ tt)
+
+pub returns-clause-left : goal.returns-clause-left
+returns-clause-left g c = λ bytes asked told tells.
+    let heard = rw c.in-Watch.is at tells in
+    rw c.in-Watch.is (c.watch.ensures.left (begin bytes) asked (record { stands = c.new-engine.ensures; told = told }) heard)

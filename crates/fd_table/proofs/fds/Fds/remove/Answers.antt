@@ -9,8 +9,8 @@ use Rattle.fd_table.proofs.fds.Fds.remove.Goals as goal
 pub invariant_of-self : goal.invariant_of-self
 invariant_of-self c = record {
   each = λ p n. c.leave.ensures.has p n
-  ∙ ap (λ b. not (is_at c.args.pid c.args.fd p n) && b) (c.self.invariant.each p n)
-  ∙ sym (ap is_some (c.swap_remove.ensures.updates.0 (p, n)) ∙ some_left (is_at c.args.pid c.args.fd p n) (lookup (same_slot (p, n)) c.self.inside.held.entries));
+      ∙ ap (λ b. not (is_at c.args.pid c.args.fd p n) && b) (c.self.invariant.each p n)
+      ∙ sym (ap is_some (c.swap_remove.ensures.updates.0 (p, n)) ∙ some_left (is_at c.args.pid c.args.fd p n) (lookup (same_slot (p, n)) c.self.inside.held.entries));
 }
 
 pub returns-clause-held : goal.returns-clause-held

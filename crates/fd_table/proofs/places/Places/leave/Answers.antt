@@ -1,4 +1,4 @@
-use Rattle.std.proofs.Common.{◌∙◌, ap, sym, subst, is_some, true, ◌==◌, Some, None, if◌then◌else◌, ℕ}
+use Rattle.std.proofs.Common.{◌∙◌, ap, sym, subst, is_some, ◌==◌, Some, None, if◌then◌else◌}
 use Rattle.acts.specs.Holding.{is_at}
 use Rattle.fd_table.specs.Placing.{Placing, IsPlacing, place_of, fd_at, count_of}
 use Rattle.fd_table.specs.contracts.places.Places.{the_view}

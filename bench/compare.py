@@ -1,0 +1,66 @@
+#!/usr/bin/env python3
+"""Holds the built program against the plain reading of the formats, over a real log and generated ones.
+
+    bench/compare.py [--program ./audit_cli] [--calls three|moves|all] [--seeds 3] [--events 2000]
+
+Each log is asked in several cuts. It ends with status 1 and the first difference where the two don't agree.
+"""
+import argparse
+import os
+import random
+import subprocess
+import sys
+import tempfile
+
+HERE = os.path.dirname(os.path.abspath(__file__))
+
+
+def questions_for(size, seed):
+    """A dialogue that takes the log in pieces of any size and asks on the way."""
+    rng = random.Random(seed)
+    lines, left = [], size
+    while left > 0:
+        piece = min(left, rng.choice([1, 100, 5_000, 70_000, size // 3 + 1]))
+        left -= piece
+        lines += [f'take {piece}', f'back {rng.randrange(200)}']
+    for settled in (False, True):
+        lines += ['settle'] * settled + ['stat'] + [f'back {of}' for of in range(0, 120, 7)]
+    lines += ['take 5', 'back 10 1700000001.500', 'back 3 0.000', 'back', 'settle ', 'fork 1', 'back 99999999999', 'end', 'stat']
+    return ('\n'.join(lines) + '\n').encode()
+
+
+def answers(words, questions):
+    return subprocess.run(words, input=questions, stdout=subprocess.PIPE, check=False).stdout.split(b'\n')
+
+
+def differs(options, log, seed):
+    questions = questions_for(os.path.getsize(log), seed)
+    got = answers([options.program, 'watch', 'plain', log], questions)
+    want = answers([sys.executable, os.path.join(HERE, 'plain_reading.py'), log, '--calls', options.calls], questions)
+    for number, (one, other) in enumerate(zip(got, want)):
+        if one != other:
+            return f'{log}: line {number + 1}, {questions.splitlines()[number]!r}: {one[:300]!r}, but by the plain reading {other[:300]!r}'
+    return f'{log}: {len(got)} lines, but {len(want)} by the plain reading' if len(got) != len(want) else None
+
+
+def main():
+    parser = argparse.ArgumentParser()
+    parser.add_argument('--program', default=os.path.join(HERE, '..', 'audit_cli'))
+    parser.add_argument('--calls', default='all')
+    parser.add_argument('--seeds', type=int, default=3)
+    parser.add_argument('--events', type=int, default=2000)
+    options = parser.parse_args()
+    with tempfile.TemporaryDirectory() as folder:
+        logs = [os.path.join(HERE, '..', 'examples', name) for name in ('web1_sample.log', 'web1_reads_writes.log', 'two_flows.log')]
+        for seed in range(options.seeds):
+            logs.append(os.path.join(folder, f'log{seed}'))
+            with open(logs[-1], 'wb') as file:
+                subprocess.run([sys.executable, os.path.join(HERE, 'make_log.py'), str(seed), str(options.events), '--mix'], stdout=file, check=True)
+        found = [text for seed, log in enumerate(logs) if (text := differs(options, log, seed))]
+    for text in found:
+        print(text)
+    return 1 if found else 0
+
+
+if __name__ == '__main__':
+    sys.exit(main())

@@ -1,0 +1,116 @@
+-- The three questions of `back`.
+use Rattle.std.proofs.Common.{◌≡◌, ◌≤◌, ◌<◌, ◌+◌, ◌-◌, ◌^◌, ℕ, List, [], ◌∷◌, ◌++◌, map, length, take, drop, refl, ap, sym, arith, ◌∙◌, Option, Some, None, min, subst, inl, inr}
+use Rattle.std.specs.Prelude.{cond}
+use Rattle.std.proofs.lemmas.List.Sums.{sum_by-append}
+use Rattle.std.proofs.lemmas.List.{length-take, take-append-drop, map-append, take_all as list_take_all}
+use Rattle.std.proofs.Math.ListN.{drop_of_length-le}
+use Rattle.flow_base.specs.declared.limits.Limits.{Limits}
+use Rattle.flow_base.specs.declared.limits.Full.{Full}
+use Rattle.flow_base.specs.declared.types.EntityId.{EntityId}
+use Rattle.audit_lex.specs.History.{History, Byte, with_bytes}
+use Rattle.report_json.specs.declared.ask.Ask.{Ask}
+use Rattle.report_json.specs.declared.ask.Ask.TheVariants as ask
+use Rattle.report_json.specs.declared.questions.Question.TheVariants as question
+use Rattle.report_json.specs.declared.reply.Reply.{Reply}
+use Rattle.report_json.specs.declared.reply.Reply.TheVariants as reply
+use Rattle.report_json.specs.Replies.{text_of}
+use Rattle.ingest.specs.Counting.{is_byte, bytes_in}
+use Rattle.ingest.specs.Stops.{Fits, Stops}
+use Rattle.audit_cli.specs.Dialogue.{Moment, after, Answers, Dialogue, Leads, HistoryStops, begin}
+use Rattle.audit_cli.specs.Headline.{back_questions, IsLast, IsLastFront}
+use Rattle.audit_cli.proofs.MomentLemmas.{Stay, take_all, stop_later}
+use Rattle.audit_cli.proofs.TalkLemmas.{leads_none, stops_now}
+
+-- the most that one question takes
+abbrev pub most : ℕ
+most = 2 ^ 64 - 1
+
+-- the moment when all was taken
+abbrev pub taken : List ℕ → Moment
+taken bytes = after (Some (ask.Take most)) (begin bytes)
+
+-- as many bytes in a history as were taken
+pub count_bytes : (bytes : List ℕ) → bytes_in (map Byte bytes) ≡ length bytes
+count_bytes [] = refl
+count_bytes (b ∷ bytes) =
+    let split : bytes_in (map Byte (b ∷ bytes)) ≡ 1 + bytes_in (map Byte bytes) = sum_by-append (λ x. cond (is_byte x) 1 0) (Byte b ∷ []) (map Byte bytes) in
+    let rest = count_bytes bytes in
+    omega arith
+
+-- what was taken within the limits is all
+pub all_taken : (limits : Limits) (bytes : List ℕ) → limits.input < most → Fits limits (taken bytes).history → length bytes ≤ most
+all_taken limits bytes small fits =
+    let count = count_bytes (take most bytes) in
+    let long = length-take most bytes in
+    let within = fits.input in
+    omega arith
+
+pub takes_all : (limits : Limits) (bytes : List ℕ) → limits.input < most → Fits limits (taken bytes).history → taken bytes ≡ after (Some (ask.Take (length bytes))) (begin bytes)
+takes_all limits bytes small fits = take_all (begin bytes) most (length bytes) (all_taken limits bytes small fits) (omega arith)
+
+-- nothing is left
+pub nothing_left : (limits : Limits) (bytes : List ℕ) → limits.input < most → Fits limits (taken bytes).history → (taken bytes).log ≡ []
+nothing_left limits bytes small fits = drop_of_length-le bytes (all_taken limits bytes small fits)
+
+-- the first question passes the limit
+pub take_stops : Stay → (limits : Limits) (of : ℕ) (bytes : List ℕ) (full : Full) → Stops limits (taken bytes).history full → HistoryStops limits (begin bytes) (back_questions of bytes) full
+take_stops stay limits of bytes full over =
+    let split : take (length bytes) bytes ≡ take most bytes ++ drop most bytes = list_take_all (length bytes) bytes (omega arith) ∙ sym (take-append-drop most bytes) in
+    let longer : (after (Some (ask.Take (length bytes))) (begin bytes)).history ≡ (taken bytes).history ++ map Byte (drop most bytes) = rw (split, map-append) refl in
+    stops_now limits (begin bytes) _ _ full (subst (λ (h : History). Stops limits h full) (sym longer) (stay limits (taken bytes).history (map Byte (drop most bytes)) full over))
+
+taken_said : (limits : Limits) (bytes : List ℕ) (r : Reply) → limits.input < most → Fits limits (taken bytes).history → Answers limits (Some (ask.Take most)) (begin bytes) r → Answers limits (Some (ask.Take (length bytes))) (begin bytes) r
+taken_said limits bytes r small fits a =
+    let whole = all_taken limits bytes small fits in
+    let first = length-take most bytes in
+    let second = length-take (length bytes) bytes in
+    let same : length (take most bytes) ≡ length (take (length bytes) bytes) = omega arith in
+    a ∙ ap (λ (n : ℕ). reply.Take n) same
+
+-- the second question passes the limit
+pub settle_stops : (limits : Limits) (of : ℕ) (bytes : List ℕ) (r : Reply) (full : Full) → limits.input < most → Fits limits (taken bytes).history → Answers limits (Some (ask.Take most)) (begin bytes) r
+    → Stops limits (after (Some ask.Settle) (taken bytes)).history full → HistoryStops limits (begin bytes) (back_questions of bytes) full
+settle_stops limits of bytes r full small fits a over = record {
+  front = Some (ask.Take (length bytes)) ∷ [];
+  next = Some ask.Settle;
+  rest = Some (ask.Question (question.Back (record { 0 = of }) None)) ∷ [];
+  said = r ∷ [];
+  to = after (Some (ask.Take (length bytes))) (begin bytes);
+  parts = refl;
+  leads = λ questions replies end talk. (taken_said limits bytes r small fits a, talk);
+  stops = subst (λ (x : Moment). Stops limits (after (Some ask.Settle) x).history full) (takes_all limits bytes small fits) over;
+}
+
+-- all three were answered
+pub last_said : (limits : Limits) (of : ℕ) (bytes : List ℕ) (a b r : Reply) (text : List ℕ) → limits.input < most → Fits limits (taken bytes).history → Answers limits (Some (ask.Take most)) (begin bytes) a
+    → Answers limits (Some ask.Settle) (taken bytes) b
+    → Answers limits (Some (ask.Question (question.Back (record { 0 = of }) None))) (after (Some ask.Settle) (taken bytes)) r
+    → text ≡ text_of r → IsLast limits (begin bytes) (back_questions of bytes) text (after (Some ask.Settle) (taken bytes))
+last_said limits of bytes a b r text small fits first second third is =
+    let e = takes_all limits bytes small fits in
+    record {
+      said = a ∷ b ∷ [];
+      last = r;
+      dialogue = (
+        taken_said limits bytes a small fits first,
+        (
+          subst (λ (x : Moment). Answers limits (Some ask.Settle) x b) e second,
+          (
+            subst (λ (x : Moment). Answers limits (Some (ask.Question (question.Back (record { 0 = of }) None))) (after (Some ask.Settle) x) r) e third,
+            ap (after (Some ask.Settle)) e,
+          ),
+        ),
+      );
+      bytes_are = is;
+    }
+
+-- a front of the last reply was written
+pub last_cut : (limits : Limits) (of : ℕ) (bytes : List ℕ) (a b r : Reply) (done : ℕ) → limits.input < most → Fits limits (taken bytes).history → Answers limits (Some (ask.Take most)) (begin bytes) a
+    → Answers limits (Some ask.Settle) (taken bytes) b
+    → Answers limits (Some (ask.Question (question.Back (record { 0 = of }) None))) (after (Some ask.Settle) (taken bytes)) r
+    → IsLastFront limits (begin bytes) (back_questions of bytes) (take done (text_of r))
+last_cut limits of bytes a b r done small fits first second third = record {
+  to = after (Some ask.Settle) (taken bytes);
+  more = drop done (text_of r);
+  last = last_said limits of bytes a b r _ small fits first second third (take-append-drop done (text_of r));
+}

@@ -1,0 +1,290 @@
+-- Pieces of the questions, one after another.
+use Rattle.std.proofs.Common.{◌≡◌, ◌≤◌, ◌<◌, ◌-◌, ◌+◌, arith, length, ℕ, List, [], ◌∷◌, ◌++◌, map, take, drop, refl, ap, sym, append_assoc, ◌∙◌, Option, Some, None, subst, inl, inr}
+use Rattle.std.specs.Prelude.{◌⊎◌, Result, Ok, Err, OnOk}
+use Rattle.std.proofs.lemmas.List.{append-nil, map-append, length-drop, drop-drop}
+use Rattle.std.proofs.Math.Seq.{take-add}
+use Rattle.flow_base.specs.declared.limits.Limits.{Limits}
+use Rattle.flow_base.specs.declared.limits.Full.{Full}
+use Rattle.audit_lex.specs.History.{History, Byte, with_bytes, lines_of}
+use Rattle.audit_lex.specs.LineCut.{Cutter, StandsFor}
+use Rattle.ingest.specs.Parts.{Engine}
+use Rattle.report_json.specs.declared.ask.Ask.{Ask}
+use Rattle.audit_cli.specs.declared.halt.Halt.{Halt}
+use Rattle.audit_cli.specs.declared.halt.Halt.TheVariants as halt
+use Rattle.audit_cli.specs.declared.halt.Turn.{Turn}
+use Rattle.audit_cli.specs.declared.halt.Turn.TheVariants as turn
+use Rattle.audit_cli.specs.Dialogue.{Moment, Leads, asked, asks, texts, HistoryStops, QuestionsStop, ReadsNoFurther, input_full}
+use Rattle.audit_cli.specs.Course.{At, Course, Talked, IsDue, never}
+use Rattle.audit_cli.specs.Hearing.{Holds, Heard, WhenMore}
+use Rattle.audit_cli.specs.Listening.{PassesRoom, EndsWithin}
+use Rattle.audit_cli.proofs.TalkLemmas.{appends_none, appends_both, leads_none, leads_both, leads_closes, course_after, nothing_said, all_said}
+use Rattle.audit_cli.proofs.MomentLemmas.{due_weaker}
+
+-- lines that have ended stay
+abbrev pub LinesStay : Type 0
+LinesStay = (history more : History) → (later : List (List ℕ)) × (lines_of (history ++ more) ≡ lines_of history ++ later)
+
+-- bytes that come in two pieces
+pub pieces : (h : History) (p q : List ℕ) → with_bytes (with_bytes h p) q ≡ with_bytes h (p ++ q)
+pieces h p q = rw (map-append, append_assoc) refl
+
+-- the lines of a piece that was heard whole
+pub whole_lines : (limits : Limits) (beyond : Full → Type 0) (c : Cutter) (e : Engine) (l old new : Option (List ℕ)) (m : Moment) (h : History) (p : List ℕ)
+    → (x : Heard limits beyond c e l old new (Ok turn.More) m h p) → lines_of (with_bytes h p) ≡ lines_of h ++ x.answered
+whole_lines limits beyond c e l old new m h p x =
+    x.lines ∙ ap (λ (ls : List (List ℕ)). lines_of h ++ (x.answered ++ ls)) x.whole ∙ ap (λ (ls : List (List ℕ)). lines_of h ++ ls) (append-nil x.answered)
+
+-- a part of a run after another one that goes on
+pub talked_after : (limits : Limits) (beyond : Full → Type 0) (e1 e2 : Engine) (l1 l2 old mid new : Option (List ℕ)) (r : Result Turn Halt) (from : Moment) (f g : List (Option Ask))
+    → (first : Talked limits never e1 l1 old mid (Ok turn.More) from f) → Talked limits beyond e2 l2 mid new r first.to g → Talked limits beyond e2 l2 old new r from (f ++ g)
+talked_after limits beyond e1 e2 l1 l2 old mid new r from f g first second = record {
+  to = second.to;
+  bytes = first.bytes ++ second.bytes;
+  wrote = appends_both old mid new first.bytes second.bytes first.wrote second.wrote;
+  course = subst (λ (bs : List ℕ). Course limits beyond r from (f ++ g) (bs ++ second.bytes) second.to) (sym first.course.1)
+      (course_after limits beyond r from first.to second.to f g first.course.0 second.bytes first.course.2 second.course);
+  at = second.at;
+}
+
+-- nothing asked yet
+pub talked_none : (limits : Limits) (beyond : Full → Type 0) (e : Engine) (l old : Option (List ℕ)) (m : Moment) → At limits e l m → Talked limits beyond e l old old (Ok turn.More) m []
+talked_none limits beyond e l old m at = record { to = m; bytes = []; wrote = appends_none old; course = ([], refl, leads_none limits m); at = at }
+
+-- nothing heard yet
+pub heard_none : (limits : Limits) (beyond : Full → Type 0) (c : Cutter) (e : Engine) (l old : Option (List ℕ)) (m : Moment) (h : History) → At limits e l m → Holds limits c h → Heard limits beyond c e l old old (Ok turn.More) m h []
+heard_none limits beyond c e l old m h at holds = record {
+  answered = [];
+  unheard = [];
+  lines = ap lines_of (append-nil h) ∙ sym (append-nil (lines_of h));
+  talked = talked_none limits beyond e l old m at;
+  holds = subst (λ (x : History). Holds limits c x) (sym (append-nil h)) holds;
+  whole = refl;
+}
+
+-- one piece after another that was heard whole
+pub heard_both : (limits : Limits) (beyond : Full → Type 0) (c1 c2 : Cutter) (e1 e2 : Engine) (l1 l2 old mid new : Option (List ℕ)) (r : Result Turn Halt) (from : Moment) (h : History) (p q : List ℕ)
+    → (first : Heard limits never c1 e1 l1 old mid (Ok turn.More) from h p) → Heard limits beyond c2 e2 l2 mid new r first.talked.to (with_bytes h p) q → Heard limits beyond c2 e2 l2 old new r from h (p ++ q)
+heard_both limits beyond c1 c2 e1 e2 l1 l2 old mid new r from h p q first second =
+    let whole = whole_lines limits never c1 e1 l1 old mid from h p first in
+    record {
+      answered = first.answered ++ second.answered;
+      unheard = second.unheard;
+      lines = ap lines_of (sym (pieces h p q)) ∙ second.lines ∙ ap (λ (ls : List (List ℕ)). ls ++ (second.answered ++ second.unheard)) whole
+          ∙ append_assoc (lines_of h) first.answered (second.answered ++ second.unheard)
+          ∙ ap (λ (ls : List (List ℕ)). lines_of h ++ ls) (sym (append_assoc first.answered second.answered second.unheard));
+      talked = rw (map-append (asked limits.question) first.answered second.answered) (talked_after limits beyond e1 e2 l1 l2 old mid new r from _ _ first.talked second.talked);
+      holds = subst (λ (x : History). WhenMore r (Holds limits c2 x)) (pieces h p q) second.holds;
+      whole = second.whole;
+    }
+
+never_more : (r : Result Turn Halt) (P : Type 0) → WhenMore r ⊥ → WhenMore r P
+never_more (Ok turn.More) P none = absurd none
+never_more (Ok turn.Ended) P none = tt
+never_more (Err why) P none = tt
+
+when_more : (r : Result Turn Halt) (P : Type 0) → P → WhenMore r P
+when_more (Ok turn.More) P p = p
+when_more (Ok turn.Ended) P p = tt
+when_more (Err why) P p = tt
+
+-- a longer piece, of which no more is heard
+pub heard_longer : LinesStay → (limits : Limits) (beyond : Full → Type 0) (c : Cutter) (e : Engine) (l old new : Option (List ℕ)) (r : Result Turn Halt) (from : Moment) (h : History) (p q : List ℕ)
+    → WhenMore r ⊥ → Heard limits beyond c e l old new r from h p → Heard limits beyond c e l old new r from h (p ++ q)
+heard_longer stay limits beyond c e l old new r from h p q none x =
+    let more = stay (with_bytes h p) (map Byte q) in
+    record {
+      answered = x.answered;
+      unheard = x.unheard ++ more.0;
+      lines = ap lines_of (sym (pieces h p q)) ∙ more.1 ∙ ap (λ (ls : List (List ℕ)). ls ++ more.0) x.lines
+          ∙ append_assoc (lines_of h) (x.answered ++ x.unheard) more.0
+          ∙ ap (λ (ls : List (List ℕ)). lines_of h ++ ls) (append_assoc x.answered x.unheard more.0);
+      talked = x.talked;
+      holds = never_more r _ none;
+      whole = never_more r _ none;
+    }
+
+-- a part that ends a line, which was answered
+pub heard_line : (limits : Limits) (beyond : Full → Type 0) (c : Cutter) (e : Engine) (l old new : Option (List ℕ)) (r : Result Turn Halt) (m : Moment) (h : History) (part text : List ℕ) (q : Option Ask)
+    → q ≡ asked limits.question text → Holds limits c (with_bytes h part) → lines_of (with_bytes h part) ≡ lines_of h ++ text ∷ [] → Talked limits beyond e l old new r m (q ∷ []) → Heard limits beyond c e l old new r m h part
+heard_line limits beyond c e l old new r m h part text q asks holds lines talked = record {
+  answered = text ∷ [];
+  unheard = [];
+  lines = lines;
+  talked = subst (λ (x : Option Ask). Talked limits beyond e l old new r m (x ∷ [])) asks talked;
+  holds = when_more r _ holds;
+  whole = when_more r _ refl;
+}
+
+-- a part that ends no line
+pub heard_no_line : (limits : Limits) (beyond : Full → Type 0) (c : Cutter) (e : Engine) (l old : Option (List ℕ)) (m : Moment) (h : History) (part : List ℕ)
+    → At limits e l m → Holds limits c (with_bytes h part) → lines_of (with_bytes h part) ≡ lines_of h → Heard limits beyond c e l old old (Ok turn.More) m h part
+heard_no_line limits beyond c e l old m h part at holds lines = record {
+  answered = [];
+  unheard = [];
+  lines = lines ∙ sym (append-nil (lines_of h));
+  talked = talked_none limits beyond e l old m at;
+  holds = holds;
+  whole = refl;
+}
+
+-- nothing heard before a halt
+pub heard_nothing : LinesStay → (limits : Limits) (beyond : Full → Type 0) (c : Cutter) (e : Engine) (l old : Option (List ℕ)) (why : Halt) (m : Moment) (h : History) (piece : List ℕ)
+    → IsDue (λ full. HistoryStops limits m [] full ⊎ beyond full) why → Heard limits beyond c e l old old (Err why) m h piece
+heard_nothing stay limits beyond c e l old why m h piece due =
+    let more = stay h (map Byte piece) in
+    record {
+      answered = [];
+      unheard = more.0;
+      lines = more.1;
+      talked = record { to = m; bytes = []; wrote = appends_none old; course = (nothing_said limits m [], due); at = tt };
+      holds = tt;
+      whole = tt;
+    }
+
+weaker : (A B C : Type 0) → (B → C) → A ⊎ B → A ⊎ C
+weaker A B C f (inl a) = inl a
+weaker A B C f (inr b) = inr (f b)
+
+course_weaker : (limits : Limits) (P Q : Full → Type 0) (r : Result Turn Halt) (a b : Moment) (f : List (Option Ask)) (bytes : List ℕ) → ((full : Full) → P full → Q full) → Course limits P r a f bytes b → Course limits Q r a f bytes b
+course_weaker limits P Q (Ok turn.More) a b f bytes more h = h
+course_weaker limits P Q (Ok turn.Ended) a b f bytes more h = h
+course_weaker limits P Q (Err why) a b f bytes more h = (h.0, due_weaker why _ _ (λ full. weaker _ _ _ (more full)) h.1)
+
+-- with one more cause
+pub heard_weaker : (limits : Limits) (P Q : Full → Type 0) (c : Cutter) (e : Engine) (l old new : Option (List ℕ)) (r : Result Turn Halt) (from : Moment) (h : History) (p : List ℕ)
+    → ((full : Full) → P full → Q full) → Heard limits P c e l old new r from h p → Heard limits Q c e l old new r from h p
+heard_weaker limits P Q c e l old new r from h p more x = record {
+  answered = x.answered;
+  unheard = x.unheard;
+  lines = x.lines;
+  talked = record {
+    to = x.talked.to;
+    bytes = x.talked.bytes;
+    wrote = x.talked.wrote;
+    course = course_weaker limits P Q r from x.talked.to (asks limits x.answered) x.talked.bytes more x.talked.course;
+    at = x.talked.at;
+  };
+  holds = x.holds;
+  whole = x.whole;
+}
+
+-- a longer piece, of which the rest may not be heard
+pub heard_full : LinesStay → (limits : Limits) (beyond : Full → Type 0) (c : Cutter) (e : Engine) (l old new : Option (List ℕ)) (from : Moment) (h : History) (p q : List ℕ)
+    → beyond (input_full limits) → Heard limits never c e l old new (Ok turn.More) from h p → Heard limits beyond c e l old new (Err (halt.Full (input_full limits))) from h (p ++ q)
+heard_full stay limits beyond c e l old new from h p q over x =
+    let more = stay (with_bytes h p) (map Byte q) in
+    record {
+      answered = x.answered;
+      unheard = x.unheard ++ more.0;
+      lines = ap lines_of (sym (pieces h p q)) ∙ more.1 ∙ ap (λ (ls : List (List ℕ)). ls ++ more.0) x.lines
+          ∙ append_assoc (lines_of h) (x.answered ++ x.unheard) more.0
+          ∙ ap (λ (ls : List (List ℕ)). lines_of h ++ ls) (append_assoc x.answered x.unheard more.0);
+      talked = record {
+        to = x.talked.to;
+        bytes = x.talked.bytes;
+        wrote = x.talked.wrote;
+        course = (all_said limits from x.talked.to (asks limits x.answered) x.talked.course.0 x.talked.bytes x.talked.course.1 x.talked.course.2, inr over);
+        at = tt;
+      };
+      holds = tt;
+      whole = tt;
+    }
+
+-- a part that goes on had no cause to halt
+pub heard_more : (limits : Limits) (P Q : Full → Type 0) (c : Cutter) (e : Engine) (l old new : Option (List ℕ)) (from : Moment) (h : History) (p : List ℕ)
+    → Heard limits P c e l old new (Ok turn.More) from h p → Heard limits Q c e l old new (Ok turn.More) from h p
+heard_more limits P Q c e l old new from h p x = record {
+  answered = x.answered;
+  unheard = x.unheard;
+  lines = x.lines;
+  talked = record { to = x.talked.to; bytes = x.talked.bytes; wrote = x.talked.wrote; course = x.talked.course; at = x.talked.at };
+  holds = x.holds;
+  whole = x.whole;
+}
+
+-- what was heard within the room leaves more to hear
+pub questions_pass : (limits : Limits) (c : Cutter) (e : Engine) (l old new : Option (List ℕ)) (from : Moment) (h : History) (p q : List ℕ) (room : ℕ)
+    → p ≡ take room q → room < length q → Heard limits never c e l old new (Ok turn.More) from h p → PassesRoom limits room from h q (input_full limits)
+questions_pass limits c e l old new from h p q room is over x = record {
+  later = x.answered;
+  lines = ap (λ (xs : List ℕ). lines_of (with_bytes h xs)) (sym is) ∙ whole_lines limits never c e l old new from h p x;
+  said = x.talked.course.0;
+  to = x.talked.to;
+  leads = x.talked.course.2;
+  past = over;
+  is = refl;
+}
+
+-- `end` was heard within the room
+pub questions_closed : LinesStay → (limits : Limits) (c : Cutter) (e : Engine) (l old new : Option (List ℕ)) (from : Moment) (h : History) (p q : List ℕ) (n room : ℕ)
+    → p ≡ take n q → n ≤ room → Heard limits never c e l old new (Ok turn.Ended) from h p → EndsWithin limits room from h q
+questions_closed stay limits c e l old new from h p q n room is within x =
+    let sum : n + (room - n) ≡ room = omega arith in
+    let split : take room q ≡ p ++ take (room - n) (drop n q) = sym (ap (λ (k : ℕ). take k q) sum) ∙ take-add n (room - n) q ∙ ap (λ (xs : List ℕ). xs ++ take (room - n) (drop n q)) (sym is) in
+    let rest = take (room - n) (drop n q) in
+    let more = stay (with_bytes h p) (map Byte rest) in
+    record {
+      answered = x.answered;
+      unheard = x.unheard ++ more.0;
+      lines = ap (λ (xs : List ℕ). lines_of (with_bytes h xs)) split ∙ ap lines_of (sym (pieces h p rest)) ∙ more.1 ∙ ap (λ (ls : List (List ℕ)). ls ++ more.0) x.lines
+          ∙ append_assoc (lines_of h) (x.answered ++ x.unheard) more.0
+          ∙ ap (λ (ls : List (List ℕ)). lines_of h ++ ls) (append_assoc x.answered x.unheard more.0);
+      said = x.talked.course.0;
+      to = x.talked.to;
+      closes = x.talked.course.2;
+    }
+
+-- the bytes that were heard, and further ones up to the limit
+front_of : (limits : Limits) (n : ℕ) (q : List ℕ) → n ≤ limits.input → take n q ++ take (limits.input - n) (drop n q) ≡ take limits.input q
+front_of limits n q within =
+    let sum : n + (limits.input - n) ≡ limits.input = omega arith in
+    sym (take-add n (limits.input - n) q) ∙ ap (λ (k : ℕ). take k q) sum
+
+-- the same, after all that was heard before
+pub questions_pass_after : (limits : Limits) (n : ℕ) (c : Cutter) (e : Engine) (l old new : Option (List ℕ)) (from : Moment) (q : List ℕ) (full : Full)
+    → n ≤ limits.input → n ≤ length q → (first : Heard limits never c e l old new (Ok turn.More) from [] (take n q)) → PassesRoom limits (limits.input - n) first.talked.to (with_bytes [] (take n q)) (drop n q) full → QuestionsStop limits from q full
+questions_pass_after limits n c e l old new from q full within part first x =
+    let whole = whole_lines limits never c e l old new from [] (take n q) first in
+    let lines : lines_of (with_bytes [] (take limits.input q)) ≡ first.answered ++ x.later =
+    ap (λ (xs : List ℕ). lines_of (with_bytes [] xs)) (sym (front_of limits n q within)) ∙ ap lines_of (sym (pieces [] (take n q) (take (limits.input - n) (drop n q)))) ∙ x.lines ∙ ap (λ (ls : List (List ℕ)). ls ++ x.later) whole in
+    let left = length-drop n q in
+    let over = x.past in
+    record {
+      said = first.talked.course.0 ++ x.said;
+      to = x.to;
+      leads = rw (lines, map-append (asked limits.question) first.answered x.later) (leads_both limits from first.talked.to x.to (asks limits first.answered) (asks limits x.later) first.talked.course.0 x.said first.talked.course.2 x.leads);
+      past = omega arith;
+      is = x.is;
+    }
+
+-- the same, after all that was heard before
+pub questions_closed_after : (limits : Limits) (n : ℕ) (c : Cutter) (e : Engine) (l old new : Option (List ℕ)) (from : Moment) (q : List ℕ)
+    → n ≤ limits.input → (first : Heard limits never c e l old new (Ok turn.More) from [] (take n q)) → EndsWithin limits (limits.input - n) first.talked.to (with_bytes [] (take n q)) (drop n q) → EndsWithin limits limits.input from [] q
+questions_closed_after limits n c e l old new from q within first x =
+    let whole = whole_lines limits never c e l old new from [] (take n q) first in
+    record {
+      answered = first.answered ++ x.answered;
+      unheard = x.unheard;
+      lines = ap (λ (xs : List ℕ). lines_of (with_bytes [] xs)) (sym (front_of limits n q within)) ∙ ap lines_of (sym (pieces [] (take n q) (take (limits.input - n) (drop n q)))) ∙ x.lines
+          ∙ ap (λ (ls : List (List ℕ)). ls ++ (x.answered ++ x.unheard)) whole ∙ sym (append_assoc first.answered x.answered x.unheard);
+      said = first.talked.course.0 ++ x.said;
+      to = x.to;
+      closes = rw (map-append (asked limits.question) first.answered x.answered) (leads_closes limits from first.talked.to x.to (asks limits first.answered) (asks limits x.answered) first.talked.course.0 x.said first.talked.course.2 x.closes);
+    }
+
+pub on_ok : {T E : Type 0} → (r : Result T E) (P : Type 0) → P → OnOk r P
+on_ok (Ok t) P p = p
+on_ok (Err e) P p = tt
+
+-- one read more than what was heard whole
+pub no_further : (limits : Limits) (c : Cutter) (e : Engine) (l old new : Option (List ℕ)) (from : Moment) (q : List ℕ) (n count : ℕ) (left : Option (List ℕ))
+    → Heard limits never c e l old new (Ok turn.More) from [] (take n q) → count ≤ 65536 → left ≡ Some (drop count (drop n q)) → ReadsNoFurther limits from q left
+no_further limits c e l old new from q n count left first short told = record {
+  before = n;
+  count = count;
+  said = first.talked.course.0;
+  to = first.talked.to;
+  leads = subst (λ (ls : List (List ℕ)). Leads limits from (asks limits ls) first.talked.course.0 first.talked.to) (sym (whole_lines limits never c e l old new from [] (take n q) first)) first.talked.course.2;
+  short = short;
+  told = told ∙ ap Some (drop-drop count n q);
+}

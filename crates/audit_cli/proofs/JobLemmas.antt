@@ -1,0 +1,106 @@
+-- From a job's course to the clauses of the top call.
+use Rattle.std.proofs.Common.{◌≡◌, ℕ, List, [], ◌++◌, refl, sym, ◌∙◌, Option, Some, inl, inr}
+use Rattle.std.proofs.lemmas.List.{append-nil}
+use Rattle.std.specs.Prelude.{◌⊎◌, Result, Ok, Err, OnOk, IfErr}
+use Rattle.reach_model.specs.declared.modes.Mode.{Mode}
+use Rattle.flow_base.specs.declared.limits.Limits.{Limits}
+use Rattle.flow_base.specs.declared.limits.Full.{Full}
+use Rattle.ingest.specs.Parts.{Engine}
+use Rattle.audit_cli.specs.declared.halt.Halt.{Halt}
+use Rattle.audit_cli.specs.declared.halt.Halt.TheVariants as halt
+use Rattle.audit_cli.specs.declared.status.Status.{Status}
+use Rattle.audit_cli.specs.declared.status.Status.TheVariants as status
+use Rattle.audit_cli.specs.declared.words.Job.{Job}
+use Rattle.audit_cli.specs.declared.words.Job.TheVariants as job
+use Rattle.audit_cli.specs.Dialogue.{Moment, begin, asks, lines_in, QuestionsStop}
+use Rattle.audit_cli.specs.Course.{EndTalked, HasCauses}
+use Rattle.audit_cli.specs.Headline.{back_questions, Writes, WritesFront, Finished, Written, PassesLimit, PassesNone}
+use Rattle.audit_cli.specs.Jobs.{LastTalked, JobTalked, KeepsLimit}
+use Rattle.audit_cli.specs.Statuses.{status_for, StatusCause}
+use Rattle.audit_cli.proofs.ExactLemmas.{NeverStops, within_stops, questions_within}
+use Rattle.audit_cli.proofs.MomentLemmas.{Stay}
+use Rattle.audit_cli.proofs.TalkLemmas.{appends_none, nothing_said}
+
+-- `back`
+pub back_talked : (limits : Limits) (of : ℕ) (log asked : List ℕ) (e : Engine) (left old new : Option (List ℕ)) (r : Result Unit Halt) → LastTalked limits e left old new r (begin log) (back_questions of log) → JobTalked limits (job.Back of) log asked left old new r
+back_talked limits of log asked e left old new (Ok done) x = record { to = x.to; bytes = x.bytes; wrote = x.wrote; course = x.course; ends = record { within = x.at.stands.fits; told = x.at.told } }
+back_talked limits of log asked e left old new (Err why) x = record { to = x.to; bytes = x.bytes; wrote = x.wrote; course = x.course; ends = tt }
+
+-- `watch`
+pub watch_talked : (limits : Limits) (mode : Mode) (name log asked : List ℕ) (e : Engine) (left old new : Option (List ℕ)) (r : Result Unit Halt)
+    → EndTalked limits (QuestionsStop limits (begin log) asked) e left old new r (begin log) (asks limits (lines_in asked)) → JobTalked limits (job.Watch mode name) log asked left old new r
+watch_talked limits mode name log asked e left old new (Ok done) x = record { to = x.to; bytes = x.bytes; wrote = x.wrote; course = record { said = x.course.0; dialogue = x.course.2; bytes_are = x.course.1 }; ends = record { within = x.at.stands.fits; told = x.at.told } }
+watch_talked limits mode name log asked e left old new (Err why) x = record { to = x.to; bytes = x.bytes; wrote = x.wrote; course = x.course; ends = tt }
+
+-- what was written whole is a front
+whole_front : (limits : Limits) (done : Job) (log asked bytes : List ℕ) (to : Moment) → Writes limits done log asked bytes to → WritesFront limits done log asked bytes
+whole_front limits (job.Back of) log asked bytes to x = inr (record { to = to; more = []; last = record { said = x.said; last = x.last; dialogue = x.dialogue; bytes_are = append-nil bytes ∙ x.bytes_are } })
+whole_front limits (job.Watch mode name) log asked bytes to x = record { front = asks limits (lines_in asked); rest = []; said = x.said; to = to; more = []; parts = sym (append-nil _); dialogue = x.dialogue; bytes_are = append-nil bytes ∙ x.bytes_are }
+
+-- before the job begins
+pub nothing_written : (limits : Limits) (done : Job) (log asked : List ℕ) (old : Option (List ℕ)) → Written limits done log asked old old
+nothing_written limits (job.Back of) log asked old = record { bytes = []; wrote = appends_none old; front = inl refl }
+nothing_written limits (job.Watch mode name) log asked old = record { bytes = []; wrote = appends_none old; front = nothing_said limits (begin log) _ }
+
+pub causes : (read write : Type 0) (r : Result Unit Halt) → IfErr r (HasCauses read write) → StatusCause read write (status_for r)
+causes read write (Ok done) h = tt
+causes read write (Err halt.NoMemory) h = tt
+causes read write (Err halt.ReadFault) h = h
+causes read write (Err halt.WriteFault) h = h
+causes read write (Err (halt.Full full)) h = tt
+
+pub no_bad_words : (r : Result Unit Halt) → status_for r ≡ status.BadWords → ⊥
+no_bad_words (Ok done) is = cc
+no_bad_words (Err halt.NoMemory) is = cc
+no_bad_words (Err halt.ReadFault) is = cc
+no_bad_words (Err halt.WriteFault) is = cc
+no_bad_words (Err (halt.Full full)) is = cc
+
+-- only what was done is Done
+pub done_only : (r : Result Unit Halt) (P : Type 0) → OnOk r P → status_for r ≡ status.Done → P
+done_only (Ok t) P p is = p
+done_only (Err halt.NoMemory) P p is = absurd (cc)
+done_only (Err halt.ReadFault) P p is = absurd (cc)
+done_only (Err halt.WriteFault) P p is = absurd (cc)
+done_only (Err (halt.Full full)) P p is = absurd (cc)
+
+pub headline : (limits : Limits) (done : Job) (log asked : List ℕ) (left old new : Option (List ℕ)) (r : Result Unit Halt) → JobTalked limits done log asked left old new r → status_for r ≡ status.Done → Finished limits done log asked left old new
+headline limits done log asked left old new (Ok t) x is = record { to = x.to; bytes = x.bytes; wrote = x.wrote; writes = x.course; ends = x.ends }
+headline limits done log asked left old new (Err halt.NoMemory) x is = absurd (cc)
+headline limits done log asked left old new (Err halt.ReadFault) x is = absurd (cc)
+headline limits done log asked left old new (Err halt.WriteFault) x is = absurd (cc)
+headline limits done log asked left old new (Err (halt.Full full)) x is = absurd (cc)
+
+pub front_written : (limits : Limits) (done : Job) (log asked : List ℕ) (left old new : Option (List ℕ)) (r : Result Unit Halt) → JobTalked limits done log asked left old new r → Written limits done log asked old new
+front_written limits done log asked left old new (Ok t) x = record { bytes = x.bytes; wrote = x.wrote; front = whole_front limits done log asked x.bytes x.to x.course }
+front_written limits done log asked left old new (Err why) x = record { bytes = x.bytes; wrote = x.wrote; front = x.course.0 }
+
+pub full_exact : (limits : Limits) (done : Job) (log asked : List ℕ) (left old new : Option (List ℕ)) (r : Result Unit Halt) (full : Full) → JobTalked limits done log asked left old new r → status_for r ≡ status.Full full → PassesLimit limits done log asked full
+full_exact limits done log asked left old new (Ok t) full x is = absurd (cc)
+full_exact limits done log asked left old new (Err halt.NoMemory) full x is = absurd (cc)
+full_exact limits done log asked left old new (Err halt.ReadFault) full x is = absurd (cc)
+full_exact limits done log asked left old new (Err halt.WriteFault) full x is = absurd (cc)
+full_exact limits done log asked left old new (Err (halt.Full other)) full x is = let same : other ≡ full = cc in rw (← same) x.course.1
+
+pub complete : (limits : Limits) (done : Job) (log asked : List ℕ) (left old new : Option (List ℕ)) (read write : Type 0) (r : Result Unit Halt)
+    → JobTalked limits done log asked left old new r → IfErr r (HasCauses read write) → (read → ⊥) → (write → ⊥) → PassesNone limits done log asked → (status_for r ≡ status.Done) ⊎ (status_for r ≡ status.NoMemory)
+complete limits done log asked left old new read write (Ok t) x halts no_read no_write none = inl refl
+complete limits done log asked left old new read write (Err halt.NoMemory) x halts no_read no_write none = inr refl
+complete limits done log asked left old new read write (Err halt.ReadFault) x halts no_read no_write none = absurd (no_read halts)
+complete limits done log asked left old new read write (Err halt.WriteFault) x halts no_read no_write none = absurd (no_write halts)
+complete limits done log asked left old new read write (Err (halt.Full full)) x halts no_read no_write none = absurd (none full x.course.1)
+
+-- the job that was read is the job of the words
+pub job_same : (a b : Job) (found : Option Job) → found ≡ Some a → found ≡ Some b → a ≡ b
+job_same a b found first second = cc
+
+-- a job that ended passed no limit
+pub ended_within : Stay → NeverStops → (limits : Limits) (done : Job) (log asked : List ℕ) (left old new : Option (List ℕ)) (r : Result Unit Halt) (full : Full) → JobTalked limits done log asked left old new r
+    → OnOk r (KeepsLimit limits done log asked) → status_for r ≡ status.Done → PassesLimit limits done log asked full → ⊥
+ended_within stay fitting limits (job.Back of) log asked left old new (Ok t) full x keeps is passes = within_stops stay fitting limits (begin log) x.to _ _ full x.course.dialogue x.ends.within passes
+ended_within stay fitting limits (job.Watch mode name) log asked left old new (Ok t) full x keeps is (inl passes) = within_stops stay fitting limits (begin log) x.to _ _ full x.course.dialogue x.ends.within passes
+ended_within stay fitting limits (job.Watch mode name) log asked left old new (Ok t) full x keeps is (inr passes) = questions_within limits (begin log) asked full keeps passes
+ended_within stay fitting limits done log asked left old new (Err halt.NoMemory) full x keeps is passes = cc
+ended_within stay fitting limits done log asked left old new (Err halt.ReadFault) full x keeps is passes = cc
+ended_within stay fitting limits done log asked left old new (Err halt.WriteFault) full x keeps is passes = cc
+ended_within stay fitting limits done log asked left old new (Err (halt.Full other)) full x keeps is passes = cc

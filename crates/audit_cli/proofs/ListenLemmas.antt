@@ -1,0 +1,77 @@
+-- The end of a dialogue over bytes of questions.
+use Rattle.std.proofs.Common.{◌≡◌, ℕ, List, [], ◌∷◌, ◌++◌, map, refl, ap, sym, ◌∙◌, Option, Some, subst, append_assoc}
+use Rattle.std.specs.Prelude.{Result, Ok, Err, OnOk}
+use Rattle.std.proofs.lemmas.List.{append-nil, map-append}
+use Rattle.flow_base.specs.declared.limits.Limits.{Limits}
+use Rattle.flow_base.specs.declared.limits.Full.{Full}
+use Rattle.audit_lex.specs.History.{History, Settle, with_bytes, lines_of}
+use Rattle.audit_lex.specs.LineCut.{Cutter}
+use Rattle.ingest.specs.Parts.{Engine}
+use Rattle.report_json.specs.declared.ask.Ask.{Ask}
+use Rattle.audit_cli.specs.declared.halt.Halt.{Halt}
+use Rattle.audit_cli.specs.declared.halt.Turn.{Turn}
+use Rattle.audit_cli.specs.declared.halt.Turn.TheVariants as turn
+use Rattle.audit_cli.specs.Dialogue.{Moment, asked, asks, lines_in}
+use Rattle.audit_cli.specs.Course.{At, EndCourse, EndTalked, Talked, ended, never}
+use Rattle.audit_cli.specs.Hearing.{Heard, HeardLast, WhenMore}
+use Rattle.audit_cli.proofs.TalkLemmas.{appends_none, appends_both, end_course, end_whole, end_after}
+use Rattle.audit_cli.proofs.HearLemmas.{LinesStay, whole_lines}
+
+-- no line was left
+pub last_none : (limits : Limits) (e : Engine) (l old : Option (List ℕ)) (m : Moment) (h : History) → At limits e l m → lines_of (h ++ Settle ∷ []) ≡ lines_of h → HeardLast limits never e l old old (Ok tt) m h
+last_none limits e l old m h at lines = record {
+  last = [];
+  lines = lines ∙ sym (append-nil (lines_of h));
+  talked = record { to = m; bytes = []; wrote = appends_none old; course = ([], refl, refl); at = at };
+}
+
+at_end : (r : Result Turn Halt) (P : Type 0) → OnOk r P → OnOk (ended r) P
+at_end (Ok t) P at = at
+at_end (Err why) P at = tt
+
+-- one line was left, and was answered
+pub last_line : (limits : Limits) (e : Engine) (l old new : Option (List ℕ)) (r : Result Turn Halt) (m : Moment) (h : History) (text : List ℕ) (q : Option Ask)
+    → q ≡ asked limits.question text → lines_of (h ++ Settle ∷ []) ≡ lines_of h ++ text ∷ [] → Talked limits never e l old new r m (q ∷ []) → HeardLast limits never e l old new (ended r) m h
+last_line limits e l old new r m h text q asks lines x = record {
+  last = text ∷ [];
+  lines = lines;
+  talked = record {
+    to = x.to;
+    bytes = x.bytes;
+    wrote = x.wrote;
+    course = subst (λ (y : Option Ask). EndCourse limits never (ended r) m (y ∷ []) x.bytes x.to) asks (end_whole limits never r m x.to (q ∷ []) x.bytes x.course);
+    at = at_end r _ x.at;
+  };
+}
+
+-- the dialogue ended, or halted, within the questions
+pub end_heard : LinesStay → (limits : Limits) (beyond : Full → Type 0) (c : Cutter) (e : Engine) (l old new : Option (List ℕ)) (r : Result Turn Halt) (m : Moment) (q : List ℕ)
+    → WhenMore r ⊥ → Heard limits beyond c e l old new r m [] q → EndTalked limits beyond e l old new (ended r) m (asks limits (lines_in q))
+end_heard stay limits beyond c e l old new r m q none x =
+    let more = stay (with_bytes [] q) (Settle ∷ []) in
+    let lines : lines_in q ≡ x.answered ++ (x.unheard ++ more.0) = more.1 ∙ ap (λ (ls : List (List ℕ)). ls ++ more.0) x.lines ∙ append_assoc x.answered x.unheard more.0 in
+    let all : asks limits (lines_in q) ≡ asks limits x.answered ++ asks limits (x.unheard ++ more.0) = ap (asks limits) lines ∙ map-append (asked limits.question) x.answered (x.unheard ++ more.0) in
+    record {
+      to = x.talked.to;
+      bytes = x.talked.bytes;
+      wrote = x.talked.wrote;
+      course = subst (λ (qs : List (Option Ask)). EndCourse limits beyond (ended r) m qs x.talked.bytes x.talked.to) (sym all)
+          (end_course limits beyond r m x.talked.to (asks limits x.answered) (asks limits (x.unheard ++ more.0)) x.talked.bytes none x.talked.course);
+      at = at_end r _ x.talked.at;
+    }
+
+-- all was heard, and then came the end
+pub end_both : (limits : Limits) (beyond : Full → Type 0) (c : Cutter) (e e2 : Engine) (l l2 old mid new : Option (List ℕ)) (r : Result Unit Halt) (m : Moment) (q : List ℕ)
+    → (first : Heard limits never c e l old mid (Ok turn.More) m [] q) → HeardLast limits never e2 l2 mid new r first.talked.to (with_bytes [] q) → EndTalked limits beyond e2 l2 old new r m (asks limits (lines_in q))
+end_both limits beyond c e e2 l l2 old mid new r m q first last =
+    let lines : lines_in q ≡ first.answered ++ last.last = last.lines ∙ ap (λ (ls : List (List ℕ)). ls ++ last.last) (whole_lines limits never c e l old mid m [] q first) in
+    let all : asks limits (lines_in q) ≡ asks limits first.answered ++ asks limits last.last = ap (asks limits) lines ∙ map-append (asked limits.question) first.answered last.last in
+    record {
+      to = last.talked.to;
+      bytes = first.talked.bytes ++ last.talked.bytes;
+      wrote = appends_both old mid new first.talked.bytes last.talked.bytes first.talked.wrote last.talked.wrote;
+      course = subst (λ (qs : List (Option Ask)). EndCourse limits beyond r m qs (first.talked.bytes ++ last.talked.bytes) last.talked.to) (sym all)
+          (subst (λ (bs : List ℕ). EndCourse limits beyond r m (asks limits first.answered ++ asks limits last.last) (bs ++ last.talked.bytes) last.talked.to) (sym first.talked.course.1)
+          (end_after limits beyond r m first.talked.to last.talked.to (asks limits first.answered) (asks limits last.last) first.talked.course.0 last.talked.bytes first.talked.course.2 last.talked.course));
+      at = last.talked.at;
+    }

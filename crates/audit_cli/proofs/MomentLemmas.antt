@@ -1,0 +1,123 @@
+-- Moments of a log that is taken in pieces.
+use Rattle.std.proofs.Common.{◌≡◌, ◌≤◌, ◌<◌, ◌+◌, ◌-◌, ℕ, zero, suc, List, [], ◌∷◌, ◌++◌, map, length, take, drop, refl, ap, sym, arith, append_assoc, ◌∙◌, subst, Option, Some, None, min}
+use Rattle.std.proofs.Math.Seq.{take-add, drop-append_seam, take-append_seam}
+use Rattle.std.proofs.lemmas.List.{append-nil, length-drop, length-append, drop-drop, map-append, take_all as list_take_all}
+use Rattle.std.proofs.Math.ListN.{drop_of_length-le}
+use Rattle.std.specs.Prelude.{Result, Ok, Err, OnOk, IfOk}
+use Rattle.std.specs.Io.KnownBytes.{Consumes}
+use Rattle.flow_base.specs.declared.limits.Limits.{Limits}
+use Rattle.flow_base.specs.declared.limits.Full.{Full}
+use Rattle.audit_lex.specs.History.{History, Byte, Settle, with_bytes}
+use Rattle.report_json.specs.declared.ask.Ask.{Ask}
+use Rattle.report_json.specs.declared.ask.Ask.TheVariants as ask
+use Rattle.report_json.specs.Reading.{ask_of}
+use Rattle.report_json.specs.declared.reply.Reply.{Reply}
+use Rattle.report_json.specs.declared.reply.Reply.TheVariants as reply
+use Rattle.ingest.specs.Events.{events_of}
+use Rattle.ingest.specs.Parts.{Engine}
+use Rattle.ingest.specs.StandsFor.{StandsFor}
+use Rattle.ingest.specs.Stops.{Stops, StopsBy}
+use Rattle.ingest.specs.declared.stop.StopWhy.{StopWhy}
+use Rattle.ingest.specs.declared.stop.StopWhy.TheVariants as why
+use Rattle.audit_cli.specs.declared.halt.Halt.{Halt}
+use Rattle.audit_cli.specs.declared.halt.Halt.TheVariants as halt
+use Rattle.audit_cli.specs.Dialogue.{Moment, after, Answers}
+use Rattle.audit_cli.specs.Course.{At, IsDue, halt_for}
+
+-- what has stopped stays stopped
+abbrev pub Stay : Type 0
+Stay = (limits : Limits) (h more : History) (full : Full) → Stops limits h full → Stops limits (h ++ more) full
+
+-- a read from a source that tells its bytes
+pub told_read : (old new : Option (List ℕ)) (log bytes : List ℕ) (n : ℕ) → old ≡ Some log → Consumes old new bytes → length bytes ≡ n → (new ≡ Some (drop n log)) × (bytes ≡ take n log) × (n ≤ length log)
+told_read None new log bytes n told read long = absurd (cc)
+told_read (Some xs) None log bytes n told read long = absurd read
+told_read (Some xs) (Some ys) log bytes n told read long =
+    let whole : log ≡ bytes ++ ys = cc in
+    rw (whole, ← long, drop-append_seam, take-append_seam, length-append) (refl, refl, omega arith)
+
+-- nothing taken
+pub take_none : (m : Moment) → after (Some (ask.Take 0)) m ≡ m
+take_none m = ap (λ (h : History). record m { history = h }) (append-nil m.history)
+
+-- one piece and then another
+pub take_both : (m : Moment) (a b : ℕ) → after (Some (ask.Take b)) (after (Some (ask.Take a)) m) ≡ after (Some (ask.Take (a + b))) m
+take_both m a b =
+    let taken = take-add a b m.log in
+    let left = drop-drop b a m.log in
+    let history : m.history ++ map Byte (take a m.log) ++ map Byte (take b (drop a m.log)) ≡ m.history ++ map Byte (take (a + b) m.log) = rw (taken, map-append, append_assoc) refl in
+    cc
+
+-- all that is left
+pub take_all : (m : Moment) (a b : ℕ) → length m.log ≤ a → length m.log ≤ b → after (Some (ask.Take a)) m ≡ after (Some (ask.Take b)) m
+take_all m a b all whole =
+    let first = list_take_all a m.log all in
+    let second = list_take_all b m.log whole in
+    let none = drop_of_length-le m.log all in
+    let nothing = drop_of_length-le m.log whole in
+    rw (first, second, none, nothing) refl
+
+-- more bytes taken, a longer history
+pub take_longer : (m : Moment) (a b : ℕ) → a ≤ b → (more : History) × ((after (Some (ask.Take b)) m).history ≡ (after (Some (ask.Take a)) m).history ++ more)
+take_longer m a b below =
+    let sum : a + (b - a) ≡ b = omega arith in
+    let split : take b m.log ≡ take a m.log ++ take (b - a) (drop a m.log) = sym (ap (λ (n : ℕ). take n m.log) sum) ∙ take-add a (b - a) m.log in
+    (map Byte (take (b - a) (drop a m.log)), rw (split, map-append, append_assoc) refl)
+
+-- so what stopped within fewer bytes stops within more
+pub stop_later : Stay → (limits : Limits) (m : Moment) (a b : ℕ) (full : Full) → a ≤ b → Stops limits (after (Some (ask.Take a)) m).history full → Stops limits (after (Some (ask.Take b)) m).history full
+stop_later stay limits m a b full below stops =
+    let longer = take_longer m a b below in
+    subst (λ (h : History). Stops limits h full) (sym longer.1) (stay limits (after (Some (ask.Take a)) m).history longer.0 full stops)
+
+-- why an engine stopped within a piece is due
+pub due_for : (reason : StopWhy) (limits : Limits) (h : History) (piece : List ℕ) (done : ℕ) (passes : Full → Type 0) → StopsBy limits h piece done reason → ((full : Full) → Stops limits (with_bytes h piece) full → passes full) → IsDue passes (halt_for reason)
+due_for why.NoMemory limits h piece done passes stops over = tt
+due_for (why.Full full) limits h piece done passes stops over = over full stops.0
+
+-- the same at a settle
+pub due_where : (reason : StopWhy) (passes : Full → Type 0) → ((full : Full) → reason ≡ why.Full full → passes full) → IsDue passes (halt_for reason)
+due_where why.NoMemory passes over = tt
+due_where (why.Full full) passes over = over full refl
+
+-- the same halt for a weaker cause
+pub due_weaker : (reason : Halt) (P Q : Full → Type 0) → ((full : Full) → P full → Q full) → IsDue P reason → IsDue Q reason
+due_weaker halt.NoMemory P Q weaker h = tt
+due_weaker halt.ReadFault P Q weaker h = tt
+due_weaker halt.WriteFault P Q weaker h = tt
+due_weaker (halt.Full full) P Q weaker h = weaker full h
+
+-- where nothing is left all were taken
+pub left_none : (m : Moment) (n : ℕ) → (after (Some (ask.Take n)) m).log ≡ [] → length m.log ≤ n
+left_none m n none = let short = ap length none in omega (arith, short, length-drop n m.log)
+
+-- a settle moves on, and leaves the log
+pub settled_at : (limits : Limits) (result : Result Reply Halt) (engine : Engine) (left : Option (List ℕ)) (m : Moment) → OnOk result (StandsFor limits engine (m.history ++ Settle ∷ [])) → left ≡ Some m.log → OnOk result (At limits engine left (after (Some ask.Settle) m))
+settled_at limits (Ok r) engine left m stands told = record { stands = stands; told = told }
+settled_at limits (Err e) engine left m stands told = tt
+
+pub settled_reply : (limits : Limits) (result : Result Reply Halt) (m : Moment) → IfOk result (λ r. r ≡ reply.Settle (length (events_of limits (m.history ++ Settle ∷ [])))) → IfOk result (Answers limits (Some ask.Settle) m)
+settled_reply limits (Ok r) m h = h
+settled_reply limits (Err e) m h = h
+
+take-take : (n count : ℕ) (xs : List ℕ) → n ≤ count → take n (take count xs) ≡ take n xs
+take-take zero count xs short = refl
+take-take (suc n) zero xs short = absurd (omega arith)
+take-take (suc n) (suc count) [] short = refl
+take-take (suc n) (suc count) (x ∷ xs) short = ap (λ (ys : List ℕ). x ∷ ys) (take-take n count xs (omega arith))
+
+-- a front of what was read is a front of what was told
+pub front_told : (buf q : List ℕ) (n count : ℕ) → take count buf ≡ take count q → n ≤ count → take n buf ≡ take n q
+front_told buf q n count read short =
+    let first = take-take n count buf short in
+    let second = take-take n count q short in
+    sym first ∙ ap (λ (xs : List ℕ). take n xs) read ∙ second
+
+-- where nothing can be found, nothing is
+pub none_found : (line : List ℕ) (found : Option Ask) → found ≡ ask_of line → ((asks : Ask) → ask_of line ≡ Some asks → ⊥) → None ≡ found
+none_found line None is none = refl
+none_found line (Some asks) is none = absurd (none asks (sym is))
+
+-- the lesser of two is no more than the second
+pub no_more : (least first second : ℕ) → least ≡ min first second → least ≤ second
+no_more least first second is = omega (arith, is)

@@ -1,0 +1,27 @@
+use Rattle.std.proofs.Common.{◌≡◌, ℕ, List, [], length, take, drop, ◌-◌, ◌≤◌, Some, Ok}
+use Rattle.audit_cli.specs.declared.halt.Turn.TheVariants as turn
+use Rattle.audit_cli.specs.Dialogue.{Moment}
+use Rattle.audit_cli.specs.Course.{At, GoesUp, never}
+use Rattle.audit_cli.specs.Hearing.{Heard}
+use Rattle.audit_cli.proofs.listen.watch.Given as goal
+
+-- the first `heard` bytes of the questions were heard, and the rest is left
+abbrev pub invariant-loop-cut : goal.invariant-loop-cut
+invariant-loop-cut g l =
+    let log = g.L.Source in
+    let questions = g.Q.Source in
+    let sink = g.O.Sink in
+    record {
+      within : l.heard ≤ l.limits.input;
+      lines : l.cut.lines ≤ l.heard;
+      left : (q : List ℕ) → questions.left l.initial.questions ≡ Some q → questions.left l.questions ≡ Some (drop l.heard q);
+      part : (q : List ℕ) → questions.left l.initial.questions ≡ Some q → l.heard ≤ length q;
+      heard : (m : Moment) (q : List ℕ) → At l.limits l.initial.engine (log.left l.initial.log) m → questions.left l.initial.questions ≡ Some q →
+          Heard l.limits never l.cut l.engine (log.left l.log) (sink.written l.initial.out) (sink.written l.out) (Ok turn.More) m [] (take l.heard q);
+      log_up : GoesUp (log.faults l.initial.log) (log.faults l.log) (log.spent l.initial.log) (log.spent l.log);
+      questions_up : GoesUp (questions.faults l.initial.questions) (questions.faults l.questions) (questions.spent l.initial.questions) (questions.spent l.questions);
+      out_up : GoesUp (sink.faults l.initial.out) (sink.faults l.out) (sink.spent l.initial.out) (sink.spent l.out);
+    }
+
+abbrev pub decreases-loop-cut : goal.decreases-loop-cut
+decreases-loop-cut g l = l.limits.input - l.heard

@@ -1,8 +1,0 @@
-use Rattle.std.proofs.Common.{◌≡◌, map, take}
-use Rattle.serde_json.specs.View.{view}
-use Rattle.audit_cli.specs.Replies.{id_data}
-use Rattle.audit_cli.proofs.reply.ids_value.Given as goal
-
--- the numbers so far
-abbrev pub invariant-loop-id : goal.invariant-loop-id
-invariant-loop-id l = map view l.list.items ≡ map id_data (take l.id-index l.ids)

@@ -1,0 +1,55 @@
+use Rattle.std.proofs.Common.{◌≡◌, ℕ, List, Some, sym, subst, ⊎_elim, ◌∙◌}
+use Rattle.audit_cli.specs.declared.words.Job.{Job}
+use Rattle.audit_cli.specs.Headline.{Tells}
+use Rattle.audit_cli.proofs.JobLemmas.{headline, front_written, nothing_written, full_exact, complete, job_same, ended_within, done_only}
+use Rattle.audit_cli.proofs.run.audit_run.Goals as goal
+
+pub returns-in-Ok-clause-headline : goal.returns-in-Ok-clause-headline
+returns-in-Ok-clause-headline g c = λ done bytes asked row told tells is.
+    let same = job_same _ _ _ c.in-Ok.ensures.found row in
+    let talked = c.run.ensures.talked bytes asked told (subst (λ (j : Job). Tells j (g.Q.Source.left c.args.questions.now) asked) (sym same) tells) in
+    rw (← same) (headline c.args.limits.now c.in-Ok.job bytes asked _ _ _ c.run.result talked (sym c.status_of.ensures ∙ is))
+
+pub returns-in-Ok-clause-prefix : goal.returns-in-Ok-clause-prefix
+returns-in-Ok-clause-prefix g c = λ done bytes asked row told tells.
+    let same = job_same _ _ _ c.in-Ok.ensures.found row in
+    let talked = c.run.ensures.talked bytes asked told (subst (λ (j : Job). Tells j (g.Q.Source.left c.args.questions.now) asked) (sym same) tells) in
+    rw (← same) (front_written c.args.limits.now c.in-Ok.job bytes asked _ _ _ c.run.result talked)
+
+pub returns-in-Err-NoMemory-clause-prefix : goal.returns-in-Err-NoMemory-clause-prefix
+returns-in-Err-NoMemory-clause-prefix g c = λ done bytes asked row told tells. nothing_written c.args.limits.now done bytes asked _
+
+pub returns-in-Err-BadWords-clause-prefix : goal.returns-in-Err-BadWords-clause-prefix
+returns-in-Err-BadWords-clause-prefix g c = λ done bytes asked row told tells. nothing_written c.args.limits.now done bytes asked _
+
+pub returns-in-Ok-clause-full : goal.returns-in-Ok-clause-full
+returns-in-Ok-clause-full g c = λ done bytes asked row told tells full is.
+    let same = job_same _ _ _ c.in-Ok.ensures.found row in
+    let talked = c.run.ensures.talked bytes asked told (subst (λ (j : Job). Tells j (g.Q.Source.left c.args.questions.now) asked) (sym same) tells) in
+    rw (← same) (full_exact c.args.limits.now c.in-Ok.job bytes asked _ _ _ c.run.result full talked (sym c.status_of.ensures ∙ is))
+
+pub returns-in-Ok-clause-complete : goal.returns-in-Ok-clause-complete
+returns-in-Ok-clause-complete g c = λ done bytes asked row told tells no_log no_questions no_out none.
+    let same = job_same _ _ _ c.in-Ok.ensures.found row in
+    let talked = c.run.ensures.talked bytes asked told (subst (λ (j : Job). Tells j (g.Q.Source.left c.args.questions.now) asked) (sym same) tells) in
+    let passes = rw (← same) at none in
+    rw c.status_of.ensures (complete c.args.limits.now c.in-Ok.job bytes asked _ _ _ _ _ c.run.result talked c.run.ensures.causes (⊎_elim no_log no_questions) no_out passes)
+
+pub returns-in-Ok-clause-exact : goal.returns-in-Ok-clause-exact
+returns-in-Ok-clause-exact g c = λ done bytes asked row told tells is full passes.
+    let same = job_same _ _ _ c.in-Ok.ensures.found row in
+    let heard = subst (λ (j : Job). Tells j (g.Q.Source.left c.args.questions.now) asked) (sym same) tells in
+    let talked = c.run.ensures.talked bytes asked told heard in
+    let over = rw (← same) at passes in
+    ended_within c.stops_stay.ensures c.what_fits_never_stops.ensures c.args.limits.now c.in-Ok.job bytes asked _ _ _ c.run.result full talked (c.run.ensures.within bytes asked told heard) (sym c.status_of.ensures ∙ is) over
+
+pub returns-in-Ok-clause-whole : goal.returns-in-Ok-clause-whole
+returns-in-Ok-clause-whole g c = λ of bytes row told is.
+    let same = job_same _ _ _ c.in-Ok.ensures.found row in
+    done_only c.run.result _ (c.run.ensures.whole of bytes same told) (sym c.status_of.ensures ∙ is)
+
+pub returns-in-Ok-clause-no_further : goal.returns-in-Ok-clause-no_further
+returns-in-Ok-clause-no_further g c = λ done bytes asked row told tells is.
+    let same = job_same _ _ _ c.in-Ok.ensures.found row in
+    let left = c.run.ensures.left bytes asked told (subst (λ (j : Job). Tells j (g.Q.Source.left c.args.questions.now) asked) (sym same) tells) in
+    rw (← same) (done_only c.run.result _ left (sym c.status_of.ensures ∙ is))

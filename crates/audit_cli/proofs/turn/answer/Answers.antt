@@ -1,0 +1,61 @@
+use Rattle.std.proofs.Common.{◌≡◌, sym, ◌∙◌, ap, subst, Some, Option}
+use Rattle.report_json.specs.declared.ask.Ask.{Ask}
+use Rattle.report_json.specs.declared.ask.Ask.TheVariants as ask
+use Rattle.std.proofs.lemmas.Result.{err_from_is_err_and}
+use Rattle.std.specs.Prelude.{IfErr}
+use Rattle.report_json.specs.declared.reply.Reply.TheVariants as reply
+use Rattle.ingest.specs.Stops.{Stops}
+use Rattle.audit_cli.specs.Dialogue.{Moment, after, Answers}
+use Rattle.audit_cli.specs.Course.{At, IsDue}
+use Rattle.audit_cli.proofs.MomentLemmas.{settled_at, settled_reply}
+use Rattle.audit_cli.proofs.turn.answer.Goals as goal
+
+pub returns-in_ok-count-in-Some-Take-clause-moves : goal.returns-in_ok-count-in-Some-Take-clause-moves
+returns-in_ok-count-in-Some-Take-clause-moves g c = λ limits m h.
+    let inner = rw c.in-Some-Take.is at c.in-Some-Take.field-0-is in
+    let e : c.args.question ≡ Some (ask.Take c.in-Some-Take.most) = c.in-Some-Take.is ∙ ap Some inner in
+    subst (λ (q : Option Ask). At limits c.take_log.new.engine (g.L.Source.left c.take_log.new.log) (after q m)) (sym e) (c.in_ok-count-in-Some-Take.ensures.took limits m h)
+
+pub returns-in-Some-Settle-clause-moves : goal.returns-in-Some-Settle-clause-moves
+returns-in-Some-Settle-clause-moves g c = λ limits m h.
+    let inner = rw c.in-Some-Settle.is at c.in-Some-Settle.field-0-is in
+    let e : c.args.question ≡ Some ask.Settle = c.in-Some-Settle.is ∙ ap Some inner in
+    rw e (settled_at limits c.settle.result c.settle.new.engine (g.L.Source.left c.args.log.now) m (c.settle.ensures.stands limits m.history h.stands) h.told)
+
+pub returns-in-Some-Settle-clause-answers : goal.returns-in-Some-Settle-clause-answers
+returns-in-Some-Settle-clause-answers g c = λ limits m h.
+    let inner = rw c.in-Some-Settle.is at c.in-Some-Settle.field-0-is in
+    let e : c.args.question ≡ Some ask.Settle = c.in-Some-Settle.is ∙ ap Some inner in
+    rw e (settled_reply limits c.settle.result m (c.settle.ensures.reply limits m.history h.stands))
+
+pub returns-in_err-count-in-Some-Take-clause-due : goal.returns-in_err-count-in-Some-Take-clause-due
+returns-in_err-count-in-Some-Take-clause-due g c = λ limits m h.
+    let inner = rw c.in-Some-Take.is at c.in-Some-Take.field-0-is in
+    let e : c.args.question ≡ Some (ask.Take c.in-Some-Take.most) = c.in-Some-Take.is ∙ ap Some inner in
+    let p = err_from_is_err_and c.from_residual.result c.from_residual.ensures.1 in
+    let due = subst (λ (q : Option Ask). IsDue (Stops limits (after q m).history) c.in_err-count-in-Some-Take.field-0.0) (sym e) (c.in_err-count-in-Some-Take.ensures.due limits m h) in
+    rw (p.1, p.2) due
+
+pub returns-in_ok-count-in-Some-Take-clause-answers : goal.returns-in_ok-count-in-Some-Take-clause-answers
+returns-in_ok-count-in-Some-Take-clause-answers g c = λ limits m h.
+    let inner = rw c.in-Some-Take.is at c.in-Some-Take.field-0-is in
+    let e : c.args.question ≡ Some (ask.Take c.in-Some-Take.most) = c.in-Some-Take.is ∙ ap Some inner in
+    subst (λ (q : Option Ask). Answers limits q m (reply.Take c.in_ok-count-in-Some-Take.count)) (sym e) (ap reply.Take (c.in_ok-count-in-Some-Take.ensures.count limits m h))
+
+pub returns-in-Some-Settle-clause-due : goal.returns-in-Some-Settle-clause-due
+returns-in-Some-Settle-clause-due g c = λ limits m h.
+    let inner = rw c.in-Some-Settle.is at c.in-Some-Settle.field-0-is in
+    let e : c.args.question ≡ Some ask.Settle = c.in-Some-Settle.is ∙ ap Some inner in
+    subst (λ (q : Option Ask). IfErr c.settle.result (IsDue (Stops limits (after q m).history))) (sym e) (c.settle.ensures.due limits m.history h.stands)
+
+pub returns-in_ok-ask-in-Some-Question-clause-moves : goal.returns-in_ok-ask-in-Some-Question-clause-moves
+returns-in_ok-ask-in-Some-Question-clause-moves g c = λ limits m h.
+    let inner = rw c.in-Some-Question.is at c.in-Some-Question.field-0-is in
+    let e : c.args.question ≡ Some (ask.Question c.in-Some-Question.question) = c.in-Some-Question.is ∙ ap Some inner in
+    subst (λ (q : Option Ask). At limits c.ask.new.self (g.L.Source.left c.args.log.now) (after q m)) (sym e) (record { stands = c.ask.ensures.same limits m.history h.stands; told = h.told })
+
+pub returns-in_ok-ask-in-Some-Stat-clause-moves : goal.returns-in_ok-ask-in-Some-Stat-clause-moves
+returns-in_ok-ask-in-Some-Stat-clause-moves g c = λ limits m h.
+    let inner = rw c.in-Some-Stat.is at c.in-Some-Stat.field-0-is in
+    let e : c.args.question ≡ Some ask.Stat = c.in-Some-Stat.is ∙ ap Some inner in
+    subst (λ (q : Option Ask). At limits c.ask-in-Some-Stat.new.self (g.L.Source.left c.args.log.now) (after q m)) (sym e) (record { stands = c.ask-in-Some-Stat.ensures.same limits m.history h.stands; told = h.told })

@@ -1,0 +1,41 @@
+use Rattle.std.proofs.Common.{◌≡◌, ℕ, List, ◌∷◌, [], take, sym, inl, Ok, Err}
+use Rattle.std.proofs.lemmas.Result.{err_from_is_err_and}
+use Rattle.report_json.specs.Replies.{text_of}
+use Rattle.audit_cli.specs.Dialogue.{Moment, after}
+use Rattle.audit_cli.specs.Course.{never}
+use Rattle.audit_cli.proofs.MomentLemmas.{due_weaker}
+use Rattle.audit_cli.proofs.TalkLemmas.{appends_none, nothing_said, stops_now, half_said, one_turn}
+use Rattle.audit_cli.proofs.turn.take_turn.Goals as goal
+
+pub returns-in_err-reply-clause-talk : goal.returns-in_err-reply-clause-talk
+returns-in_err-reply-clause-talk g c = λ limits m h.
+    let p = err_from_is_err_and c.from_residual.result c.from_residual.ensures.1 in
+    rw (p.1, p.2) (record {
+      to = m;
+      bytes = [];
+      wrote = appends_none _;
+      course = (nothing_said limits m _, due_weaker _ _ _ (λ full over. inl (stops_now limits m c.args.question [] full over)) (c.in_err-reply.ensures.due limits m h));
+      at = tt;
+    })
+
+pub returns-in_err-say-clause-talk : goal.returns-in_err-say-clause-talk
+returns-in_err-say-clause-talk g c = λ limits m h.
+    let p = err_from_is_err_and c.from_residual-in_err-say.result c.from_residual-in_err-say.ensures.1 in
+    let cut = c.in_err-say.ensures.cut in
+    rw (p.1, p.2) (record {
+      to = m;
+      bytes = take cut.0 (text_of c.in_ok-reply.reply);
+      wrote = cut.1;
+      course = (half_said limits m c.args.question _ cut.0 (c.in_ok-reply.ensures.answers limits m h), due_weaker _ never _ (λ full none. absurd none) c.in_err-say.ensures.due);
+      at = tt;
+    })
+
+pub returns-clause-talk : goal.returns-clause-talk
+returns-clause-talk g c = λ limits m h.
+    rw c.turn_after.ensures (record {
+      to = after c.args.question m;
+      bytes = text_of c.in_ok-reply.reply;
+      wrote = c.in_ok-say.ensures.said;
+      course = one_turn limits never c.args.question m _ (c.in_ok-reply.ensures.answers limits m h);
+      at = c.in_ok-reply.ensures.moves limits m h;
+    })

@@ -1,0 +1,91 @@
+-- How a part of a run ended, and what it wrote.
+use Rattle.std.specs.Prelude.{◌≡◌, ◌⊎◌, ⊤, ℕ, ◌≤◌, List, length, Option, Some, Result, Ok, Err, OnOk, []}
+use Rattle.std.specs.Io.KnownBytes.{Appends}
+use Rattle.flow_base.specs.declared.limits.Limits.{Limits}
+use Rattle.flow_base.specs.declared.limits.Full.{Full}
+use Rattle.report_json.specs.declared.ask.Ask.{Ask}
+use Rattle.report_json.specs.declared.reply.Reply.{Reply}
+use Rattle.ingest.specs.Parts.{Engine}
+use Rattle.ingest.specs.declared.stop.StopWhy.{StopWhy}
+use Rattle.ingest.specs.declared.stop.StopWhy.TheVariants as why
+use Rattle.ingest.specs.StandsFor.{StandsFor}
+use Rattle.audit_cli.specs.declared.halt.Halt.{Halt}
+use Rattle.audit_cli.specs.declared.halt.Halt.TheVariants as halt
+use Rattle.audit_cli.specs.declared.halt.Turn.{Turn}
+use Rattle.audit_cli.specs.declared.halt.Turn.TheVariants as turn
+use Rattle.audit_cli.specs.Dialogue.{Moment, Dialogue, Leads, Closes, IsFront, HistoryStops, texts}
+
+-- a count of faults doesn't fall, and a spent object stays spent
+pub record GoesUp (before now : ℕ) (was_spent spent : Type 0) : Type 0 where
+  pub later : before ≤ now
+  pub stays : was_spent → spent
+
+-- each fault of a device has its cause
+abbrev pub HasCauses : (read write : Type 0) → Halt → Type 0
+HasCauses read write halt.NoMemory = ⊤
+HasCauses read write halt.ReadFault = read
+HasCauses read write halt.WriteFault = write
+HasCauses read write (halt.Full full) = ⊤
+
+-- a limit that is named would be passed
+abbrev pub IsDue : (Full → Type 0) → Halt → Type 0
+IsDue passes halt.NoMemory = ⊤
+IsDue passes halt.ReadFault = ⊤
+IsDue passes halt.WriteFault = ⊤
+IsDue passes (halt.Full full) = passes full
+
+-- no limit at all
+abbrev pub never : Full → Type 0
+never full = ⊥
+
+-- why an engine stopped, as a halt
+abbrev pub halt_for : StopWhy → Halt
+halt_for why.NoMemory = halt.NoMemory
+halt_for (why.Full full) = halt.Full full
+
+-- the engine and the log, which tells its bytes, are at this moment
+pub record At (limits : Limits) (engine : Engine) (left : Option (List ℕ)) (m : Moment) : Type 0 where
+  pub stands : StandsFor limits engine m.history
+  pub told : left ≡ Some m.log
+
+-- at most what is left, and nothing only where nothing is left
+pub record IsPart (n : ℕ) (left : List ℕ) : Type 0 where
+  pub within : n ≤ length left
+  pub ended : n ≡ 0 → left ≡ []
+
+-- a front of what is answered was written, and a limit that is named would be passed by the questions, or beyond them
+abbrev pub Halted : Limits → (Full → Type 0) → Moment → List (Option Ask) → List ℕ → Halt → Type 0
+Halted limits beyond from questions bytes why =
+    IsFront limits from questions bytes × IsDue (λ full. HistoryStops limits from questions full ⊎ beyond full) why
+
+-- these bytes are what was answered to these questions, up to where the part ended
+abbrev pub Course : Limits → (Full → Type 0) → Result Turn Halt → Moment → List (Option Ask) → List ℕ → Moment → Type 0
+Course limits beyond (Ok turn.More) from questions bytes to = (said : List Reply) × (bytes ≡ texts said) × Leads limits from questions said to
+Course limits beyond (Ok turn.Ended) from questions bytes to = (said : List Reply) × (bytes ≡ texts said) × Closes limits from questions said to
+Course limits beyond (Err why) from questions bytes to = Halted limits beyond from questions bytes why
+
+-- a part of a run from one moment on
+pub record Talked (limits : Limits) (beyond : Full → Type 0) (engine : Engine) (left old new : Option (List ℕ)) (result : Result Turn Halt) (from : Moment) (questions : List (Option Ask)) : Type 0 where
+  pub to : Moment
+  pub bytes : List ℕ
+  pub wrote : Appends old new bytes
+  pub course : Course limits beyond result from questions bytes to
+  pub at : OnOk result (At limits engine left to)
+
+-- these bytes are what was answered to these questions, or a front of it where the run halted
+abbrev pub EndCourse : Limits → (Full → Type 0) → Result Unit Halt → Moment → List (Option Ask) → List ℕ → Moment → Type 0
+EndCourse limits beyond (Ok done) from questions bytes to = (said : List Reply) × (bytes ≡ texts said) × Dialogue limits from questions said to
+EndCourse limits beyond (Err why) from questions bytes to = Halted limits beyond from questions bytes why
+
+-- a run from one moment to its end
+pub record EndTalked (limits : Limits) (beyond : Full → Type 0) (engine : Engine) (left old new : Option (List ℕ)) (result : Result Unit Halt) (from : Moment) (questions : List (Option Ask)) : Type 0 where
+  pub to : Moment
+  pub bytes : List ℕ
+  pub wrote : Appends old new bytes
+  pub course : EndCourse limits beyond result from questions bytes to
+  pub at : OnOk result (At limits engine left to)
+
+-- a halt, or the end of the questions
+abbrev pub ended : Result Turn Halt → Result Unit Halt
+ended (Ok turn) = Ok tt
+ended (Err why) = Err why

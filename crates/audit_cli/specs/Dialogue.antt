@@ -1,0 +1,133 @@
+-- What is answered to a list of questions over a log.
+use Rattle.std.specs.Prelude.{◌≡◌, ◌<◌, ◌≤◌, ◌+◌, ℕ, nat_lt, List, [], ◌∷◌, ◌++◌, map, take, drop, length, flat_map, Option, None, Some, if◌then◌else◌}
+use Rattle.flow_base.specs.declared.limits.Limits.{Limits}
+use Rattle.flow_base.specs.declared.limits.Full.{Full}
+use Rattle.flow_base.specs.declared.limits.Limit.TheVariants as limit
+use Rattle.audit_lex.specs.History.{History, Settle, with_bytes, lines_of}
+use Rattle.report_json.specs.declared.ask.Ask.{Ask}
+use Rattle.report_json.specs.declared.ask.Ask.TheVariants as ask
+use Rattle.report_json.specs.declared.reply.Reply.{Reply}
+use Rattle.report_json.specs.declared.reply.Reply.TheVariants as reply
+use Rattle.report_json.specs.Reading.{ask_of}
+use Rattle.report_json.specs.Replies.{text_of}
+use Rattle.ingest.specs.Events.{events_of}
+use Rattle.ingest.specs.Replies.{IsReply}
+use Rattle.ingest.specs.Stops.{Stops}
+use Rattle.audit_cli.specs.declared.halt.Turn.{Turn}
+use Rattle.audit_cli.specs.declared.halt.Turn.TheVariants as turn
+
+-- what was taken of the log so far, and the bytes that are left of it
+pub record Moment : Type 0 where
+  pub history : History
+  pub log : List ℕ
+
+-- nothing is taken
+abbrev pub begin : List ℕ → Moment
+begin log = record { history = []; log = log }
+
+-- the moment after a question. A line that asks nothing changes nothing
+abbrev pub after : Option Ask → Moment → Moment
+after None m = m
+after (Some (ask.Take count)) m = record { history = with_bytes m.history (take count m.log); log = drop count m.log }
+after (Some ask.Settle) m = record { history = m.history ++ Settle ∷ []; log = m.log }
+after (Some (ask.Question question)) m = m
+after (Some ask.Stat) m = m
+after (Some ask.End) m = m
+
+-- the reply answers the question at this moment
+abbrev pub Answers : Limits → Option Ask → Moment → Reply → Type 0
+Answers limits None m r = r ≡ reply.BadQuestion
+Answers limits (Some (ask.Take count)) m r = r ≡ reply.Take (length (take count m.log))
+Answers limits (Some ask.Settle) m r = r ≡ reply.Settle (length (events_of limits (m.history ++ Settle ∷ [])))
+Answers limits (Some (ask.Question question)) m r = IsReply limits m.history (ask.Question question) r
+Answers limits (Some ask.Stat) m r = IsReply limits m.history ask.Stat r
+Answers limits (Some ask.End) m r = r ≡ reply.End
+
+-- `end` ends the dialogue
+abbrev pub turn_of : Option Ask → Turn
+turn_of (Some ask.End) = turn.Ended
+turn_of _ = turn.More
+
+-- the first where the dialogue has ended, else the second
+abbrev pub AfterTurn : Turn → Type 0 → Type 0 → Type 0
+AfterTurn turn.Ended closed later = closed
+AfterTurn turn.More closed later = later
+
+-- the questions are answered in order up to the first `end`, each by a reply at its moment
+abbrev pub Dialogue : Limits → Moment → List (Option Ask) → List Reply → Moment → Type 0
+Dialogue limits from [] [] to = to ≡ from
+Dialogue limits from [] (r ∷ replies) to = ⊥
+Dialogue limits from (question ∷ questions) [] to = ⊥
+Dialogue limits from (question ∷ questions) (r ∷ replies) to =
+    Answers limits question from r
+    × AfterTurn (turn_of question) ((replies ≡ []) × (to ≡ after question from)) (Dialogue limits (after question from) questions replies to)
+
+-- what a line asks, if it isn't longer than a question may be
+abbrev pub asked : ℕ → List ℕ → Option Ask
+asked most line = if nat_lt most (length line) then None else ask_of line
+
+-- what lines ask
+abbrev pub asks : Limits → List (List ℕ) → List (Option Ask)
+asks limits lines = map (asked limits.question) lines
+
+-- the lines of a text, whose end ends its last line
+abbrev pub lines_in : List ℕ → List (List ℕ)
+lines_in text = lines_of (with_bytes [] text ++ Settle ∷ [])
+
+-- the lines of replies
+abbrev pub texts : List Reply → List ℕ
+texts replies = flat_map text_of replies
+
+-- the questions were answered so, and whatever is answered to further ones goes on from there
+abbrev pub Leads : Limits → Moment → List (Option Ask) → List Reply → Moment → Type 0
+Leads limits from front said to = (questions : List (Option Ask)) (replies : List Reply) (end : Moment) →
+    Dialogue limits to questions replies end → Dialogue limits from (front ++ questions) (said ++ replies) end
+
+-- the questions were answered so, and `end` is among them
+abbrev pub Closes : Limits → Moment → List (Option Ask) → List Reply → Moment → Type 0
+Closes limits from front said to = (questions : List (Option Ask)) → Dialogue limits from (front ++ questions) said to
+
+-- the bytes are a front of what is answered to a front of the questions
+pub record IsFront (limits : Limits) (from : Moment) (questions : List (Option Ask)) (bytes : List ℕ) : Type 0 where
+  pub front : List (Option Ask)
+  pub rest : List (Option Ask)
+  pub said : List Reply
+  pub to : Moment
+  pub more : List ℕ
+  pub parts : questions ≡ front ++ rest
+  pub dialogue : Dialogue limits from front said to
+  pub bytes_are : bytes ++ more ≡ texts said
+
+-- after some of the questions the next one would take the history past this limit
+pub record HistoryStops (limits : Limits) (from : Moment) (questions : List (Option Ask)) (full : Full) : Type 0 where
+  pub front : List (Option Ask)
+  pub next : Option Ask
+  pub rest : List (Option Ask)
+  pub said : List Reply
+  pub to : Moment
+  pub parts : questions ≡ front ++ next ∷ rest
+  pub leads : Leads limits from front said to
+  pub stops : Stops limits (after next to).history full
+
+-- the refusal of a byte past the limit on input
+abbrev pub input_full : Limits → Full
+input_full limits = record { limit = limit.Input; number = limits.input }
+
+-- all lines that end within as many bytes as may come leave the dialogue going on, and a byte more is there
+pub record QuestionsStop (limits : Limits) (from : Moment) (text : List ℕ) (full : Full) : Type 0 where
+  pub said : List Reply
+  pub to : Moment
+  pub leads : Leads limits from (asks limits (lines_of (with_bytes [] (take limits.input text)))) said to
+  pub past : limits.input < length text
+  pub is : full ≡ input_full limits
+
+-- what is left of the questions is all but one read of what follows bytes whose lines leave the dialogue going on. So
+-- no read is made after `end`
+pub record ReadsNoFurther (limits : Limits) (from : Moment) (text : List ℕ) (left : Option (List ℕ)) : Type 0 where
+  pub before : ℕ
+  pub count : ℕ
+  pub said : List Reply
+  pub to : Moment
+  pub leads : Leads limits from (asks limits (lines_of (with_bytes [] (take before text)))) said to
+  pub short : count ≤ 65536
+  pub told : left ≡ Some (drop (before + count) text)

@@ -1,0 +1,43 @@
+//! One question over the whole log.
+ghost use Rattle.std.specs.Prelude.{◌≡◌, ◌<◌, ◌-◌, ◌^◌, ℕ, List, [], Some, OnOk, IfErr};
+ghost use Rattle.flow_base.specs.declared.limits.Limits.{Limits};
+ghost use Rattle.outside.specs.Cause.{Rose};
+ghost use Rattle.audit_cli.specs.Dialogue.{begin};
+ghost use Rattle.audit_cli.specs.Course.{At, HasCauses};
+ghost use Rattle.audit_cli.specs.Headline.{back_questions};
+ghost use Rattle.audit_cli.specs.Jobs.{LastTalked};
+
+use crate::halt::Halt;
+use crate::turn::{answer, say};
+use flow_base::EntityId;
+use ingest::{Ingest, stops_stay};
+use outside::{Sink, Source};
+use report_json::{Ask, Question};
+use std::alloc::Global;
+
+/// Takes the log to its end, settles, asks, and writes the last reply alone.
+pub fn back<L: Source, O: Sink>(
+    alloc: Global,
+    engine: &mut Ingest,
+    log: &mut L,
+    out: &mut O,
+    of: EntityId,
+) -> Result<(), Halt>
+    ensures talked { (limits : Limits) (bytes : List ℕ) → limits.input < 2 ^ 64 - 1 → At limits engine.old (L.left log.old) (begin bytes)
+        → LastTalked limits engine.new (L.left log.new) (O.written out.old) (O.written out.new) result (begin bytes) (back_questions of.0 bytes) }
+    ensures whole { (limits : Limits) (bytes : List ℕ) → limits.input < 2 ^ 64 - 1 → At limits engine.old (L.left log.old) (begin bytes)
+        → OnOk result (L.left log.new ≡ Some []) }
+    ensures causes { IfErr result (HasCauses (Rose (L.faults log.old) (L.faults log.new) (L.spent log.new))
+        (Rose (O.faults out.old) (O.faults out.new) (O.spent out.new))) }
+{
+    stops_stay();
+    let _taken = answer(engine, log, Some(Ask::Take(u64::MAX)))?;
+    let _settled = answer(engine, log, Some(Ask::Settle))?;
+    let reply = answer(
+        engine,
+        log,
+        Some(Ask::Question(Question::Back { of, until: None })),
+    )?;
+    say(alloc, out, &reply)?;
+    Ok(())
+}

@@ -1,0 +1,77 @@
+//! Questions in pieces of any size: each line is answered as soon as it has ended.
+ghost use Rattle.std.specs.Prelude.{◌≡◌, ◌≤◌, ◌<◌, ◌+◌, ◌^◌, ℕ, List, length, take, OnOk, IfOk, IfErr};
+ghost use Rattle.flow_base.specs.declared.limits.Limits.{Limits};
+ghost use Rattle.outside.specs.Cause.{Rose};
+ghost use Rattle.audit_lex.specs.History.{History};
+ghost use Rattle.audit_cli.specs.Dialogue.{Moment};
+ghost use Rattle.audit_cli.specs.Course.{At, GoesUp, HasCauses, never};
+ghost use Rattle.audit_cli.specs.Hearing.{Holds, Heard, turn_in, taken_in};
+
+use crate::halt::{Halt, Turn};
+use crate::turn::{question_in, take_turn};
+use audit_lex::{LineCut, lines_stay};
+use ingest::Ingest;
+use outside::{Sink, Source};
+use std::alloc::Global;
+
+// Takes bytes of the piece up to and with a line feed, and answers the line that they end. It says how many bytes it
+// took.
+fn hear_line<L: Source, O: Sink>(
+    alloc: Global,
+    cut: &mut LineCut,
+    engine: &mut Ingest,
+    log: &mut L,
+    out: &mut O,
+    piece: &[u8],
+) -> Result<(usize, Turn), Halt>
+    requires { cut.old.lines < 2 ^ 61 }
+    ensures taken { IfOk result (λ given. given.0 ≤ length piece.now) }
+    ensures some { IfOk result (λ given. 0 < length piece.now → 0 < given.0) }
+    ensures lines { IfOk result (λ given. cut.new.lines ≤ cut.old.lines + given.0) }
+    ensures heard { (limits : Limits) (m : Moment) (h : History) → At limits engine.old (L.left log.old) m → Holds limits cut.old h
+        → Heard limits never cut.new engine.new (L.left log.new) (O.written out.old) (O.written out.new) (turn_in result) m h (taken_in result piece.now) }
+    ensures causes { IfErr result (HasCauses (Rose (L.faults log.old) (L.faults log.new) (L.spent log.new))
+        (Rose (O.faults out.old) (O.faults out.new) (O.spent out.new))) }
+    ensures log { GoesUp (L.faults log.old) (L.faults log.new) (L.spent log.old) (L.spent log.new) }
+    ensures out { GoesUp (O.faults out.old) (O.faults out.new) (O.spent out.old) (O.spent out.new) }
+{
+    lines_stay();
+    let (count, line) = cut.next(piece)?;
+    match line {
+        None => Ok((count, Turn::More)),
+        Some(line) => {
+            let turn = take_turn(alloc, engine, log, out, question_in(&line))?;
+            Ok((count, turn))
+        }
+    }
+}
+
+/// Answers the lines that end in this piece, up to the end of the dialogue.
+pub fn hear<L: Source, O: Sink>(
+    alloc: Global,
+    cut: &mut LineCut,
+    engine: &mut Ingest,
+    log: &mut L,
+    out: &mut O,
+    piece: &[u8],
+) -> Result<Turn, Halt>
+    requires { cut.old.lines + length piece.now < 2 ^ 61 }
+    ensures lines { OnOk result (cut.new.lines ≤ cut.old.lines + length piece.now) }
+    ensures heard { (limits : Limits) (m : Moment) (h : History) → At limits engine.old (L.left log.old) m → Holds limits cut.old h
+        → Heard limits never cut.new engine.new (L.left log.new) (O.written out.old) (O.written out.new) result m h piece.now }
+    ensures causes { IfErr result (HasCauses (Rose (L.faults log.old) (L.faults log.new) (L.spent log.new))
+        (Rose (O.faults out.old) (O.faults out.new) (O.spent out.new))) }
+    ensures log { GoesUp (L.faults log.old) (L.faults log.new) (L.spent log.old) (L.spent log.new) }
+    ensures out { GoesUp (O.faults out.old) (O.faults out.new) (O.spent out.old) (O.spent out.new) }
+{
+    lines_stay();
+    let mut at = 0;
+    while at < piece.len() {
+        let (count, turn) = hear_line(alloc, cut, engine, log, out, &piece[at..])?;
+        match turn {
+            Turn::Ended => return Ok(Turn::Ended),
+            Turn::More => at += count,
+        }
+    }
+    Ok(Turn::More)
+}

@@ -1,0 +1,131 @@
+//! The dialogue, from the first question to the last.
+//!
+//! The questions are read in pieces, and each line of a piece is answered before the next read. Their bytes are counted
+//! apart from those of the log, and at most as many are heard as the limit on input says.
+ghost use Rattle.std.specs.Prelude.{◌≡◌, ◌⊎◌, ◌≤◌, ◌<◌, ◌-◌, ◌^◌, ℕ, List, [], Some, OnOk, IfOk, IfErr};
+ghost use Rattle.flow_base.specs.declared.limits.Limits.{Limits};
+ghost use Rattle.outside.specs.Cause.{Rose};
+ghost use Rattle.audit_lex.specs.History.{History};
+ghost use Rattle.audit_cli.specs.Dialogue.{Moment, QuestionsStop, ReadsNoFurther, asks, lines_in};
+ghost use Rattle.audit_cli.specs.Course.{At, GoesUp, HasCauses, EndTalked, never};
+ghost use Rattle.audit_cli.specs.Hearing.{Holds, Heard, HeardLast};
+ghost use Rattle.audit_cli.specs.Listening.{turn_heeded, heeded, LeftAfter, IsProgress, AreFew, PassesRoom, ClosesWithin, KeepsWithin};
+
+use crate::halt::{Halt, Heed, Turn};
+use crate::hear::hear;
+use crate::turn::{question_in, take_turn};
+use audit_lex::{LineCut, lines_stay};
+use flow_base::{Full, Limit, Limits};
+use ingest::Ingest;
+use outside::{Sink, Source};
+use std::alloc::Global;
+
+/// The most bytes of one read.
+const PIECE: usize = 65_536;
+
+// Reads the questions once, and answers what it can. Of `heard` bytes that were read before and of these at most
+// `limits.input` are heard.
+fn listen<L: Source, Q: Source, O: Sink>(
+    alloc: Global,
+    limits: &Limits,
+    heard: u64,
+    cut: &mut LineCut,
+    engine: &mut Ingest,
+    log: &mut L,
+    questions: &mut Q,
+    out: &mut O,
+) -> Result<Heed, Halt>
+    requires lines { cut.old.lines ≤ heard }
+    requires heard { heard ≤ limits.now.input }
+    ensures heard { (m : Moment) (h : History) (q : List ℕ) → At limits.now engine.old (L.left log.old) m → Holds limits.now cut.old h → Q.left questions.old ≡ Some q
+        → Heard limits.now (PassesRoom limits.now (limits.now.input - heard) m h q) cut.new engine.new (L.left log.new) (O.written out.old) (O.written out.new) (turn_heeded result) m h (heeded result q) }
+    ensures closes { (m : Moment) (h : History) (q : List ℕ) → At limits.now engine.old (L.left log.old) m → Holds limits.now cut.old h → Q.left questions.old ≡ Some q
+        → IfOk result (ClosesWithin limits.now (limits.now.input - heard) m h q) }
+    ensures left { (q : List ℕ) → Q.left questions.old ≡ Some q → IfOk result (LeftAfter q (Q.left questions.new)) }
+    ensures progress { IfOk result (IsProgress (limits.now.input - heard)) }
+    ensures lines { IfOk result (AreFew cut.new.lines heard) }
+    ensures causes { IfErr result (HasCauses (Rose (L.faults log.old) (L.faults log.new) (L.spent log.new) ⊎ Rose (Q.faults questions.old) (Q.faults questions.new) (Q.spent questions.new))
+        (Rose (O.faults out.old) (O.faults out.new) (O.spent out.new))) }
+    ensures log { GoesUp (L.faults log.old) (L.faults log.new) (L.spent log.old) (L.spent log.new) }
+    ensures questions { GoesUp (Q.faults questions.old) (Q.faults questions.new) (Q.spent questions.old) (Q.spent questions.new) }
+    ensures out { GoesUp (O.faults out.old) (O.faults out.new) (O.spent out.old) (O.spent out.new) }
+{
+    lines_stay();
+    let mut buf = [0u8; PIECE];
+    let count = match questions.read(&mut buf) {
+        Ok(count) => count,
+        Err(_) => return Err(Halt::ReadFault),
+    };
+    if count == 0 {
+        return Ok(Heed::Silence);
+    }
+    let room = limits.input - heard;
+    let allowed = (count as u64).min(room) as usize;
+    match hear(alloc, cut, engine, log, out, &buf[..allowed])? {
+        Turn::Ended => Ok(Heed::Ended),
+        Turn::More => {
+            if allowed < count {
+                return Err(Halt::Full(Full {
+                    limit: Limit::Input,
+                    number: limits.input,
+                }));
+            }
+            Ok(Heed::Piece(count))
+        }
+    }
+}
+
+// Answers a last question without a line feed.
+fn finish<L: Source, O: Sink>(
+    alloc: Global,
+    cut: &mut LineCut,
+    engine: &mut Ingest,
+    log: &mut L,
+    out: &mut O,
+) -> Result<(), Halt>
+    requires { cut.old.lines < 2 ^ 61 }
+    ensures heard { (limits : Limits) (m : Moment) (h : History) → At limits engine.old (L.left log.old) m → Holds limits cut.old h
+        → HeardLast limits never engine.new (L.left log.new) (O.written out.old) (O.written out.new) result m h }
+    ensures causes { IfErr result (HasCauses (Rose (L.faults log.old) (L.faults log.new) (L.spent log.new))
+        (Rose (O.faults out.old) (O.faults out.new) (O.spent out.new))) }
+    ensures log { GoesUp (L.faults log.old) (L.faults log.new) (L.spent log.old) (L.spent log.new) }
+    ensures out { GoesUp (O.faults out.old) (O.faults out.new) (O.spent out.old) (O.spent out.new) }
+{
+    match cut.finish() {
+        None => Ok(()),
+        Some(line) => {
+            let _turn = take_turn(alloc, engine, log, out, question_in(&line))?;
+            Ok(())
+        }
+    }
+}
+
+/// Answers the questions in order, up to `end` or to their end.
+pub fn watch<L: Source, Q: Source, O: Sink>(
+    alloc: Global,
+    limits: &Limits,
+    engine: &mut Ingest,
+    log: &mut L,
+    questions: &mut Q,
+    out: &mut O,
+) -> Result<(), Halt>
+    ensures talked { (m : Moment) (q : List ℕ) → At limits.now engine.old (L.left log.old) m → Q.left questions.old ≡ Some q
+        → EndTalked limits.now (QuestionsStop limits.now m q) engine.new (L.left log.new) (O.written out.old) (O.written out.new) result m (asks limits.now (lines_in q)) }
+    ensures within { (m : Moment) (q : List ℕ) → At limits.now engine.old (L.left log.old) m → Q.left questions.old ≡ Some q
+        → OnOk result (KeepsWithin limits.now m q) }
+    ensures left { (m : Moment) (q : List ℕ) → At limits.now engine.old (L.left log.old) m → Q.left questions.old ≡ Some q
+        → OnOk result (ReadsNoFurther limits.now m q (Q.left questions.new)) }
+    ensures causes { IfErr result (HasCauses (Rose (L.faults log.old) (L.faults log.new) (L.spent log.new) ⊎ Rose (Q.faults questions.old) (Q.faults questions.new) (Q.spent questions.new))
+        (Rose (O.faults out.old) (O.faults out.new) (O.spent out.new))) }
+{
+    lines_stay();
+    let mut cut = LineCut::new(alloc, limits.question);
+    let mut heard: u64 = 0;
+    loop {
+        match listen(alloc, limits, heard, &mut cut, engine, log, questions, out)? {
+            Heed::Piece(count) => heard += count as u64,
+            Heed::Ended => return Ok(()),
+            Heed::Silence => return finish(alloc, &mut cut, engine, log, out),
+        }
+    }
+}

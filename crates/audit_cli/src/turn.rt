@@ -1,0 +1,125 @@
+//! One question and its reply.
+ghost use Rattle.std.specs.Prelude.{◌≡◌, ◌∷◌, ◌++◌, [], ℕ, List, length, take, Some, Option, IfOk, IfErr, OnOk, OnErr};
+ghost use Rattle.std.specs.Io.KnownBytes.{Appends};
+ghost use Rattle.flow_base.specs.declared.limits.Limits.{Limits};
+ghost use Rattle.outside.specs.Cause.{Rose};
+ghost use Rattle.audit_lex.specs.History.{History, Settle};
+ghost use Rattle.audit_lex.specs.LineCut.{line_of};
+ghost use Rattle.report_json.specs.declared.reply.Reply.TheVariants as reply;
+ghost use Rattle.report_json.specs.Replies.{text_of};
+ghost use Rattle.ingest.specs.Events.{events_of};
+ghost use Rattle.ingest.specs.StandsFor.{StandsFor};
+ghost use Rattle.ingest.specs.Stops.{Stops};
+ghost use Rattle.audit_cli.specs.Dialogue.{Moment, after, Answers, asked, turn_of};
+ghost use Rattle.audit_cli.specs.Course.{At, GoesUp, HasCauses, IsDue, Talked, never};
+
+use crate::halt::{Halt, Turn, halt_of};
+use crate::log::take_log;
+use audit_lex::Line;
+use ingest::Ingest;
+use outside::{Sink, Source, put_all};
+use report_json::{Ask, Reply, read_question, reply_text, what_is_found_is_asked};
+use std::alloc::Global;
+
+/// What a line asks. A line that is too long asks nothing.
+pub fn question_in(line: &Line) -> Option<Ask>
+    ensures { (most number : ℕ) (text : List ℕ) → line.now ≡ line_of most number text → result ≡ asked most text }
+{
+    what_is_found_is_asked();
+    if line.long {
+        return None;
+    }
+    match read_question(line.text.as_slice()) {
+        Ok(ask) => Some(ask),
+        Err(_) => None,
+    }
+}
+
+// Settles, and says how many events are released.
+fn settle(engine: &mut Ingest) -> Result<Reply, Halt>
+    ensures stands { (limits : Limits) (h : History) → StandsFor limits engine.old h
+        → OnOk result (StandsFor limits engine.new (h ++ Settle ∷ [])) }
+    ensures reply { (limits : Limits) (h : History) → StandsFor limits engine.old h
+        → IfOk result (λ r. r ≡ reply.Settle (length (events_of limits (h ++ Settle ∷ [])))) }
+    ensures due { (limits : Limits) (h : History) → StandsFor limits engine.old h
+        → IfErr result (IsDue (Stops limits (h ++ Settle ∷ []))) }
+    ensures causes { IfErr result (HasCauses ⊥ ⊥) }
+{
+    match engine.settle() {
+        Ok(()) => Ok(Reply::Settle(engine.events())),
+        Err(why) => Err(halt_of(why)),
+    }
+}
+
+/// The reply to a question.
+pub fn answer<L: Source>(
+    engine: &mut Ingest,
+    log: &mut L,
+    question: Option<Ask>,
+) -> Result<Reply, Halt>
+    ensures moves { (limits : Limits) (m : Moment) → At limits engine.old (L.left log.old) m
+        → OnOk result (At limits engine.new (L.left log.new) (after question m)) }
+    ensures answers { (limits : Limits) (m : Moment) → At limits engine.old (L.left log.old) m
+        → IfOk result (Answers limits question m) }
+    ensures due { (limits : Limits) (m : Moment) → At limits engine.old (L.left log.old) m
+        → IfErr result (IsDue (Stops limits (after question m).history)) }
+    ensures causes { IfErr result (HasCauses (Rose (L.faults log.old) (L.faults log.new) (L.spent log.new)) ⊥) }
+    ensures counts { GoesUp (L.faults log.old) (L.faults log.new) (L.spent log.old) (L.spent log.new) }
+{
+    match question {
+        None => Ok(Reply::BadQuestion),
+        Some(Ask::Take(most)) => {
+            let count = take_log(engine, log, most)?;
+            Ok(Reply::Take(count))
+        }
+        Some(Ask::Settle) => settle(engine),
+        Some(Ask::Question(question)) => Ok(engine.ask(&Ask::Question(question))?),
+        Some(Ask::Stat) => Ok(engine.ask(&Ask::Stat)?),
+        Some(Ask::End) => Ok(Reply::End),
+    }
+}
+
+/// Writes a reply.
+pub fn say<O: Sink>(alloc: Global, out: &mut O, reply: &Reply) -> Result<(), Halt>
+    ensures said { OnOk result (Appends (O.written out.old) (O.written out.new) (text_of reply.now)) }
+    ensures cut { OnErr result ((done : ℕ) × Appends (O.written out.old) (O.written out.new) (take done (text_of reply.now))) }
+    ensures causes { IfErr result (HasCauses ⊥ (Rose (O.faults out.old) (O.faults out.new) (O.spent out.new))) }
+    ensures due { IfErr result (IsDue never) }
+    ensures counts { GoesUp (O.faults out.old) (O.faults out.new) (O.spent out.old) (O.spent out.new) }
+{
+    let text = reply_text(alloc, reply)?;
+    match put_all(out, text.as_slice()) {
+        Ok(()) => Ok(()),
+        Err(_) => Err(Halt::WriteFault),
+    }
+}
+
+// Whether the question ended the dialogue.
+fn turn_after(question: Option<Ask>) -> Turn
+    ensures { result ≡ turn_of question }
+{
+    match question {
+        Some(Ask::End) => Turn::Ended,
+        _ => Turn::More,
+    }
+}
+
+/// Answers a question.
+pub fn take_turn<L: Source, O: Sink>(
+    alloc: Global,
+    engine: &mut Ingest,
+    log: &mut L,
+    out: &mut O,
+    question: Option<Ask>,
+) -> Result<Turn, Halt>
+    ensures talk { (limits : Limits) (m : Moment) → At limits engine.old (L.left log.old) m
+        → Talked limits never engine.new (L.left log.new) (O.written out.old) (O.written out.new) result m (question ∷ []) }
+    ensures causes { IfErr result (HasCauses (Rose (L.faults log.old) (L.faults log.new) (L.spent log.new))
+        (Rose (O.faults out.old) (O.faults out.new) (O.spent out.new))) }
+    ensures log { GoesUp (L.faults log.old) (L.faults log.new) (L.spent log.old) (L.spent log.new) }
+    ensures out { GoesUp (O.faults out.old) (O.faults out.new) (O.spent out.old) (O.spent out.new) }
+{
+    let reply = answer(engine, log, question)?;
+    say(alloc, out, &reply)?;
+    Ok(turn_after(question))
+}

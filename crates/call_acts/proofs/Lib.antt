@@ -1,0 +1,4 @@
+pub mod RecordLists
+pub mod RowActs
+pub mod RowSizes
+pub mod EventLaws

@@ -1,0 +1,7 @@
+use Rattle.std.proofs.Common.{◌≡◌, drop}
+use Rattle.call_acts.specs.Records.{first_of, cwd_in}
+use Rattle.call_acts.proofs.records.cwd.Given as goal
+
+-- no record so far says anything
+abbrev pub invariant-loop-record : goal.invariant-loop-record
+invariant-loop-record l = first_of cwd_in l.records ≡ first_of cwd_in (drop l.record-index l.records)

@@ -1,0 +1,9 @@
+pub mod Calls
+pub mod Records
+pub mod Answers
+pub mod Transfers
+pub mod Descriptors
+pub mod Processes
+pub mod Files
+pub mod Acts
+pub mod Laws

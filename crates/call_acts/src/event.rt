@@ -1,0 +1,127 @@
+//! The acts of an event.
+ghost use Rattle.std.specs.Prelude.{◌≡◌, ◌++◌, OnOk, IfOk};
+ghost use Rattle.call_acts.specs.Acts.{row_acts, acts_by, row_of, event_acts, event_call, is_unmapped};
+
+use crate::answers::fd;
+use crate::calls::{Call, call_of};
+use crate::descriptors::{
+    accept, bind, close, connect, control, dup, dup2, dup3, open_pair, open_socket,
+};
+use crate::files::{alter_fd, alter_path, make, remove, rename};
+use crate::open::open;
+use crate::processes::{clone, exec, exit, fork};
+use crate::records::call;
+use crate::transfers::{map, pass, read, receive, send, write};
+use acts::Act;
+use audit_record::{Record, Syscall};
+use flow_base::{Limits, List, NoMemory};
+use record_join::EventView;
+use std::alloc::Global;
+
+/// The acts of an event, in order. Each call shows its caller first, also where it was refused or isn't in the table.
+pub fn acts(alloc: Global, event: &EventView<'_>, limits: &Limits) -> Result<List<Act>, NoMemory>
+    ensures { IfOk result (λ made. made ≡ event_acts limits.now.path event.now.records.now) }
+{
+    let mut done = List::new(alloc);
+    if let Some(call) = call(event.records) {
+        done.push(see(call)?)?;
+        act(alloc, limits.path, event.records, call, &mut done)?;
+    }
+    Ok(done)
+}
+
+/// The row of an event's call.
+pub fn event_call(event: &EventView<'_>) -> Option<Call>
+    ensures { result ≡ event_call event.now.records.now }
+{
+    row_of(call(event.records)?)
+}
+
+/// Whether the event has a call that isn't in the table.
+pub fn is_unmapped(event: &EventView<'_>) -> bool
+    ensures { result ≡ is_unmapped event.now.records.now }
+{
+    match call(event.records) {
+        Some(call) => row_of(call).is_none(),
+        None => false,
+    }
+}
+
+fn row_of(call: &Syscall) -> Option<Call>
+    ensures { result ≡ row_of call.now }
+{
+    call_of(call.arch, call.number)
+}
+
+// The call shows its caller.
+fn see(call: &Syscall) -> Result<Act, NoMemory>
+    ensures { IfOk result (λ act. act ≡ Act.See call.now.pid call.now.ppid call.now.exe) }
+{
+    let exe = match &call.exe {
+        Some(exe) => Some(exe.copy()?),
+        None => None,
+    };
+    Ok(Act::See {
+        pid: call.pid,
+        ppid: call.ppid,
+        exe,
+    })
+}
+
+fn act(
+    alloc: Global,
+    limit: usize,
+    records: &[Record],
+    call: &Syscall,
+    done: &mut List<Act>,
+) -> Result<(), NoMemory>
+    ensures { OnOk result (done.new ≡ done.old ++ acts_by limit records.now call.now (row_of call.now)) }
+{
+    match row_of(call) {
+        Some(row) => act_by(alloc, limit, records, call, row, done),
+        None => Ok(()),
+    }
+}
+
+// What a call did, by its row.
+fn act_by(
+    alloc: Global,
+    limit: usize,
+    records: &[Record],
+    call: &Syscall,
+    row: Call,
+    done: &mut List<Act>,
+) -> Result<(), NoMemory>
+    ensures { OnOk result (done.new ≡ done.old ++ row_acts limit records.now call.now row) }
+{
+    match row {
+        Call::Read => read(call, done),
+        Call::Receive => receive(alloc, records, call, done),
+        Call::Write => write(call, done),
+        Call::Send => send(alloc, records, call, done),
+        Call::SendFile => pass(call, call.a1, call.a0, done),
+        Call::Tee => pass(call, call.a0, call.a1, done),
+        Call::Splice => pass(call, call.a0, call.a2, done),
+        Call::Open => open(alloc, limit, records, call, done),
+        Call::Close => close(call, done),
+        Call::Dup => dup(call, done),
+        Call::Dup2 => dup2(call, done),
+        Call::Dup3 => dup3(call, done),
+        Call::Fcntl => control(call, done),
+        Call::Pair => open_pair(records, call, done),
+        Call::Socket => open_socket(call, done),
+        Call::Bind => bind(alloc, records, call, done),
+        Call::Connect => connect(alloc, records, call, done),
+        Call::Accept => accept(alloc, records, call, done),
+        Call::Exec => exec(alloc, limit, records, call, done),
+        Call::Fork => fork(call, done),
+        Call::Clone => clone(call, done),
+        Call::Exit => exit(call, done),
+        Call::Map => map(records, call, done),
+        Call::AlterPath => alter_path(alloc, limit, records, call, done),
+        Call::AlterFd => alter_fd(alloc, limit, records, call, done),
+        Call::Rename => rename(alloc, limit, records, call, done),
+        Call::Remove => remove(alloc, limit, records, call, done),
+        Call::MakePath => make(alloc, limit, records, call, done),
+    }
+}

@@ -1,0 +1,187 @@
+//! Small lists of acts with what is held after them, each worked out by hand from the rules of descriptors.
+use crate::*;
+use acts::{Held, Object};
+use flow_base::Bytes;
+
+// Sockets go by the act that made them.
+#[derive(Clone, Copy)]
+enum Step {
+    Sets(u32, u32, u64, bool),
+    Closes(u32, u32),
+    Marks(u32, u32, bool),
+    Execs(u32),
+    Ends(u32),
+    Forks(u32, u32),
+    Holds(u32, u32, u64, bool),
+    Lacks(u32, u32),
+}
+
+fn sets(fds: &mut Fds, pid: u32, fd: u32, act: u64, cloexec: bool) -> bool {
+    if fds.reserve(1, 0).is_err() {
+        return false;
+    }
+    fds.set(
+        pid,
+        fd,
+        Held {
+            object: Object::Sock(act),
+            cloexec,
+        },
+    );
+    true
+}
+
+fn forks(fds: &mut Fds, pid: u32, child: u32) -> bool {
+    let entries = match fds.copies(pid) {
+        Ok(entries) => entries,
+        Err(_) => return false,
+    };
+    if fds.reserve(entries.as_slice().len(), 0).is_err() {
+        return false;
+    }
+    fds.give(child, entries);
+    true
+}
+
+fn holds(fds: &Fds, pid: u32, fd: u32, act: u64, cloexec: bool) -> bool {
+    match fds.held(pid, fd) {
+        Some(held) => match &held.object {
+            Object::Sock(made) => *made == act && held.cloexec == cloexec,
+            _ => false,
+        },
+        None => false,
+    }
+}
+
+/// Whether the table answers so.
+fn answers(fds: &mut Fds, step: Step) -> bool {
+    match step {
+        Step::Sets(pid, fd, act, cloexec) => return sets(fds, pid, fd, act, cloexec),
+        Step::Closes(pid, fd) => fds.close(pid, fd),
+        Step::Marks(pid, fd, cloexec) => fds.mark(pid, fd, cloexec),
+        Step::Execs(pid) => fds.on_exec(pid),
+        Step::Ends(pid) => fds.clear(pid),
+        Step::Forks(pid, child) => return forks(fds, pid, child),
+        Step::Holds(pid, fd, act, cloexec) => return holds(fds, pid, fd, act, cloexec),
+        Step::Lacks(pid, fd) => return fds.held(pid, fd).is_none(),
+    }
+    true
+}
+
+fn all_answer(fds: &mut Fds, steps: &[Step]) -> bool {
+    for step in steps {
+        if !answers(fds, *step) {
+            return false;
+        }
+    }
+    true
+}
+
+fn lists(fds: &Fds, pid: u32, wanted: &[u32]) -> bool {
+    let entries = match fds.copies(pid) {
+        Ok(entries) => entries,
+        Err(_) => return false,
+    };
+    let entries = entries.as_slice();
+    if entries.len() != wanted.len() {
+        return false;
+    }
+    for i in 0..wanted.len() {
+        if entries[i].fd != wanted[i] {
+            return false;
+        }
+    }
+    true
+}
+
+#[test]
+fn a_duplicate_outlives_an_exec_and_a_child_takes_it_over(rt: HostRuntime) {
+    let mut fds = Fds::new(rt.alloc());
+    assert!(rt;
+        all_answer(
+            &mut fds,
+            [
+                Step::Sets(100, 3, 7, true),
+                Step::Sets(100, 9, 7, false),
+                Step::Sets(100, 4, 8, true),
+                Step::Sets(100, 5, 9, true),
+                Step::Sets(200, 3, 5, true),
+                Step::Marks(100, 5, false),
+                Step::Marks(100, 6, true),
+                Step::Execs(100),
+                Step::Lacks(100, 3),
+                Step::Lacks(100, 4),
+                Step::Lacks(100, 6),
+                Step::Holds(100, 5, 9, false),
+                Step::Holds(100, 9, 7, false),
+                Step::Holds(200, 3, 5, true),
+                Step::Forks(100, 200),
+                Step::Ends(100),
+                Step::Lacks(100, 9),
+                Step::Lacks(200, 3),
+                Step::Holds(200, 5, 9, false),
+                Step::Holds(200, 9, 7, false),
+            ]
+            .as_slice(),
+        )
+    );
+    assert!(rt; lists(&fds, 100, [].as_slice()));
+    assert!(rt; lists(&fds, 200, [5, 9].as_slice()));
+}
+
+#[test]
+fn each_descriptor_is_found_until_it_closes(rt: HostRuntime) {
+    let mut fds = Fds::new(rt.alloc());
+    assert!(rt;
+        all_answer(
+            &mut fds,
+            [
+                Step::Sets(1, 8, 1, true),
+                Step::Sets(1, 2, 2, true),
+                Step::Sets(2, 8, 3, true),
+                Step::Sets(1, 6, 4, true),
+                Step::Sets(1, 4, 5, true),
+                Step::Closes(1, 8),
+                Step::Closes(1, 7),
+                Step::Sets(1, 6, 6, false),
+                Step::Sets(1, 1, 7, false),
+            ]
+            .as_slice(),
+        )
+    );
+    assert!(rt; lists(&fds, 1, [1, 2, 4, 6].as_slice()));
+    assert!(rt; lists(&fds, 2, [8].as_slice()));
+    assert!(rt;
+        all_answer(
+            &mut fds,
+            [Step::Execs(1), Step::Holds(1, 6, 6, false)].as_slice()
+        )
+    );
+    assert!(rt; lists(&fds, 1, [1, 6].as_slice()));
+}
+
+fn gives_address(fds: &mut Fds, act: u64, bytes: Bytes) -> bool {
+    if fds.reserve(0, 1).is_err() {
+        return false;
+    }
+    fds.set_address(act, bytes);
+    true
+}
+
+fn has_address(fds: &Fds, act: u64, bytes: &[u8]) -> bool {
+    match fds.address(act) {
+        Some(address) => address.as_slice() == bytes,
+        None => false,
+    }
+}
+
+#[test]
+fn an_address_is_that_of_its_socket_alone(rt: HostRuntime) {
+    let mut fds = Fds::new(rt.alloc());
+    match Bytes::from_slice(rt.alloc(), b"\x02\x00\x01\xbb".as_slice()) {
+        Ok(bytes) => assert!(rt; gives_address(&mut fds, 6, bytes)),
+        Err(_) => assert!(rt; false),
+    }
+    assert!(rt; has_address(&fds, 6, b"\x02\x00\x01\xbb".as_slice()));
+    assert!(rt; fds.address(3).is_none());
+}

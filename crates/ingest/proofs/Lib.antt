@@ -1,0 +1,13 @@
+pub mod Growing
+pub mod Telling
+pub mod Bytes
+pub mod Limiting
+pub mod Reading
+pub mod Tallying
+pub mod ReaderSteps
+pub mod Answered
+pub mod Fewer
+pub mod Releasing
+pub mod FewEvents
+pub mod EngineSteps
+pub mod StopLemmas

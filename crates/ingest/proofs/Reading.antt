@@ -1,0 +1,86 @@
+-- The record of a line is the one that it spells.
+use Rattle.std.proofs.Common.{◌≡◌, ◌≤◌, ◌∙◌, sym, refl, ap, subst, ℕ, Bool, true, false, List, [], ◌∷◌, length, arith, Option, None, Some, nat_lt, if◌then◌else◌}
+use Rattle.std.specs.Prelude.{◌↔◌}
+use Rattle.std.proofs.lemmas.Grind.{common_steps}
+use Rattle.audit_lex.specs.History.{is_long}
+use Rattle.audit_lex.specs.LineClass.{Class, Used, Other, Blank, Malformed, text_class, class_of}
+use Rattle.audit_lex.specs.declared.faults.LineFault.TheVariants as fault
+use Rattle.audit_lex.specs.declared.fields.Kind.{Kind}
+use Rattle.audit_lex.specs.declared.header.EventKey.{EventKey}
+use Rattle.audit_record.specs.Records.{Spells, IsUsed}
+use Rattle.audit_record.specs.declared.types.Record.{Record}
+use Rattle.audit_record.proofs.SpellingLaws.{one_record, used_spells, spelled_is_used}
+use Rattle.ingest.specs.LineRecords.{record_by, record_of}
+
+not_used : (line : List ℕ) (class : Class) (made : Record) → text_class line ≡ class → ((key : EventKey) (kind : Kind) → class ≡ Used key kind → ⊥) → Spells line made → ⊥
+not_used line class made is none spelled =
+    let used : IsUsed line made.key = spelled_is_used line made spelled in
+    none made.key used.0 (sym is ∙ used.1)
+
+some_by : (line : List ℕ) (class : Class) (is : text_class line ≡ class) (made : Record) → Spells line made → record_by line class is ≡ Some made
+some_by line (Used key kind) is made spelled =
+    let own = used_spells line key (kind, is) in
+    ap Some (one_record line own.0 made own.1 spelled)
+some_by line Other is made spelled = absurd (not_used line Other made is (λ key kind e. cc e) spelled)
+some_by line Blank is made spelled = absurd (not_used line Blank made is (λ key kind e. cc e) spelled)
+some_by line (Malformed f) is made spelled = absurd (not_used line (Malformed f) made is (λ key kind e. cc e) spelled)
+
+none_by : (line : List ℕ) (class : Class) (is : text_class line ≡ class) → ((key : EventKey) (kind : Kind) → class ≡ Used key kind → ⊥) → record_by line class is ≡ None
+none_by line (Used key kind) is none = absurd (none key kind refl)
+none_by line Other is none = refl
+none_by line Blank is none = refl
+none_by line (Malformed f) is none = refl
+
+inner : {A : Type 0} (a b : A) → Some a ≡ Some b → a ≡ b
+inner a b e = cc e
+
+spelled_by : (line : List ℕ) (class : Class) (is : text_class line ≡ class) (made : Record) → record_by line class is ≡ Some made → Spells line made
+spelled_by line (Used key kind) is made e =
+    let own = used_spells line key (kind, is) in
+    subst (λ (r : Record). Spells line r) (inner own.0 made e) own.1
+spelled_by line Other is made e = absurd (cc e)
+spelled_by line Blank is made e = absurd (cc e)
+spelled_by line (Malformed f) is made e = absurd (cc e)
+
+module _ (line : List ℕ) where
+  abbrev if_short : Bool → Option Record
+  if_short long = record_by (if long then [] else line) (text_class (if long then [] else line)) refl
+
+  abbrev class_if : Bool → Class
+  class_if long = if long then Malformed fault.TooLong else text_class line
+
+  some_if : (long : Bool) (made : Record) → long ≡ false → Spells line made → if_short long ≡ Some made
+  some_if true made short spelled = absurd (cc short)
+  some_if false made short spelled = some_by line (text_class line) refl made spelled
+
+  used_if : (long : Bool) (key : EventKey) (kind : Kind) → class_if long ≡ Used key kind → long ≡ false
+  used_if true key kind e = absurd (cc e)
+  used_if false key kind e = refl
+
+  none_if : (long : Bool) → ((key : EventKey) (kind : Kind) → class_if long ≡ Used key kind → ⊥) → if_short long ≡ None
+  none_if true none = refl
+  none_if false none = none_by line (text_class line) refl none
+
+  spelled_if : (long : Bool) (made : Record) → if_short long ≡ Some made → (long ≡ false) × Spells line made
+  spelled_if true made e = absurd (cc e)
+  spelled_if false made e = (refl, spelled_by line (text_class line) refl made e)
+
+pub reads_used : (limit : ℕ) (line : List ℕ) (key : EventKey) (kind : Kind) (made : Record) → class_of limit line ≡ Used key kind → Spells line made → record_of limit line ≡ Some made
+reads_used limit line key kind made class spelled = some_if line (is_long limit line) made (used_if line (is_long limit line) key kind class) spelled
+
+pub reads_none : (limit : ℕ) (line : List ℕ) (class : Class) → class ≡ class_of limit line → ((key : EventKey) (kind : Kind) → class ≡ Used key kind → ⊥) → record_of limit line ≡ None
+reads_none limit line class is none = none_if line (is_long limit line) (λ key kind e. none key kind (is ∙ e))
+
+short_so : (limit : ℕ) (line : List ℕ) → is_long limit line ≡ false → length line ≤ limit
+short_so limit line e = grind (arith, common_steps, e)
+
+so_short : (limit : ℕ) (line : List ℕ) → length line ≤ limit → is_long limit line ≡ false
+so_short limit line e = grind (arith, common_steps, e)
+
+pub spelled_to : (limit : ℕ) (line : List ℕ) (made : Record) → record_of limit line ≡ Some made → (length line ≤ limit) × Spells line made
+spelled_to limit line made e =
+    let both = spelled_if line (is_long limit line) made e in
+    (short_so limit line both.0, both.1)
+
+pub spelled_from : (limit : ℕ) (line : List ℕ) (made : Record) → (length line ≤ limit) × Spells line made → record_of limit line ≡ Some made
+spelled_from limit line made both = some_if line (is_long limit line) made (so_short limit line both.0) both.1

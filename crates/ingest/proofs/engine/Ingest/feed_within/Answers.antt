@@ -1,0 +1,29 @@
+use Rattle.std.proofs.Common.{◌≡◌, ◌≤◌, ◌+◌, ◌∙◌, sym, ap, subst, arith, length, take, drop}
+use Rattle.std.proofs.lemmas.List.{take_rest, length-drop}
+use Rattle.audit_lex.specs.History.{History, with_bytes}
+use Rattle.ingest.specs.StandsFor.{StandsFor}
+use Rattle.ingest.specs.Stops.{StopsFor}
+use Rattle.ingest.specs.declared.stop.Stop.{Stop}
+use Rattle.ingest.proofs.StopLemmas.{more_taken, stop_later}
+use Rattle.ingest.proofs.engine.Ingest.feed_within.Goals as goal
+
+pub loop-done-preserved : goal.loop-done-preserved
+loop-done-preserved c =
+    let piece = c.args.piece.now in
+    let w = c.loop-done.invariant in
+    record {
+      within = omega (arith, rw (take_rest piece c.loop-done.done, length-drop) at c.in-Ok.ensures.within);
+      bytes = omega (arith, c.in-Ok.ensures.bytes, w.bytes);
+      limits = c.in-Ok.ensures.limits ∙ w.limits;
+      taken = λ limits h stands.
+          let before = with_bytes h (take c.loop-done.done piece) in
+          rw (take_rest piece c.loop-done.done, more_taken h c.loop-done.done c.in-Ok.count piece) at (c.in-Ok.ensures.ok limits before (w.taken limits h stands));
+    }
+
+pub returns-in-Err-clause-stop : goal.returns-in-Err-clause-stop
+returns-in-Err-clause-stop c = λ limits h stands.
+    let piece = c.args.piece.now in
+    let w = c.loop-done.invariant in
+    let before = with_bytes h (take c.loop-done.done piece) in
+    let here = rw (take_rest piece c.loop-done.done) at (c.in-Err.ensures.stop limits before (w.taken limits h stands)) in
+    subst (λ (s : Stop). StopsFor limits h piece s) (sym c.later.ensures) (stop_later limits h piece c.loop-done.done c.in-Err.stop w.within here)

@@ -1,0 +1,28 @@
+-- What the two parts of an engine hold: the reader of lines, and the joiner with its flows.
+use Rattle.std.specs.Prelude.{ℕ}
+use Rattle.flow_base.specs.declared.limits.Limits.{Limits}
+use Rattle.audit_lex.specs.LineCut.{Cutter}
+use Rattle.audit_lex.specs.declared.tally.Tally.{Tally}
+use Rattle.record_join.specs.StandsFor.{Joiner}
+use Rattle.acts.specs.LookBack.{Course}
+use Rattle.ingest.specs.declared.event_counts.EventCounts.{EventCounts}
+
+-- the limits, the line that has begun, the counts of lines, and how many bytes were taken
+pub record Reader : Type 0 where
+  pub limits : Limits
+  pub cut : Cutter
+  pub tally : Tally
+  pub bytes : ℕ
+
+-- the limits, what waits, the acts that were taken, and the counts of events and of records in excess
+pub record Joined : Type 0 where
+  pub limits : Limits
+  pub join : Joiner
+  pub course : Course
+  pub counts : EventCounts
+  pub excess : ℕ
+
+-- both
+pub record Engine : Type 0 where
+  pub reader : Reader
+  pub joined : Joined

@@ -1,0 +1,29 @@
+//! What the definitions promise.
+ghost use Rattle.std.specs.Prelude.{◌≡◌, ◌↔◌, ◌≤◌, ◌++◌, ℕ, List, Some, length};
+ghost use Rattle.flow_base.specs.declared.limits.Full.{Full};
+ghost use Rattle.flow_base.specs.declared.limits.Limits.{Limits};
+ghost use Rattle.audit_lex.specs.History.{History};
+ghost use Rattle.audit_record.specs.Records.{Spells};
+ghost use Rattle.audit_record.specs.declared.types.Record.{Record};
+ghost use Rattle.ingest.specs.LineRecords.{record_of};
+ghost use Rattle.ingest.specs.Stops.{Fits, Stops};
+
+/// What has stopped stays stopped at that limit, whatever comes later.
+pub fn stops_stay()
+    ensures { (limits : Limits) (h more : History) (full : Full) → Stops limits h full → Stops limits (h ++ more) full }
+{}
+
+/// No limit stops a history that passes none.
+pub fn what_fits_never_stops()
+    ensures { (limits : Limits) (h : History) (full : Full) → Fits limits h → Stops limits h full → ⊥ }
+{}
+
+/// A history that passes no limit passed none before.
+pub fn fronts_fit()
+    ensures { (limits : Limits) (front back : History) → Fits limits (front ++ back) → Fits limits front }
+{}
+
+/// The record of a line is the one that it spells, where it isn't too long.
+pub fn lines_spell_records()
+    ensures { (limit : ℕ) (line : List ℕ) (made : Record) → (record_of limit line ≡ Some made) ↔ ((length line ≤ limit) × Spells line made) }
+{}

@@ -1,0 +1,4 @@
+pub mod Told
+pub mod Marked
+pub mod BackSteps
+pub mod ForeSteps

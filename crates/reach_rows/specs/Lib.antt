@@ -1,0 +1,6 @@
+pub mod Kept
+pub mod Reading
+pub mod Questions
+pub mod Verdicts
+pub mod Objects
+pub mod InMemory

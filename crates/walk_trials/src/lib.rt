@@ -1,0 +1,13 @@
+//! Trials of the modes and the walks on worked tables.
+//!
+//! The walks are tried over rows that are written down here and that tell nothing, so every answer and every fault is
+//! seen as it comes. The modes are tried on short lists of flows: which rows come of them, and that the answers over
+//! the merged rows are those over all flows.
+#![tactic(auto)]
+
+mod table;
+
+pub use table::Table;
+
+#[cfg(test)]
+mod tests;

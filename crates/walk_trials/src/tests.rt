@@ -1,0 +1,261 @@
+ghost use Rattle.std.specs.Prelude.{◌≡◌, IfOk};
+
+use crate::table::Table;
+use flow_base::{EntityId, Flow, How, List, NoMemory, Stamp};
+use query_walk::{WalkFault, backward, forward};
+use reach_model::Verdict;
+use reach_rows::{Mark, Plain, Reducer, Row};
+use reduce_continuous::Continuous;
+use std::alloc::Global;
+use std::test::Fail;
+
+/// A source, a target and a time.
+type Step = (u32, u32, u64);
+
+/// A source, a target, and the time and place of the first and of the last flow.
+type Written = (u32, u32, u64, u64, u64, u64);
+
+fn mark(ms: u64, place: u64) -> Mark {
+    Mark {
+        at: Stamp { ms, place },
+        how: How::Write,
+        serial: 0,
+    }
+}
+
+fn row(written: Written) -> Row {
+    let (from, to, first_ms, first_place, last_ms, last_place) = written;
+    Row {
+        from: EntityId(from),
+        to: EntityId(to),
+        first: mark(first_ms, first_place),
+        last: mark(last_ms, last_place),
+        before_to: None,
+        before_from: None,
+    }
+}
+
+/// A table of rows between so many objects.
+fn table(alloc: Global, written: &[Written], known: u32) -> Result<Table, NoMemory>
+    ensures { IfOk result (λ made. made.known ≡ known) }
+{
+    let mut rows = Vec::new(alloc);
+    for written in written {
+        rows.push(row(*written))?;
+    }
+    Ok(Table {
+        rows,
+        known,
+        fails: None,
+        faults: 0,
+    })
+}
+
+fn are(ids: &List<EntityId>, expected: &[u32]) -> bool {
+    ids.as_slice()
+        .iter()
+        .map(|id| id.0)
+        .eq(expected.iter().copied())
+}
+
+#[test]
+fn walks_go_in_the_order_of_first_and_last_flows(rt: HostRuntime) -> Result<(), Fail> {
+    let alloc = rt.alloc();
+    // 0 writes to 1 twice, then 1 to 2, then 0 to 1 again.
+    let merged = [
+        (0, 1, 10, 0, 20, 1),
+        (1, 2, 30, 2, 30, 2),
+        (0, 1, 40, 3, 40, 3),
+    ]
+    .as_slice();
+    // 0 goes on writing to 1 after 2 has written to 0, so the order of rows isn't that of their last flows.
+    let long = [(0, 1, 10, 0, 50, 5), (2, 0, 30, 3, 30, 3)].as_slice();
+    let back: [(&[Written], u32, Option<u64>, &[u32]); 8] = [
+        (merged, 2, None, [0, 1, 2].as_slice()),
+        (merged, 2, Some(30), [0, 1, 2].as_slice()),
+        (merged, 2, Some(29), [2].as_slice()),
+        (merged, 1, Some(10), [0, 1].as_slice()),
+        (merged, 1, Some(9), [1].as_slice()),
+        (merged, 0, None, [0].as_slice()),
+        (long, 1, None, [0, 1].as_slice()),
+        (long, 0, None, [0, 2].as_slice()),
+    ];
+    for (written, of, until, expected) in back {
+        let mut rows = table(alloc, written, 3)?;
+        assert!(rt; of < 3);
+        let Ok(found) = backward(alloc, &mut rows, EntityId(of), until) else {
+            return Err(Fail::new("a walk backward failed"));
+        };
+        assert!(rt; are(&found, expected), "back {of}");
+    }
+    let fore: [(&[Written], u32, Option<u64>, &[u32]); 8] = [
+        (merged, 0, None, [0, 1, 2].as_slice()),
+        (merged, 0, Some(20), [0, 1, 2].as_slice()),
+        (merged, 0, Some(21), [0, 1].as_slice()),
+        (merged, 0, Some(40), [0, 1].as_slice()),
+        (merged, 0, Some(41), [0].as_slice()),
+        (merged, 2, None, [2].as_slice()),
+        (long, 2, None, [0, 1, 2].as_slice()),
+        (long, 0, None, [0, 1].as_slice()),
+    ];
+    for (written, of, since, expected) in fore {
+        let mut rows = table(alloc, written, 3)?;
+        assert!(rt; of < 3);
+        let Ok(found) = forward(alloc, &mut rows, EntityId(of), since) else {
+            return Err(Fail::new("a walk forward failed"));
+        };
+        assert!(rt; are(&found, expected), "fore {of}");
+    }
+    Ok(())
+}
+
+#[test]
+fn a_fault_of_a_row_is_handed_on_by_its_cause(rt: HostRuntime) -> Result<(), Fail> {
+    let alloc = rt.alloc();
+    let written = [(0, 1, 10, 0, 10, 0), (1, 2, 20, 1, 20, 1)].as_slice();
+    let mut failing = table(alloc, written, 3)?;
+    failing.fails = Some(1);
+    assert_eq!(rt;
+        backward(alloc, &mut failing, EntityId(0), None).err(),
+        Some(WalkFault::StoreFault)
+    );
+    assert_eq!(rt;
+        forward(alloc, &mut failing, EntityId(0), None).err(),
+        Some(WalkFault::StoreFault)
+    );
+    assert_eq!(rt; failing.faults, 2);
+    let mut bad = table(alloc, written, 2)?;
+    assert_eq!(rt;
+        backward(alloc, &mut bad, EntityId(0), None).err(),
+        Some(WalkFault::BadStore(1))
+    );
+    assert_eq!(rt;
+        forward(alloc, &mut bad, EntityId(0), None).err(),
+        Some(WalkFault::BadStore(1))
+    );
+    Ok(())
+}
+
+/// The rows that a mode keeps of the flows of these steps.
+fn rows_of<R: Reducer>(
+    alloc: Global,
+    reducer: &mut R,
+    steps: &[Step],
+) -> Result<Vec<Row>, NoMemory> {
+    let mut rows: Vec<Row> = Vec::new(alloc);
+    for (place, &(from, to, ms)) in steps.iter().enumerate() {
+        let at = Stamp {
+            ms,
+            place: place as u64,
+        };
+        let flow = Flow {
+            from: EntityId(from),
+            to: EntityId(to),
+            how: How::Write,
+            at,
+            serial: 0,
+        };
+        let verdict = decided(reducer, &flow)?;
+        let (ms, place) = (at.ms, at.place);
+        match verdict {
+            Verdict::Drop => {}
+            Verdict::Add => rows.push(row((from, to, ms, place, ms, place)))?,
+            Verdict::Extend { row } => {
+                if let Some(kept) = rows.get_mut(row as usize) {
+                    kept.last = mark(ms, place);
+                }
+            }
+        }
+    }
+    Ok(rows)
+}
+
+/// The verdict on a flow, which is then taken in.
+fn decided<R: Reducer>(reducer: &mut R, flow: &Flow) -> Result<Verdict, NoMemory> {
+    reducer.reserve([*flow].as_slice())?;
+    let verdict = reducer.decide(flow);
+    reducer.note(flow, verdict);
+    Ok(verdict)
+}
+
+#[test]
+fn merged_rows_answer_as_all_flows_do(rt: HostRuntime) -> Result<(), Fail> {
+    let alloc = rt.alloc();
+    // Each list of steps with the number of rows that continuous mode keeps of it.
+    let cases: [(&[Step], usize); 6] = [
+        // A run without anything between is one row.
+        ([(0, 1, 10), (0, 1, 20), (0, 1, 30)].as_slice(), 1),
+        // A flow into the source parts it.
+        ([(0, 1, 10), (2, 0, 20), (0, 1, 30)].as_slice(), 3),
+        // A flow out of the target parts it.
+        ([(0, 1, 10), (1, 2, 20), (0, 1, 30)].as_slice(), 3),
+        // Flows out of the source and into the target don't.
+        (
+            [(0, 1, 10), (0, 2, 20), (2, 1, 25), (0, 1, 30)].as_slice(),
+            3,
+        ),
+        // Two pairs in turn.
+        (
+            [(0, 1, 10), (2, 1, 10), (0, 1, 20), (2, 1, 30)].as_slice(),
+            2,
+        ),
+        // Back and forth.
+        ([(0, 1, 1), (1, 0, 2), (0, 1, 3), (1, 0, 4)].as_slice(), 4),
+    ];
+    for (steps, kept) in cases {
+        let plain = rows_of(alloc, &mut Plain::new(), steps)?;
+        let merged = rows_of(alloc, &mut Continuous::new(alloc), steps)?;
+        assert_eq!(rt; plain.len(), steps.len());
+        assert_eq!(rt; merged.len(), kept);
+        let mut plain = Table {
+            rows: plain,
+            known: 3,
+            fails: None,
+            faults: 0,
+        };
+        let mut merged = Table {
+            rows: merged,
+            known: 3,
+            fails: None,
+            faults: 0,
+        };
+        for of in 0..3 {
+            for time in [None, Some(10), Some(15), Some(20), Some(25), Some(30)] {
+                assert!(rt;
+                    agree(alloc, &mut plain, &mut merged, EntityId(of), time),
+                    "object {of}"
+                );
+            }
+        }
+    }
+    Ok(())
+}
+
+/// Both tables know the object and give the same answers to both questions about it.
+fn agree(
+    alloc: Global,
+    plain: &mut Table,
+    merged: &mut Table,
+    of: EntityId,
+    time: Option<u64>,
+) -> bool {
+    if of.0 >= plain.known {
+        return false;
+    }
+    if of.0 >= merged.known {
+        return false;
+    }
+    let all_back = backward(alloc, plain, of, time);
+    let few_back = backward(alloc, merged, of, time);
+    let all_fore = forward(alloc, plain, of, time);
+    let few_fore = forward(alloc, merged, of, time);
+    same(&all_back, &few_back) && same(&all_fore, &few_fore)
+}
+
+/// Both walks gave the same ids.
+fn same(all: &Result<List<EntityId>, WalkFault>, few: &Result<List<EntityId>, WalkFault>) -> bool {
+    match (all, few) {
+        (Ok(all), Ok(few)) => all.as_slice() == few.as_slice(),
+        _ => false,
+    }
+}
