@@ -1,5 +1,5 @@
 #!/usr/bin/env python3
-"""Makes an audit log of a busy host from a seed, for timing and for comparing.
+"""Makes an audit log of a busy host from a random seed, for timing and for comparing.
 
     make_log.py SEED EVENTS [--mix] > LOG
 

@@ -519,7 +519,7 @@ def main():
     engine = Engine(MAPPED[options.calls])
     with open(options.log, 'rb') as log:
         for line in sys.stdin.buffer:
-            question = line.decode('latin1').removesuffix('\n')
+            question = line.decode('latin1').rstrip('\n')
             print(json.dumps(answer(engine, log, question), separators=(',', ':'), sort_keys=True))
             if question == 'end':
                 return

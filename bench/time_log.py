@@ -3,7 +3,7 @@
 
     bench/time_log.py [--seed N] [--sizes 10,30,100] [--program ./crates/audit_cli/out/audit_cli]
 
-Each log comes from make_log.py with the seed. The program takes the whole log and settles. Printed are the machine, megabytes
+Each log comes from make_log.py, by the number that --seed names. The program takes the whole log and settles. Printed are the machine, megabytes
 a second, the peak of memory, and the exponent between the smallest and the largest log. ausearch is Debian's package auditd.
 """
 import argparse, math, os, platform, resource, subprocess, sys, tempfile, time
