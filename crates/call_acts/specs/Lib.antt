@@ -7,3 +7,4 @@ pub mod Processes
 pub mod Files
 pub mod Acts
 pub mod Laws
+pub mod Events

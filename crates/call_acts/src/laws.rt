@@ -7,6 +7,7 @@ ghost use Rattle.acts.specs.declared.act.Act.{Act};
 ghost use Rattle.acts.specs.Admitted.{Admitted};
 ghost use Rattle.call_acts.specs.Records.{call};
 ghost use Rattle.call_acts.specs.Acts.{event_acts, event_call, acts_of_events};
+ghost use Rattle.call_acts.specs.Events.{IsEvent};
 ghost use Rattle.call_acts.specs.Laws.{AreOfCaller, OpenNothing, opens_descriptors};
 ghost use Rattle.call_acts.specs.declared.calls.Call.{Call as Row};
 
@@ -34,6 +35,12 @@ pub fn opens_descriptors(call: Call) -> bool
 /// The first act of an event is a see of its caller, and all others are the caller's or are births.
 pub fn acts_are_of_the_caller()
     ensures { (limit : ℕ) (records : List Record) (caller : Syscall) → call records ≡ Some caller → AreOfCaller caller (event_acts limit records) }
+{}
+
+/// An event has no acts, or begins with a see. The acts after it are of the process that it sees, and all but the last
+/// of them are births and moves.
+pub fn acts_are_of_one_event()
+    ensures { (limit : ℕ) (records : List Record) → IsEvent (event_acts limit records) }
 {}
 
 /// After any admitted acts the acts of an event are admitted: each names a pid that is live at it. Acts stand with the

@@ -9,7 +9,7 @@ use Rattle.proc_table.specs.Table.{Table as Procs, StandsFor}
 use Rattle.fd_table.specs.Table.{Table as Fds, HoldsAs, AddressesAs}
 use Rattle.flow_events.specs.declared.acting.Acting.{Acting}
 use Rattle.flow_events.specs.Acting.{IsActing}
-use Rattle.flow_events.specs.Calm.{IsCalm}
+use Rattle.call_acts.specs.Events.{IsCalm}
 
 -- a birth and a move leave the process as it is
 pub calm_acting : (procs : Procs) (fds : Fds) (acting : Acting) (act : Act) (acts : List Act) → IsCalm act → IsActing procs fds acting acts → IsActing procs fds acting (act ∷ acts)

@@ -9,8 +9,8 @@ use Rattle.acts.specs.declared.act.Act.TheVariants.{See, Fork, End, Exec, Set, S
 use Rattle.acts.specs.declared.act.Taken.{Taken}
 use Rattle.acts.specs.Holding.{holds}
 use Rattle.acts.specs.Flows.{acts_of}
-use Rattle.flow_events.specs.Calm.{IsCalm}
-use Rattle.flow_events.specs.Drafts.{IsCalmOf, turned}
+use Rattle.call_acts.specs.Events.{IsCalm, IsCalmOf}
+use Rattle.flow_events.specs.Drafts.{turned}
 
 calm_hold : (act : Act) → IsCalm act → (A : List Act) (p n : ℕ) → holds (act ∷ A) p n ≡ holds A p n
 calm_hold (Birth file) calm A p n = refl

@@ -8,8 +8,8 @@ use Rattle.acts.specs.declared.act.Taken.{Taken}
 use Rattle.flow_events.specs.declared.acting.Acting.{Acting}
 use Rattle.flow_events.specs.declared.draft.Draft.{Draft}
 use Rattle.flow_events.specs.declared.draft.Ground.{Ground}
-use Rattle.flow_events.specs.Calm.{IsCalm}
-use Rattle.flow_events.specs.Drafts.{Drafted, UnderWay, IsCalmOf, turned}
+use Rattle.call_acts.specs.Events.{IsCalm, IsCalmOf}
+use Rattle.flow_events.specs.Drafts.{Drafted, UnderWay, turned}
 use Rattle.flow_events.proofs.CalmActs.{calm_acting}
 
 abbrev taken_at : ℕ → ℕ → Act → Taken

@@ -2,7 +2,7 @@
 use Rattle.std.specs.Prelude.{◌≡◌, ◌==◌, ◌^◌, ℕ, ⊤, false, List, [], ◌∷◌, Option, None, Some}
 use Rattle.flow_base.specs.declared.types.Key.{Key}
 use Rattle.acts.specs.declared.act.Act.{Act}
-use Rattle.acts.specs.declared.act.Act.TheVariants.{See, Fork, End, Exec, Set, SetBoth, Copy, Close, Mark, Address, Birth, Move}
+use Rattle.acts.specs.declared.act.Act.TheVariants.{See}
 use Rattle.acts.specs.Lives.{life_of}
 use Rattle.acts.specs.Standing.{standing}
 use Rattle.acts.specs.declared.held.Held.{Held}
@@ -49,21 +49,6 @@ abbrev pub stated : (ℕ → Option (List ℕ)) → (ℕ → Option Held) → Op
 stated addresses held (Some address) listener = Some address
 stated addresses held None None = None
 stated addresses held None (Some listener) = address_through addresses (socket_held (held listener))
-
--- the act is of this process, and not the see that comes first
-abbrev pub IsOf : ℕ → Act → Type 0
-IsOf pid (See seen ppid exe) = ⊥
-IsOf pid (Fork caller child) = caller ≡ pid
-IsOf pid (End ended) = ended ≡ pid
-IsOf pid (Exec caller) = caller ≡ pid
-IsOf pid (Set caller fd what cloexec) = caller ≡ pid
-IsOf pid (SetBoth caller first second cloexec) = caller ≡ pid
-IsOf pid (Copy caller from to cloexec) = caller ≡ pid
-IsOf pid (Close caller fd) = caller ≡ pid
-IsOf pid (Mark caller fd cloexec) = caller ≡ pid
-IsOf pid (Address caller fd bytes) = caller ≡ pid
-IsOf pid (Birth file) = ⊤
-IsOf pid (Move caller inward how what) = caller ≡ pid
 
 -- the act is no see
 abbrev pub IsNoSee : Act → Type 0

@@ -1,9 +1,11 @@
 -- What an event adds to the objects and flows.
-use Rattle.std.specs.Prelude.{◌≡◌, ◌++◌, ℕ, Option, None, Some, List, [], ◌∷◌, reverse}
+use Rattle.std.specs.Prelude.{◌≡◌, ◌<◌, ◌++◌, ℕ, Option, None, Some, List, [], ◌∷◌, length, reverse}
 use Rattle.flow_base.specs.declared.types.Key.{Key}
 use Rattle.flow_base.specs.declared.types.Flow.{Flow}
+use Rattle.flow_base.specs.declared.limits.Full.{Full}
 use Rattle.acts.specs.declared.link.Link.{Link}
 use Rattle.acts.specs.Flows.{number_in}
+use Rattle.entity_names.specs.Known.{full_at}
 use Rattle.flow_events.specs.Entering.{entered}
 
 -- the objects that are new, and the flows, the oldest first
@@ -30,3 +32,8 @@ flow_of seen ms serial place link =
 abbrev pub flows_if : List Key → ℕ → ℕ → ℕ → Option Link → List Flow
 flows_if seen ms serial place None = []
 flows_if seen ms serial place (Some link) = flow_of seen ms serial place link ∷ []
+
+-- these objects are more than there may be, and that is what is said
+pub record IsPast (most : ℕ) (full : Full) (seen : List Key) : Type 0 where
+  pub limit_is : full ≡ full_at most
+  pub past : most < length seen

@@ -9,8 +9,7 @@ use Rattle.acts.specs.declared.act.Act.{Act}
 use Rattle.flow_events.specs.declared.draft.Draft.{Draft}
 use Rattle.flow_events.specs.declared.draft.Ground.{Ground}
 use Rattle.flow_events.specs.declared.acting.Acting.{Acting}
-use Rattle.flow_events.specs.Acting.{IsActing, IsOf}
-use Rattle.flow_events.specs.Calm.{IsCalm}
+use Rattle.flow_events.specs.Acting.{IsActing}
 use Rattle.flow_events.specs.Births.{Table as Births, BornAs}
 use Rattle.flow_events.specs.Entering.{pair_of}
 
@@ -31,8 +30,3 @@ pub record UnderWay (ground : Ground) (acting : Acting) (draft : Draft) (before 
 -- acts of one event, with the oldest first, as a log has them, with the newest first
 abbrev pub turned : ℕ → ℕ → List Act → List Taken
 turned ms serial acts = reverse (map (λ act. record { act = act; ms = ms; serial = serial }) acts)
-
--- an act of this process that leaves it as it is
-pub record IsCalmOf (pid : ℕ) (act : Act) : Type 0 where
-  pub of : IsOf pid act
-  pub calm : IsCalm act

@@ -6,6 +6,5 @@ pub mod Standing
 pub mod Acting
 pub mod Added
 pub mod Drafts
-pub mod Calm
 pub mod Working
 pub mod Following

@@ -7,6 +7,7 @@ use Rattle.acts.specs.Flows.{acts_of, objects, flows}
 use Rattle.proc_table.specs.Table.{StandsFor as LivesAs}
 use Rattle.fd_table.specs.Table.{HoldsAs, AddressesAs}
 use Rattle.flow_base.specs.declared.types.Key.{Key}
+use Rattle.flow_base.specs.declared.limits.Limits.{Limits}
 use Rattle.entity_names.specs.Known.{NamesAs, names_at}
 use Rattle.flow_events.specs.declared.plan.NewAddress.{NewAddress}
 use Rattle.flow_events.specs.declared.plan.Plan.{Plan}
@@ -89,3 +90,8 @@ pub record DiffersInRoom (old new : Tables) : Type 0 where
   pub most_flows : new.most_flows ≡ old.most_flows
   pub acts : new.acts ≡ old.acts
   pub most_objects : new.most_objects ≡ old.most_objects
+
+-- the tables were made with these limits of objects and flows
+pub record HasLimits (limits : Limits) (tables : Tables) : Type 0 where
+  pub entities_are : tables.most_objects ≡ limits.entities
+  pub flows_are : tables.most_flows ≡ limits.flows

@@ -13,9 +13,7 @@ use Rattle.flow_events.specs.declared.work.Worked.{Worked}
 use Rattle.flow_events.specs.declared.work.Begun.{Begun}
 use Rattle.flow_events.specs.Births.{BornAs}
 use Rattle.flow_events.specs.Changes.{changed}
-use Rattle.flow_events.specs.Drafts.{Drafted, IsCalmOf, UnderWay}
-use Rattle.flow_events.specs.Acting.{IsOf}
-use Rattle.std.specs.Prelude.{All, ⊤}
+use Rattle.flow_events.specs.Drafts.{Drafted, UnderWay}
 use Rattle.flow_events.specs.Standing.{readdressed}
 
 -- the ground says what these acts say
@@ -54,13 +52,3 @@ pub record IsFew (ground : Ground) (before : List Taken) (acts more : ℕ) : Typ
   pub grounded : Grounded ground before
   pub acts_are : acts ≡ length before
   pub few : length before + (more + 2) < 2 ^ 63 - 1
-
--- the acts after the see are of its process, and all but the last are births and moves
-abbrev pub AreRest : ℕ → List Act → Type 0
-AreRest pid rest = (front : List Act) (last : Act) → rest ≡ front ++ last ∷ [] → All (IsCalmOf pid) front × IsOf pid last
-
--- an event has no acts, or begins with a see
-abbrev pub IsEvent : List Act → Type 0
-IsEvent [] = ⊤
-IsEvent (See pid ppid exe ∷ rest) = AreRest pid rest
-IsEvent (other ∷ rest) = ⊥

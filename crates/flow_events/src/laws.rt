@@ -8,7 +8,7 @@ ghost use Rattle.proc_table.specs.Table.{Table as Lives, StandsFor};
 ghost use Rattle.fd_table.specs.Table.{Table as Descriptors, HoldsAs, AddressesAs};
 ghost use Rattle.flow_events.specs.declared.acting.Acting.{Acting};
 ghost use Rattle.flow_events.specs.Acting.{IsActing};
-ghost use Rattle.flow_events.specs.Calm.{IsCalm};
+ghost use Rattle.call_acts.specs.Events.{IsCalm};
 
 #[tactic(auto, using(crate::proofs::CalmActs::calm_acting))]
 /// A birth and a move leave the process of an event as it is.

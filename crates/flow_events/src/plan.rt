@@ -51,6 +51,7 @@ pub fn plan_of(
     ensures given { IfOk result (λ plan. plan.given ≡ reverse worked.draft.given) }
     ensures keys { IfOk result (λ plan. plan.keys ≡ reverse worked.draft.added.keys) }
     ensures flows { IfOk result (λ plan. plan.flows ≡ worked.draft.added.flows) }
+    ensures unmapped { IfOk result (λ plan. plan.unmapped ≡ unmapped) }
 {
     let Worked {
         see,

@@ -7,7 +7,8 @@ ghost use Rattle.acts.specs.Flows.{link_of};
 ghost use Rattle.name_text.specs.Addresses.{text_of};
 ghost use Rattle.proc_table.specs.Table.{Table};
 ghost use Rattle.flow_events.specs.Lives.{LivesBelow};
-ghost use Rattle.flow_events.specs.Acting.{IsActing, IsBorn, IsOf, IsNoSee, DoesAs, pair_if};
+ghost use Rattle.call_acts.specs.Events.{IsOf};
+ghost use Rattle.flow_events.specs.Acting.{IsActing, IsBorn, IsNoSee, DoesAs, pair_if};
 ghost use Rattle.flow_events.specs.Standing.{readdressed};
 
 use crate::acting::{Acting, between, fork_link, thing_key};

@@ -1,16 +1,22 @@
 //! The tables of all that acts are about.
-ghost use Rattle.std.specs.Prelude.{◌≡◌, ◌++◌, ℕ, [], List, OnOk, length};
+ghost use Rattle.std.specs.Prelude.{◌≡◌, ◌++◌, ℕ, [], List, Err, None, Some, OnOk, length};
+ghost use Rattle.flow_base.specs.declared.limits.Full.{Full};
+ghost use Rattle.flow_base.specs.declared.limits.Limits.{Limits};
 ghost use Rattle.acts.specs.declared.act.Taken.{Taken};
 ghost use Rattle.acts.specs.Keys.{all_given};
 ghost use Rattle.acts.specs.Flows.{acts_of, objects, flows};
+ghost use Rattle.acts.specs.LookBack.{full_at};
+ghost use Rattle.call_acts.specs.Acts.{event_acts, is_unmapped};
+ghost use Rattle.flow_events.specs.declared.fault.PrepareFault.TheVariants as fault;
 ghost use Rattle.entity_names.specs.Known.{NamesAs};
 ghost use Rattle.std.specs.Prelude.{IfOk, ◌≤◌};
 ghost use Rattle.name_text.specs.Addresses.{text_of};
+ghost use Rattle.flow_events.specs.Added.{IsPast};
 ghost use Rattle.flow_events.specs.Drafts.{turned};
 ghost use Rattle.flow_events.specs.Entering.{entered};
 ghost use Rattle.flow_events.specs.Following.{MayFollow};
-ghost use Rattle.flow_events.specs.Working.{IsEvent};
-ghost use Rattle.flow_events.specs.Standing.{StandsFor, Stands, IsPlanOf, IsReady, HasRooms, DiffersInRoom};
+ghost use Rattle.call_acts.specs.Events.{IsEvent};
+ghost use Rattle.flow_events.specs.Standing.{StandsFor, Stands, HasLimits, IsPlanOf, IsReady, HasRooms, DiffersInRoom};
 
 use crate::births::Births;
 use crate::change::{make_change, need};
@@ -21,10 +27,12 @@ use crate::passes::{bear_through, enter_all, give_all, live_through};
 use crate::plan::{Plan, plan_of, readdress};
 use crate::work::work_event;
 use acts::{Act, each_beginning_is_an_act};
+use call_acts::{acts_are_of_one_event, is_unmapped};
 use entity_names::Entities;
 use fd_table::Fds;
 use flow_base::{Flow, Full, Limit, Limits, List, NoMemory};
 use proc_table::Procs;
+use record_join::EventView;
 use std::alloc::Global;
 
 /// Lives, descriptors with addresses, births, and objects with names, after the acts so far.
@@ -43,7 +51,8 @@ pub struct Tables {
 impl Tables {
     /// No acts.
     pub fn new(alloc: Global, limits: &Limits) -> Tables
-        ensures { (text : List ℕ → List ℕ) → StandsFor text result [] }
+        ensures stands { (text : List ℕ → List ℕ) → StandsFor text result [] }
+        ensures limits { HasLimits limits.now result }
     {
         Tables {
             procs: Procs::new(alloc),
@@ -79,6 +88,29 @@ impl Tables {
         self.acts
     }
 
+    /// Works out what an event will do, and takes all the memory for it. The tables stand for the same acts as before.
+    pub fn prepare(
+        &mut self,
+        alloc: Global,
+        event: &EventView<'_>,
+        limits: &Limits,
+    ) -> Result<Plan, PrepareFault>
+        requires stands { (before : List Taken) × MayFollow self.old before (length (event_acts limits.now.path event.now.records.now)) }
+        requires limits { HasLimits limits.now self.old }
+        ensures plan { IfOk result (λ plan. (before : List Taken) → MayFollow self.old before (length (event_acts limits.now.path event.now.records.now)) → IsPlanOf text_of plan before (turned event.now.ms event.now.key.serial (event_acts limits.now.path event.now.records.now))) }
+        ensures unmapped { IfOk result (λ plan. plan.unmapped ≡ is_unmapped event.now.records.now) }
+        ensures ready { IfOk result (λ plan. IsReady self.new plan) }
+        ensures same { (text : List ℕ → List ℕ) (taken : List Taken) → StandsFor text self.old taken → StandsFor text self.new taken }
+        ensures limits { HasLimits limits.now self.new }
+        ensures fits { IfOk result (λ plan. (before : List Taken) → MayFollow self.old before (length (event_acts limits.now.path event.now.records.now)) → full_at limits.now.entities limits.now.flows (turned event.now.ms event.now.key.serial (event_acts limits.now.path event.now.records.now) ++ before) ≡ None) }
+        ensures full { (full : Full) → result ≡ Err (fault.Full full) → (before : List Taken) → MayFollow self.old before (length (event_acts limits.now.path event.now.records.now)) → full_at limits.now.entities limits.now.flows (turned event.now.ms event.now.key.serial (event_acts limits.now.path event.now.records.now) ++ before) ≡ Some full }
+    {
+        acts_are_of_one_event();
+        let acts = call_acts::acts(alloc, event, limits)?;
+        let unmapped = is_unmapped(event);
+        self.prepare_acts(alloc, acts, event.ms, event.key.serial, unmapped)
+    }
+
     #[tactic(auto, using(crate::proofs::Rooming::stands_still))]
     /// Works out what these acts of one event, the oldest first, will do, and takes all the memory for it. The tables
     /// stand for the same acts as before.
@@ -93,8 +125,12 @@ impl Tables {
         requires event { IsEvent acts }
         requires stands { (before : List Taken) × MayFollow self.old before (length acts) }
         ensures plan { IfOk result (λ plan. (before : List Taken) → MayFollow self.old before (length acts) → IsPlanOf text_of plan before (turned ms serial acts)) }
+        ensures unmapped { IfOk result (λ plan. plan.unmapped ≡ unmapped) }
         ensures ready { IfOk result (λ plan. IsReady self.new plan) }
         ensures same { (text : List ℕ → List ℕ) (taken : List Taken) → StandsFor text self.old taken → StandsFor text self.new taken }
+        ensures limits { (limits : Limits) → HasLimits limits self.old → HasLimits limits self.new }
+        ensures fits { IfOk result (λ plan. (limits : Limits) → HasLimits limits self.old → (before : List Taken) → MayFollow self.old before (length acts) → full_at limits.entities limits.flows (turned ms serial acts ++ before) ≡ None) }
+        ensures full { (full : Full) → result ≡ Err (fault.Full full) → (limits : Limits) → HasLimits limits self.old → (before : List Taken) → MayFollow self.old before (length acts) → full_at limits.entities limits.flows (turned ms serial acts ++ before) ≡ Some full }
     {
         let plan = self.plan(alloc, acts, ms, serial, unmapped)?;
         if self.most_flows < self.flows + plan.flows.as_slice().len() as u64 {
@@ -120,8 +156,10 @@ impl Tables {
         requires stands { (before : List Taken) × MayFollow self.now before (length acts) }
         ensures plan { IfOk result (λ plan. (before : List Taken) → MayFollow self.now before (length acts) → IsPlanOf text_of plan before (turned ms serial acts)) }
         ensures acts { IfOk result (λ plan. plan.acts ≡ acts) }
+        ensures unmapped { IfOk result (λ plan. plan.unmapped ≡ unmapped) }
         ensures fits { IfOk result (λ plan. length (entered self.now.entities.keys plan.keys) ≤ self.now.entities.limit) }
         ensures flows { IfOk result (λ plan. length plan.flows ≤ length acts) }
+        ensures full { (full : Full) → result ≡ Err (fault.Full full) → (before : List Taken) → MayFollow self.now before (length acts) → IsPast self.now.most_objects full (objects (acts_of (turned ms serial acts ++ before))) }
     {
         each_beginning_is_an_act();
         let ground = Ground {
@@ -163,6 +201,7 @@ impl Tables {
         requires stands { Stands self.old }
         ensures next { (text : List ℕ → List ℕ) (before now : List Taken) → StandsFor text self.old before → IsPlanOf text plan before now → StandsFor text self.new (now ++ before) }
         ensures flows { (text : List ℕ → List ℕ) (before now : List Taken) → IsPlanOf text plan before now → flows (now ++ before) ≡ flows before ++ result }
+        ensures limits { (limits : Limits) → HasLimits limits self.old → HasLimits limits self.new }
     {
         let Plan {
             acts,

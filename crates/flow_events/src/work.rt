@@ -4,11 +4,12 @@ ghost use Rattle.acts.specs.declared.act.Act.TheVariants as act;
 ghost use Rattle.std.specs.Prelude.{All};
 ghost use Rattle.acts.specs.declared.act.Taken.{Taken};
 ghost use Rattle.acts.specs.Flows.{acts_of};
-ghost use Rattle.flow_events.specs.Acting.{DoesAs, IsOf};
+ghost use Rattle.call_acts.specs.Events.{AreRest, IsCalmOf, IsEvent, IsOf};
+ghost use Rattle.flow_events.specs.Acting.{DoesAs};
 ghost use Rattle.flow_events.specs.Added.{AreNew};
-ghost use Rattle.flow_events.specs.Drafts.{IsCalmOf, UnderWay, turned};
+ghost use Rattle.flow_events.specs.Drafts.{UnderWay, turned};
 ghost use Rattle.flow_events.specs.Lives.{LivesBelow};
-ghost use Rattle.flow_events.specs.Working.{AreRest, Grounded, IsBegun, IsEvent, IsFew, IsWorked, see_at, taken_at};
+ghost use Rattle.flow_events.specs.Working.{Grounded, IsBegun, IsFew, IsWorked, see_at, taken_at};
 
 use crate::acting::{Acting, see_acting};
 use crate::change::Change;

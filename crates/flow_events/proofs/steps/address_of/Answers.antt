@@ -2,7 +2,7 @@ use Rattle.std.proofs.Common.{◌≡◌, ◌∙◌, ◌∷◌, ℕ, subst, sym}
 use Rattle.std.specs.Prelude.{IfOk}
 use Rattle.acts.specs.declared.act.Act.TheVariants.{Set}
 use Rattle.acts.specs.Holding.{address_of}
-use Rattle.flow_events.specs.Acting.{IsOf}
+use Rattle.call_acts.specs.Events.{IsOf}
 use Rattle.flow_events.specs.Standing.{readdressed}
 use Rattle.flow_events.proofs.steps.address_of.Goals as goal
 

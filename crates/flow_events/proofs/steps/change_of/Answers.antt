@@ -1,5 +1,5 @@
 use Rattle.std.proofs.Common.{◌≡◌, ◌++◌, subst}
-use Rattle.flow_events.specs.Acting.{IsOf}
+use Rattle.call_acts.specs.Events.{IsOf}
 use Rattle.flow_events.proofs.steps.change_of.Goals as goal
 
 pub returns-in-Copy : goal.returns-in-Copy

@@ -1,7 +1,7 @@
 use Rattle.std.proofs.Common.{◌≡◌, ◌∙◌, ap, subst, sym, Some}
 use Rattle.flow_base.specs.declared.types.Key.TheVariants.{Process}
 use Rattle.acts.specs.Flows.{between}
-use Rattle.flow_events.specs.Acting.{IsOf}
+use Rattle.call_acts.specs.Events.{IsOf}
 use Rattle.flow_events.proofs.steps.link_of.Goals as goal
 
 pub returns-in_ok-thing-in-Move : goal.returns-in_ok-thing-in-Move

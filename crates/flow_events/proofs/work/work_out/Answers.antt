@@ -2,7 +2,8 @@ use Rattle.std.proofs.Common.{◌-◌, ◌++◌, [], ◌∷◌, None, refl, subs
 use Rattle.std.specs.Prelude.{All}
 use Rattle.flow_events.specs.declared.change.Change.TheVariants.{Nothing}
 use Rattle.flow_events.specs.declared.work.Worked.{Worked}
-use Rattle.flow_events.specs.Drafts.{IsCalmOf, turned}
+use Rattle.call_acts.specs.Events.{IsCalmOf}
+use Rattle.flow_events.specs.Drafts.{turned}
 use Rattle.flow_events.specs.Working.{IsWorked, see_at}
 use Rattle.flow_events.proofs.Resting.{mapped, none_left, whole, front_shorter, turned_whole}
 use Rattle.flow_events.proofs.work.work_out.Goals as goal
