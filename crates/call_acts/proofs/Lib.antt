@@ -2,3 +2,4 @@ pub mod RecordLists
 pub mod RowActs
 pub mod RowSizes
 pub mod EventLaws
+pub mod RowShapes

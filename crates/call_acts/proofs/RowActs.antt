@@ -61,21 +61,21 @@ each_append : (P : Act → Type 0) (xs ys : List Act) → Each P xs → Each P y
 each_append P [] ys each others = others
 each_append P (x ∷ xs) ys each others = (each.0, each_append P xs ys each.1 others)
 
-when_all : (P : Act → Type 0) (b : Bool) (acts : List Act) → Each P acts → Each P (when b acts)
+pub when_all : (P : Act → Type 0) (b : Bool) (acts : List Act) → Each P acts → Each P (when b acts)
 when_all P true acts all = all
 when_all P false acts all = tt
 
-one : (P : Act → Type 0) {act : Act} → P act → Each P (act ∷ [])
+pub one : (P : Act → Type 0) {act : Act} → P act → Each P (act ∷ [])
 one P it = (it, tt)
 
-two : (P : Act → Type 0) {act next : Act} → P act → P next → Each P (act ∷ next ∷ [])
+pub two : (P : Act → Type 0) {act next : Act} → P act → P next → Each P (act ∷ next ∷ [])
 two P it other = (it, (other, tt))
 
 for_all : (P : Act → Type 0) (o : Option ℕ) (gives : ℕ → List Act) → ((n : ℕ) → Each P (gives n)) → Each P (for_number o gives)
 for_all P None gives all = tt
 for_all P (Some n) gives all = all n
 
-flat_all : (P : Act → Type 0) (gives : PathItem → List Act) (items : List PathItem) → ((item : PathItem) → Each P (gives item)) → Each P (flat_map gives items)
+pub flat_all : (P : Act → Type 0) (gives : PathItem → List Act) (items : List PathItem) → ((item : PathItem) → Each P (gives item)) → Each P (flat_map gives items)
 flat_all P gives [] all = tt
 flat_all P gives (item ∷ items) all = each_append P (gives item) (flat_map gives items) (all item) (flat_all P gives items all)
 

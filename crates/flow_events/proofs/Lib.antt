@@ -6,6 +6,7 @@ pub mod Fewness
 pub mod Following
 pub mod Numbering
 pub mod Numbers
+pub mod Past
 pub mod Planning
 pub mod Resting
 pub mod Rooming

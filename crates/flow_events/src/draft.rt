@@ -6,7 +6,7 @@ ghost use Rattle.acts.specs.declared.act.Act.TheVariants as act;
 ghost use Rattle.acts.specs.declared.act.Taken.{Taken};
 ghost use Rattle.acts.specs.Lives.{life_of};
 ghost use Rattle.proc_table.specs.Table.{StandsFor as LivesAs};
-ghost use Rattle.acts.specs.Flows.{acts_of, flows, with_ends};
+ghost use Rattle.acts.specs.Flows.{acts_of, flows, objects, with_ends};
 ghost use Rattle.entity_names.specs.Known.{full_at};
 ghost use Rattle.flow_events.specs.declared.fault.PrepareFault.TheVariants as fault;
 ghost use Rattle.call_acts.specs.Events.{IsCalmOf, IsOf};
@@ -15,7 +15,7 @@ ghost use Rattle.flow_events.specs.Births.{BornAs};
 ghost use Rattle.std.specs.Prelude.{IfOk};
 ghost use Rattle.flow_events.specs.Drafts.{Drafted, UnderWay, turned};
 ghost use Rattle.flow_events.specs.Lives.{LivesBelow};
-ghost use Rattle.flow_events.specs.Added.{AreNew, flows_if};
+ghost use Rattle.flow_events.specs.Added.{AreNew, IsPast, flows_if};
 ghost use Rattle.flow_events.specs.Entering.{pair_of};
 
 use crate::acting::{Acting, see_link};
@@ -123,6 +123,7 @@ impl Draft {
         ensures new { OnOk result (AreNew ground.now.entities.now.keys self.old.added.keys → AreNew ground.now.entities.now.keys self.new.added.keys) }
         ensures fits { OnOk result (length (ground.now.entities.now.keys ++ self.new.added.keys) ≤ ground.now.most) }
         ensures more { OnOk result (length self.new.added.flows ≤ length self.old.added.flows + 1) }
+        ensures full { (full : Full) → result ≡ Err (fault.Full full) → (before : List Taken) → LivesAs ground.now.procs.now (acts_of before) → Drafted ground.now.births.now ground.now.entities.now self.old before [] → IsPast ground.now.most full (objects (act.See acting.now.pid ppid exe.now ∷ acts_of before)) }
         ensures room { self.new.births ≡ self.old.births }
     {
         let link = see_link(ground.procs, acting.pid, ppid);
@@ -161,6 +162,7 @@ impl Draft {
         ensures new { OnOk result (AreNew ground.now.entities.now.keys self.old.added.keys → AreNew ground.now.entities.now.keys self.new.added.keys) }
         ensures fits { OnOk result (length (ground.now.entities.now.keys ++ self.new.added.keys) ≤ ground.now.most) }
         ensures more { OnOk result (length self.new.added.flows ≤ length self.old.added.flows + 1) }
+        ensures full { (full : Full) → result ≡ Err (fault.Full full) → (before now : List Taken) → IsActing ground.now.procs.now ground.now.fds.now acting.now (acts_of now ++ acts_of before) → Drafted ground.now.births.now ground.now.entities.now self.old before now → IsPast ground.now.most full (objects (act.now ∷ (acts_of now ++ acts_of before))) }
         ensures room { self.old.births.spare ≤ self.new.births.spare + 1 }
     {
         let link = link_of(
@@ -208,6 +210,7 @@ impl Draft {
         ensures new { OnOk result (AreNew ground.now.entities.now.keys self.old.added.keys → AreNew ground.now.entities.now.keys self.new.added.keys) }
         ensures fits { OnOk result (length (ground.now.entities.now.keys ++ self.new.added.keys) ≤ ground.now.most) }
         ensures more { OnOk result (length self.new.added.flows ≤ length self.old.added.flows + length acts.now) }
+        ensures full { (full : Full) → result ≡ Err (fault.Full full) → (before now : List Taken) → UnderWay ground.now acting.now self.old before now → IsPast ground.now.most full (objects (acts_of (turned ground.now.ms ground.now.serial acts.now ++ now) ++ acts_of before)) }
         ensures room { self.old.births.spare ≤ self.new.births.spare + length acts.now }
     {
         for act in acts {

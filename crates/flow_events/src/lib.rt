@@ -28,3 +28,6 @@ pub use given::Given;
 pub use laws::{a_see_starts_the_process, calm_acts_leave_the_process};
 pub use plan::{NewAddress, Plan};
 pub use tables::Tables;
+
+#[cfg(test)]
+mod tests;

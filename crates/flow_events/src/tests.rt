@@ -1,0 +1,462 @@
+//! Events through the tables. The objects and flows that are wanted are worked out by hand from the rules of lives,
+//! descriptors, keys and flows; long runs of events are held against the plain program, which looks back over all acts.
+ghost use Rattle.std.specs.Prelude.{◌≡◌, ⊤, not};
+ghost use Rattle.acts.specs.LookBack.{opens};
+
+use crate::parts::newest_first;
+use crate::{PrepareFault, Tables};
+use acts::{Act, Plain, Refused, Taken};
+use audit_lex::EventKey;
+use audit_record::{Body, NameKind, PathItem, Record, Syscall};
+use call_acts::{acts, acts_are_few, event_acts_are_admitted};
+use flow_base::{Bytes, Device, EntityId, FileId, Flow, Full, How, Key, Limit, Limits, List, NoMemory, Stamp};
+use record_join::EventView;
+use std::alloc::Global;
+use std::marker::Model;
+use std::test::Fail;
+
+use How::{Alter, Exec, Fork, Make, Read, Write};
+use Known::{AtAddress, Inode, Lost, Made, Process};
+use NameKind::{Create, Delete, Normal};
+use Said::{Address, Pair, Path};
+
+// What a record beside that of the call says.
+#[derive(Clone, Copy)]
+enum Said {
+    Path(NameKind, u64, &'static str),
+    Address(&'static str),
+    Pair(u32, u32),
+}
+
+// A pid and its parent, the number of a call that was ok, its answer, its first three arguments, and the other records.
+type Step = (u32, u32, u32, i64, [u64; 3], &'static [Said]);
+
+// What an object is.
+#[derive(Clone, Copy)]
+enum Known {
+    Process(u32, u64),
+    Inode(u64, u64),
+    AtAddress(&'static str),
+    Made(u64),
+    Lost(u32, u64, u32),
+}
+
+// Events, and then the objects that they make, and the flows, each with the place of its event.
+type Case = (&'static [Step], &'static [Known], &'static [(u32, u32, u32, How)]);
+
+static CASES: [Case; 9] = [
+    // A child is seen before the record of its fork, which claims it; a second fork of its pid begins another life.
+    (
+        &[
+            (101, 100, 1, 5, [1, 0, 0], &[]),
+            (100, 1, 57, 101, [0, 0, 0], &[]),
+            (100, 1, 57, 101, [0, 0, 0], &[]),
+        ],
+        &[Process(101, 0), Lost(101, 0, 1), Process(100, 0), Process(101, 1)],
+        &[(0, 0, 1, Write), (1, 2, 0, Fork), (2, 2, 3, Fork)],
+    ),
+    // A pid that ended is used again, and its descriptors are others.
+    (
+        &[
+            (100, 1, 57, 101, [0, 0, 0], &[]),
+            (101, 100, 0, 4, [0, 0, 0], &[]),
+            (101, 100, 231, 0, [0, 0, 0], &[]),
+            (101, 100, 0, 4, [0, 0, 0], &[]),
+        ],
+        &[Process(100, 0), Process(101, 0), Lost(101, 0, 0), Process(101, 1), Lost(101, 1, 0)],
+        &[(0, 0, 1, Fork), (1, 2, 1, Read), (3, 0, 3, Fork), (3, 4, 3, Read)],
+    ),
+    // An exec closes the marked descriptor 3 and leaves the unmarked 4.
+    (
+        &[
+            (100, 1, 257, 3, [0, 0, 524_288], &[Path(Normal, 7, "/a")]),
+            (100, 1, 257, 4, [0, 0, 0], &[Path(Normal, 8, "/b")]),
+            (100, 1, 59, 0, [0, 0, 0], &[Path(Normal, 9, "/p")]),
+            (100, 1, 1, 5, [3, 0, 0], &[]),
+            (100, 1, 1, 5, [4, 0, 0], &[]),
+        ],
+        &[Inode(9, 0), Process(100, 0), Lost(100, 0, 3), Inode(8, 0)],
+        &[(2, 0, 1, Exec), (3, 1, 2, Write), (4, 1, 3, Write)],
+    ),
+    // A file that is made is written through a copy of its descriptor, also once the first one is closed.
+    (
+        &[
+            (100, 1, 257, 3, [0, 0, 0], &[Path(Create, 7, "/a")]),
+            (100, 1, 33, 9, [3, 9, 0], &[]),
+            (100, 1, 1, 5, [9, 0, 0], &[]),
+            (100, 1, 3, 0, [3, 0, 0], &[]),
+            (100, 1, 1, 5, [9, 0, 0], &[]),
+        ],
+        &[Process(100, 0), Inode(7, 1)],
+        &[(0, 0, 1, Make), (2, 0, 1, Write), (4, 0, 1, Write)],
+    ),
+    // A copy of a descriptor that nobody opened holds that one.
+    (
+        &[
+            (100, 1, 32, 6, [5, 0, 0], &[]),
+            (100, 1, 1, 5, [6, 0, 0], &[]),
+            (100, 1, 0, 5, [5, 0, 0], &[]),
+        ],
+        &[Process(100, 0), Lost(100, 0, 5)],
+        &[(1, 0, 1, Write), (2, 1, 0, Read)],
+    ),
+    // A pipe, which act 1 makes, goes to a child by its fork.
+    (
+        &[
+            (100, 1, 293, 0, [0, 0, 0], &[Pair(3, 4)]),
+            (100, 1, 57, 101, [0, 0, 0], &[]),
+            (101, 100, 0, 1, [3, 0, 0], &[]),
+            (100, 1, 1, 1, [4, 0, 0], &[]),
+        ],
+        &[Process(100, 0), Process(101, 0), Made(1)],
+        &[(1, 0, 1, Fork), (2, 2, 1, Read), (3, 0, 2, Write)],
+    ),
+    // A child that is seen after its parent has what that one holds.
+    (
+        &[
+            (100, 1, 257, 3, [0, 0, 0], &[Path(Normal, 7, "/a")]),
+            (101, 100, 0, 1, [3, 0, 0], &[]),
+        ],
+        &[Process(100, 0), Process(101, 0), Inode(7, 0)],
+        &[(1, 0, 1, Fork), (1, 2, 1, Read)],
+    ),
+    // A socket is its act until it is connected, and then its address.
+    (
+        &[
+            (100, 1, 41, 3, [0, 0, 0], &[]),
+            (100, 1, 1, 1, [3, 0, 0], &[]),
+            (100, 1, 42, 0, [3, 0, 0], &[Address("peer")]),
+            (100, 1, 1, 1, [3, 0, 0], &[]),
+        ],
+        &[Process(100, 0), Made(1), AtAddress("peer")],
+        &[(1, 0, 1, Write), (3, 0, 2, Write)],
+    ),
+    // A file number that is made again is another file; a removal alters the file that it is then.
+    (
+        &[
+            (100, 1, 83, 0, [0, 0, 0], &[Path(Create, 7, "/d")]),
+            (100, 1, 84, 0, [0, 0, 0], &[Path(Delete, 7, "/d")]),
+            (100, 1, 83, 0, [0, 0, 0], &[Path(Create, 7, "/d")]),
+        ],
+        &[Process(100, 0), Inode(7, 1), Inode(7, 2)],
+        &[(0, 0, 1, Make), (1, 0, 1, Alter), (2, 0, 2, Make)],
+    ),
+];
+
+fn bytes(alloc: Global, text: &'static str) -> Result<Bytes, NoMemory> {
+    Bytes::from_slice(alloc, text.as_bytes())
+}
+
+fn file(ino: u64) -> FileId {
+    FileId {
+        device: Device { major: 8, minor: 1 },
+        ino,
+    }
+}
+
+fn key_of(alloc: Global, known: Known) -> Result<Key, NoMemory> {
+    match known {
+        Known::Process(pid, life) => Ok(Key::Process { pid, life }),
+        Known::Inode(ino, born) => Ok(Key::Inode {
+            file: file(ino),
+            born,
+        }),
+        Known::AtAddress(text) => Ok(Key::Address {
+            bytes: bytes(alloc, text)?,
+        }),
+        Known::Made(act) => Ok(Key::Made { act }),
+        Known::Lost(pid, life, fd) => Ok(Key::Lost { pid, life, fd }),
+    }
+}
+
+fn body(alloc: Global, said: Said) -> Result<Body, NoMemory> {
+    match said {
+        Said::Path(kind, ino, name) => Ok(Body::Path(PathItem {
+            item: 0,
+            name: Some(bytes(alloc, name)?),
+            file: Some(file(ino)),
+            kind,
+        })),
+        Said::Address(text) => Ok(Body::Sockaddr(bytes(alloc, text)?)),
+        Said::Pair(first, second) => Ok(Body::FdPair { first, second }),
+    }
+}
+
+fn call(alloc: Global, step: &Step) -> Result<Body, NoMemory> {
+    let (pid, ppid, number, exit, [a0, a1, a2], _) = *step;
+    Ok(Body::Syscall(Syscall {
+        arch: 0xc000_003e,
+        number,
+        success: Some(true),
+        exit: Some(exit),
+        a0,
+        a1,
+        a2,
+        a3: 0,
+        ppid,
+        pid,
+        exe: Some(bytes(alloc, "/p")?),
+    }))
+}
+
+fn record(alloc: Global, body: Body) -> Record {
+    Record {
+        key: EventKey { ms: 0, serial: 0 },
+        line: Bytes::new(alloc),
+        body,
+    }
+}
+
+fn records(alloc: Global, step: &Step) -> Result<List<Record>, NoMemory> {
+    let mut records = List::new(alloc);
+    records.push(record(alloc, call(alloc, step)?))?;
+    for said in step.5 {
+        records.push(record(alloc, body(alloc, *said)?))?;
+    }
+    Ok(records)
+}
+
+fn view(records: &[Record], number: u32) -> EventView<'_> {
+    let ms = 1000 + u64::from(number);
+    EventView {
+        key: EventKey {
+            ms,
+            serial: number,
+        },
+        ms,
+        late: false,
+        records,
+    }
+}
+
+// The tables after the events so far, with the limits that they were made with.
+#[derive(Drop)]
+struct Course {
+    tables: Tables,
+    limits: Limits,
+}
+
+impl Model for Course {
+    ghost use Rattle.std.specs.Prelude.{⊤};
+    ghost use Rattle.flow_events.specs.Following.{IsCourse};
+
+    ghost Value = { ⊤ };
+
+    ghost view = { λ a. tt };
+
+    ghost invariant = { λ a. IsCourse a.limits a.tables };
+}
+
+impl Course {
+    fn new(alloc: Global, limits: Limits) -> Course {
+        Course {
+            tables: Tables::new(alloc, &limits),
+            limits,
+        }
+    }
+
+    // Prepares an event, and applies it where that is not refused.
+    fn take(&mut self, alloc: Global, event: &EventView<'_>) -> Result<List<Flow>, PrepareFault> {
+        event_acts_are_admitted();
+        acts_are_few();
+        if self.tables.acts() > 1_000_000 || event.records.len() > 1_000_000 {
+            return Err(PrepareFault::NoMemory);
+        }
+        let plan = self.tables.prepare(alloc, event, &self.limits)?;
+        Ok(self.tables.apply(plan))
+    }
+
+    fn step(&mut self, alloc: Global, step: &Step, number: u32) -> Result<List<Flow>, PrepareFault> {
+        let records = records(alloc, step)?;
+        self.take(alloc, &view(records.as_slice(), number))
+    }
+
+    fn has_object(&self, id: u32, key: &Key) -> bool {
+        let entities = self.tables.entities();
+        id < entities.count() && entities.key(EntityId(id)) == key
+    }
+}
+
+// The flow of an arrow at its place.
+fn flow_of(arrow: (u32, u32, u32, How), place: usize) -> Flow {
+    let (event, from, to, how) = arrow;
+    Flow {
+        from: EntityId(from),
+        to: EntityId(to),
+        how,
+        at: Stamp {
+            ms: 1000 + u64::from(event),
+            place: place as u64,
+        },
+        serial: event,
+    }
+}
+
+#[test]
+fn events_make_these_objects_and_flows(rt: HostRuntime) -> Result<(), Fail> {
+    let alloc = rt.alloc();
+    for (steps, keys, arrows) in CASES {
+        let mut course = Course::new(alloc, Limits::standard());
+        let mut flows = List::new(alloc);
+        for (number, step) in steps.iter().enumerate() {
+            let made = course
+                .step(alloc, step, number as u32)
+                .expect(&rt, "taken");
+            for flow in made.as_slice() {
+                flows.push(*flow)?;
+            }
+        }
+        assert_eq!(rt; flows.as_slice().len(), arrows.len());
+        for (place, flow) in flows.as_slice().iter().enumerate() {
+            assert_eq!(rt; Some(*flow), arrows.get(place).map(|arrow| flow_of(*arrow, place)));
+        }
+        assert_eq!(rt; course.tables.entities().count() as usize, keys.len());
+        for (id, known) in keys.iter().enumerate() {
+            assert!(rt; course.has_object(id as u32, &key_of(alloc, *known)?));
+        }
+    }
+    Ok(())
+}
+
+fn small(entities: u32, flows: u64) -> Limits {
+    let mut limits = Limits::standard();
+    limits.entities = entities.min(100);
+    limits.flows = flows.min(100);
+    limits
+}
+
+fn is_full(taken: &Result<List<Flow>, PrepareFault>, limit: Limit, number: u64) -> bool {
+    match taken {
+        Err(fault) => *fault == PrepareFault::Full(Full { limit, number }),
+        Ok(_) => false,
+    }
+}
+
+#[test]
+fn a_limit_refuses_the_event_that_would_pass_it(rt: HostRuntime) -> Result<(), Fail> {
+    let alloc = rt.alloc();
+    let fork: Step = (100, 1, 57, 101, [0, 0, 0], &[]);
+    let another: Step = (100, 1, 57, 102, [0, 0, 0], &[]);
+    // Its first flow has a third object, and its second flow a fourth.
+    let pass: Step = (100, 1, 40, 5, [4, 3, 0], &[]);
+    let exit: Step = (101, 100, 231, 0, [0, 0, 0], &[]);
+    for (entities, flows, step, limit, number) in [
+        (2, 10, another, Limit::Entities, 2),
+        (10, 1, another, Limit::Flows, 1),
+        (2, 1, another, Limit::Entities, 2),
+        (3, 10, pass, Limit::Entities, 3),
+        (10, 2, pass, Limit::Flows, 2),
+    ] {
+        let mut course = Course::new(alloc, small(entities, flows));
+        course.step(alloc, &fork, 0).expect(&rt, "taken");
+        assert!(rt; is_full(&course.step(alloc, &step, 1), limit, number));
+        // Nothing of the event was taken, and one that makes no flow still goes.
+        assert_eq!(rt; course.tables.acts(), 2);
+        assert_eq!(rt; course.tables.flows(), 1);
+        assert_eq!(rt; course.tables.entities().count(), 2);
+        assert!(rt; course.has_object(0, &key_of(alloc, Process(100, 0))?));
+        assert!(rt; course.has_object(1, &key_of(alloc, Process(101, 0))?));
+        course.step(alloc, &exit, 2).expect(&rt, "taken");
+        assert_eq!(rt; course.tables.acts(), 4);
+    }
+    Ok(())
+}
+
+static RUN: [&[Said]; 3] = [
+    &[Path(Normal, 7, "/a")],
+    &[Path(Normal, 8, "/b")],
+    &[Path(Normal, 9, "/c")],
+];
+
+static CREATED: [&[Said]; 3] = [
+    &[Path(Create, 7, "/a")],
+    &[Path(Create, 8, "/b")],
+    &[Path(Create, 9, "/c")],
+];
+
+static PEERS: [&[Said]; 2] = [&[Address("peer")], &[Address("other")]];
+
+// The next number of a linear congruence.
+fn next(state: &mut u64) -> u32 {
+    *state = state
+        .wrapping_mul(6_364_136_223_846_793_005)
+        .wrapping_add(1_442_695_040_888_963_407);
+    (*state >> 33) as u32
+}
+
+// An event of a few processes, whose call puts nothing at a descriptor.
+fn some_step(state: &mut u64) -> Step {
+    let pid = 100 + next(state) % 4;
+    let ppid = 99 + next(state) % 5;
+    let fd = u64::from(next(state) % 3);
+    let child = i64::from(100 + next(state) % 4);
+    let file = (next(state) % 3) as usize;
+    let peer = (next(state) % 2) as usize;
+    match next(state) % 12 {
+        0 | 1 => (pid, ppid, 57, child, [0, 0, 0], &[]),
+        2 => (pid, ppid, 231, 0, [0, 0, 0], &[]),
+        3 => (pid, ppid, 0, 4, [fd, 0, 0], &[]),
+        4 => (pid, ppid, 1, 4, [fd, 0, 0], &[]),
+        5 => (pid, ppid, 40, 4, [fd, 1, 0], &[]),
+        6 => (pid, ppid, 45, 4, [fd, 0, 0], PEERS[peer]),
+        7 => (pid, ppid, 44, 4, [fd, 0, 0], PEERS[peer]),
+        8 => (pid, ppid, 59, 0, [0, 0, 0], RUN[file]),
+        9 => (pid, ppid, 76, 0, [0, 0, 0], RUN[file]),
+        10 => (pid, ppid, 83, 0, [0, 0, 0], CREATED[file]),
+        _ => (pid, ppid, 39, 0, [0, 0, 0], &[]),
+    }
+}
+
+// Whether an act may put something at a descriptor.
+fn may_open(act: &Act) -> bool
+    ensures { result ≡ opens act.now }
+{
+    matches!(
+        act,
+        Act::Set { .. } | Act::SetBoth { .. } | Act::Copy { .. } | Act::Address { .. }
+    )
+}
+
+// The plain program takes these acts, the newest of which stands first.
+fn take_plainly(plain: &mut Plain, acts: List<Act>, number: u32) -> Result<(), Refused> {
+    let mut acts = acts;
+    while let Some(act) = acts.pop() {
+        if may_open(&act) {
+            return Err(Refused::NoMemory);
+        }
+        plain.act(Taken {
+            act,
+            ms: 1000 + u64::from(number),
+            serial: number,
+        })?;
+    }
+    Ok(())
+}
+
+#[test]
+fn long_runs_make_the_flows_of_the_plain_program(rt: HostRuntime) -> Result<(), Fail> {
+    let alloc = rt.alloc();
+    let limits = Limits::standard();
+    for seed in [1, 2, 3] {
+        let mut state = seed;
+        let mut course = Course::new(alloc, limits);
+        let mut plain = Plain::new(alloc, 10_000, 10_000);
+        let mut flows = List::new(alloc);
+        for number in 0..250 {
+            let records = records(alloc, &some_step(&mut state))?;
+            let event = view(records.as_slice(), number);
+            let done = newest_first(alloc, acts(alloc, &event, &limits)?)?;
+            take_plainly(&mut plain, done, number).expect(&rt, "taken plainly");
+            let made = course.take(alloc, &event).expect(&rt, "taken");
+            for flow in made.as_slice() {
+                flows.push(*flow)?;
+            }
+            assert!(rt; plain.flows() == flows.as_slice());
+            assert_eq!(rt; plain.known(), course.tables.entities().count());
+            for (id, key) in plain.objects().iter().enumerate() {
+                assert!(rt; course.has_object(id as u32, key));
+            }
+        }
+    }
+    Ok(())
+}
