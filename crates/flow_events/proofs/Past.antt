@@ -1,5 +1,5 @@
 -- Objects never go, so a limit that was passed stays passed.
-use Rattle.std.proofs.Common.{◌≡◌, ◌<◌, ◌≤◌, ◌++◌, ◌∙◌, ap, refl, sym, subst, ℕ, Bool, true, false, List, [], ◌∷◌, Option, None, Some, length, map, take, drop, reverse, if◌then◌else◌, arith, append_assoc}
+use Rattle.std.proofs.Common.{◌≡◌, ◌<◌, ◌≤◌, ◌++◌, ◌∙◌, ap, refl, sym, subst, ℕ, Bool, true, false, List, [], ◌∷◌, Option, None, Some, Result, Ok, Err, length, map, take, drop, reverse, if◌then◌else◌, arith, append_assoc}
 use Rattle.std.specs.Prelude.{nat_lt}
 use Rattle.std.specs.List.{list_any}
 use Rattle.std.proofs.lemmas.Bool.{lt-ltb, le-ltb}
@@ -88,3 +88,8 @@ flows_past most_objects most_flows objects flows fit past = rw (le-ltb most_obje
 -- both fit
 pub both_fit : (most_objects most_flows objects flows : ℕ) → objects ≤ most_objects → flows ≤ most_flows → full_by most_objects most_flows objects flows ≡ None
 both_fit most_objects most_flows objects flows fit fits = rw (le-ltb most_objects objects fit, le-ltb most_flows flows fits) refl
+
+-- the error of a result, or else this one
+abbrev pub error_or : {T E : Type 0} → E → Result T E → E
+error_or other (Ok value) = other
+error_or other (Err error) = error

@@ -12,11 +12,11 @@ use Rattle.call_acts.specs.Events.{IsCalm, IsCalmOf}
 use Rattle.flow_events.specs.Drafts.{Drafted, UnderWay, turned}
 use Rattle.flow_events.proofs.CalmActs.{calm_acting}
 
-abbrev taken_at : ℕ → ℕ → Act → Taken
+abbrev pub taken_at : ℕ → ℕ → Act → Taken
 taken_at ms serial act = record { act = act; ms = ms; serial = serial }
 
 -- the next act stands first
-turned_more : (ms serial i : ℕ) (acts : List Act) (act : Act) → i < length acts → act ≡ get_or acts i act → turned ms serial (take (i + 1) acts) ≡ taken_at ms serial act ∷ turned ms serial (take i acts)
+pub turned_more : (ms serial i : ℕ) (acts : List Act) (act : Act) → i < length acts → act ≡ get_or acts i act → turned ms serial (take (i + 1) acts) ≡ taken_at ms serial act ∷ turned ms serial (take i acts)
 turned_more ms serial i acts act inside is =
     ap (turned ms serial) (take_more acts i act inside ∙ ap (λ a. take i acts ++ a ∷ []) (sym is))
     ∙ ap reverse (map-append (taken_at ms serial) (take i acts) (act ∷ []))

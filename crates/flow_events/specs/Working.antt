@@ -1,5 +1,6 @@
 -- What is worked out of a whole event. Every list of acts has the newest first.
 use Rattle.std.specs.Prelude.{◌+◌, ◌≡◌, ◌<◌, ◌-◌, ◌++◌, ◌^◌, ℕ, Option, List, [], ◌∷◌, length}
+use Rattle.flow_base.specs.declared.limits.Full.{Full}
 use Rattle.acts.specs.declared.act.Act.TheVariants.{See}
 use Rattle.acts.specs.declared.act.Taken.{Taken}
 use Rattle.acts.specs.Admitted.{Admitted}
@@ -11,6 +12,7 @@ use Rattle.flow_events.specs.declared.draft.Ground.{Ground}
 use Rattle.acts.specs.declared.act.Act.{Act}
 use Rattle.flow_events.specs.declared.work.Worked.{Worked}
 use Rattle.flow_events.specs.declared.work.Begun.{Begun}
+use Rattle.flow_events.specs.Added.{IsPast}
 use Rattle.flow_events.specs.Births.{BornAs}
 use Rattle.flow_events.specs.Changes.{changed}
 use Rattle.flow_events.specs.Drafts.{Drafted, UnderWay}
@@ -40,6 +42,10 @@ pub record IsWorked (ground : Ground) (worked : Worked) (before now : List Taken
 -- an act of the event as a log has it
 abbrev pub taken_at : Ground → Act → Taken
 taken_at ground act = record { act = act; ms = ground.ms; serial = ground.serial }
+
+-- with these acts of the event the objects are more than there may be, and that is what is said
+pub record IsRefused (ground : Ground) (full : Full) (before now : List Taken) : Type 0 where
+  pub past : IsPast ground.most full (objects (acts_of now ++ acts_of before))
 
 -- the event was begun by this act, after so many acts, and so many more are few
 pub record IsBegun (ground : Ground) (begun : Begun) (before : List Taken) (first : Taken) (acts more : ℕ) : Type 0 where

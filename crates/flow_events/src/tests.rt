@@ -3,6 +3,7 @@
 ghost use Rattle.std.specs.Prelude.{◌≡◌, ⊤, not};
 ghost use Rattle.acts.specs.LookBack.{opens};
 
+use crate::look_back::History;
 use crate::parts::newest_first;
 use crate::{PrepareFault, Tables};
 use acts::{Act, Plain, Refused, Taken};
@@ -266,6 +267,24 @@ impl Course {
         Ok(self.tables.apply(plan))
     }
 
+    // Prepares an event and leaves it at that: the flows of its plan, and whether its call isn't known.
+    fn look(
+        &mut self,
+        alloc: Global,
+        event: &EventView<'_>,
+    ) -> Result<(List<Flow>, bool), PrepareFault> {
+        if self.tables.acts() > 1_000_000 || event.records.len() > 1_000_000 {
+            return Err(PrepareFault::NoMemory);
+        }
+        acts_are_few();
+        let plan = self.tables.prepare(alloc, event, &self.limits)?;
+        let mut flows = List::new(alloc);
+        for flow in plan.flows() {
+            flows.push(*flow)?;
+        }
+        Ok((flows, plan.unmapped()))
+    }
+
     fn step(&mut self, alloc: Global, step: &Step, number: u32) -> Result<List<Flow>, PrepareFault> {
         let records = records(alloc, step)?;
         self.take(alloc, &view(records.as_slice(), number))
@@ -315,6 +334,46 @@ fn events_make_these_objects_and_flows(rt: HostRuntime) -> Result<(), Fail> {
             assert!(rt; course.has_object(id as u32, &key_of(alloc, *known)?));
         }
     }
+    Ok(())
+}
+
+#[test]
+fn an_event_that_is_only_prepared_changes_nothing(rt: HostRuntime) -> Result<(), Fail> {
+    let alloc = rt.alloc();
+    let mut course = Course::new(alloc, Limits::standard());
+    let fork: Step = (100, 1, 57, 101, [0, 0, 0], &[]);
+    let unknown: Step = (100, 1, 39, 0, [0, 0, 0], &[]);
+    for (step, wanted, unmapped) in [
+        (fork, [flow_of((0, 0, 1, Fork), 0)].as_slice(), false),
+        (unknown, [].as_slice(), true),
+    ] {
+        let records = records(alloc, &step)?;
+        let event = view(records.as_slice(), 0);
+        let (flows, told) = course.look(alloc, &event).expect(&rt, "prepared");
+        assert!(rt; flows.as_slice() == wanted);
+        assert_eq!(rt; told, unmapped);
+        assert_eq!(rt; course.tables.acts(), 0);
+        assert_eq!(rt; course.tables.flows(), 0);
+        assert_eq!(rt; course.tables.entities().count(), 0);
+    }
+    Ok(())
+}
+
+#[test]
+fn objects_have_the_names_that_acts_gave_them(rt: HostRuntime) -> Result<(), Fail> {
+    let alloc = rt.alloc();
+    let mut course = Course::new(alloc, Limits::standard());
+    // The file has no number when it is named, and has one from its first flow on.
+    let open: Step = (100, 1, 257, 3, [0, 0, 0], &[Path(Normal, 7, "/a")]);
+    let read: Step = (100, 1, 0, 5, [3, 0, 0], &[]);
+    course.step(alloc, &open, 0).expect(&rt, "taken");
+    let found = course.tables.entities().find(b"/a".as_slice())?;
+    assert!(rt; found.as_slice().is_empty());
+    course.step(alloc, &read, 1).expect(&rt, "taken");
+    let found = course.tables.entities().find(b"/a".as_slice())?;
+    assert!(rt; found.as_slice() == [EntityId(0)].as_slice());
+    let found = course.tables.entities().find(b"/p".as_slice())?;
+    assert!(rt; found.as_slice() == [EntityId(1)].as_slice());
     Ok(())
 }
 
@@ -376,6 +435,8 @@ static CREATED: [&[Said]; 3] = [
 
 static PEERS: [&[Said]; 2] = [&[Address("peer")], &[Address("other")]];
 
+static PAIRS: [&[Said]; 3] = [&[Pair(0, 1)], &[Pair(2, 3)], &[Pair(1, 1)]];
+
 // The next number of a linear congruence.
 fn next(state: &mut u64) -> u32 {
     *state = state
@@ -404,6 +465,31 @@ fn some_step(state: &mut u64) -> Step {
         9 => (pid, ppid, 76, 0, [0, 0, 0], RUN[file]),
         10 => (pid, ppid, 83, 0, [0, 0, 0], CREATED[file]),
         _ => (pid, ppid, 39, 0, [0, 0, 0], &[]),
+    }
+}
+
+// An event of the same processes, of any call.
+fn any_step(state: &mut u64) -> Step {
+    let pid = 100 + next(state) % 4;
+    let ppid = 99 + next(state) % 5;
+    let fd = u64::from(next(state) % 4);
+    let answer = i64::from(next(state) % 4);
+    let mark = u64::from(next(state) % 2);
+    let file = (next(state) % 3) as usize;
+    let peer = (next(state) % 2) as usize;
+    match next(state) % 14 {
+        0 => (pid, ppid, 257, answer, [0, 0, mark * 524_288], RUN[file]),
+        1 => (pid, ppid, 257, answer, [0, 0, mark * 524_288], CREATED[file]),
+        2 => (pid, ppid, 32, answer, [fd, 0, 0], &[]),
+        3 => (pid, ppid, 292, answer, [fd, 0, mark * 524_288], &[]),
+        4 => (pid, ppid, 3, 0, [fd, 0, 0], &[]),
+        5 => (pid, ppid, 72, 0, [fd, 2, mark], &[]),
+        6 => (pid, ppid, 293, 0, [0, mark * 524_288, 0], PAIRS[file]),
+        7 => (pid, ppid, 41, answer, [0, mark * 524_288, 0], &[]),
+        8 => (pid, ppid, 49, 0, [fd, 0, 0], PEERS[peer]),
+        9 => (pid, ppid, 43, answer, [fd, 0, 0], PEERS[peer]),
+        10 => (pid, ppid, 43, answer, [fd, 0, 0], &[]),
+        _ => some_step(state),
     }
 }
 
@@ -454,6 +540,36 @@ fn long_runs_make_the_flows_of_the_plain_program(rt: HostRuntime) -> Result<(), 
             assert!(rt; plain.flows() == flows.as_slice());
             assert_eq!(rt; plain.known(), course.tables.entities().count());
             for (id, key) in plain.objects().iter().enumerate() {
+                assert!(rt; course.has_object(id as u32, key));
+            }
+        }
+    }
+    Ok(())
+}
+
+#[test]
+fn long_runs_with_descriptors_make_the_flows_of_a_look_back(rt: HostRuntime) -> Result<(), Fail> {
+    let alloc = rt.alloc();
+    let limits = Limits::standard();
+    for seed in [4, 5, 6] {
+        let mut state = seed;
+        let mut course = Course::new(alloc, limits);
+        let mut history = History::new(alloc);
+        let mut flows = List::new(alloc);
+        for number in 0..250 {
+            let records = records(alloc, &any_step(&mut state))?;
+            let event = view(records.as_slice(), number);
+            let mut done = newest_first(alloc, acts(alloc, &event, &limits)?)?;
+            while let Some(act) = done.pop() {
+                history.take(alloc, act, 1000 + u64::from(number), number)?;
+            }
+            let made = course.take(alloc, &event).expect(&rt, "taken");
+            for flow in made.as_slice() {
+                flows.push(*flow)?;
+            }
+            assert!(rt; history.flows() == flows.as_slice());
+            assert_eq!(rt; history.objects().len(), course.tables.entities().count() as usize);
+            for (id, key) in history.objects().iter().enumerate() {
                 assert!(rt; course.has_object(id as u32, key));
             }
         }

@@ -1,5 +1,5 @@
 //! How an event is worked out: its see, the births and moves after it, and its last act.
-ghost use Rattle.std.specs.Prelude.{◌≡◌, ◌≤◌, ◌<◌, ◌+◌, ◌-◌, ◌++◌, ◌^◌, ◌∷◌, ℕ, [], List, Err, IfOk, length};
+ghost use Rattle.std.specs.Prelude.{◌≡◌, ◌≤◌, ◌<◌, ◌+◌, ◌-◌, ◌++◌, ◌^◌, ◌∷◌, ℕ, [], List, Err, IfErr, IfOk, length};
 ghost use Rattle.flow_base.specs.declared.limits.Full.{Full};
 ghost use Rattle.acts.specs.declared.act.Act.TheVariants as act;
 ghost use Rattle.std.specs.Prelude.{All};
@@ -11,7 +11,7 @@ ghost use Rattle.flow_events.specs.Acting.{DoesAs};
 ghost use Rattle.flow_events.specs.Added.{AreNew, IsPast};
 ghost use Rattle.flow_events.specs.Drafts.{UnderWay, turned};
 ghost use Rattle.flow_events.specs.Lives.{LivesBelow};
-ghost use Rattle.flow_events.specs.Working.{Grounded, IsBegun, IsFew, IsWorked, see_at, taken_at};
+ghost use Rattle.flow_events.specs.Working.{Grounded, IsBegun, IsFew, IsRefused, IsWorked, see_at, taken_at};
 
 use crate::acting::{Acting, see_acting};
 use crate::change::Change;
@@ -88,7 +88,7 @@ pub fn go_on(
     ensures worked { IfOk result (λ worked. (before : List Taken) (first : Taken) → Grounded ground.now before → IsBegun ground.now begun before first acts (length front.now) → DoesAs begun.see (acts_of before) first.act → IsWorked ground.now worked before (taken_at ground.now last.now ∷ (turned ground.now.ms ground.now.serial front.now ++ first ∷ []))) }
     ensures new { IfOk result (λ worked. AreNew ground.now.entities.now.keys begun.draft.added.keys → AreNew ground.now.entities.now.keys worked.draft.added.keys) }
     ensures fits { IfOk result (λ worked. length (ground.now.entities.now.keys ++ worked.draft.added.keys) ≤ ground.now.most) }
-    ensures full { (full : Full) → result ≡ Err (fault.Full full) → (before : List Taken) (first : Taken) → IsBegun ground.now begun before first acts (length front.now) → IsPast ground.now.most full (objects (last.now ∷ (acts_of (turned ground.now.ms ground.now.serial front.now ++ first ∷ []) ++ acts_of before))) }
+    ensures full { IfErr result (λ why. (full : Full) → why ≡ fault.Full full → (before : List Taken) (first : Taken) → IsBegun ground.now begun before first acts (length front.now) → IsPast ground.now.most full (objects (last.now ∷ (acts_of (turned ground.now.ms ground.now.serial front.now ++ first ∷ []) ++ acts_of before)))) }
 {
     let Begun {
         acting,
@@ -135,7 +135,7 @@ pub fn work_out(
     ensures worked { IfOk result (λ worked. (before : List Taken) → Grounded ground.now before → IsFew ground.now before acts (length rest.now) → IsWorked ground.now worked before (turned ground.now.ms ground.now.serial rest.now ++ see_at ground.now.ms ground.now.serial pid ppid exe.now ∷ [])) }
     ensures new { IfOk result (λ worked. AreNew ground.now.entities.now.keys worked.draft.added.keys) }
     ensures fits { IfOk result (λ worked. length (ground.now.entities.now.keys ++ worked.draft.added.keys) ≤ ground.now.most) }
-    ensures full { (full : Full) → result ≡ Err (fault.Full full) → (before : List Taken) → IsFew ground.now before acts (length rest.now) → IsPast ground.now.most full (objects (acts_of (turned ground.now.ms ground.now.serial rest.now ++ see_at ground.now.ms ground.now.serial pid ppid exe.now ∷ []) ++ acts_of before)) }
+    ensures full { IfErr result (λ why. (full : Full) → why ≡ fault.Full full → (before : List Taken) → IsFew ground.now before acts (length rest.now) → IsRefused ground.now full before (turned ground.now.ms ground.now.serial rest.now ++ see_at ground.now.ms ground.now.serial pid ppid exe.now ∷ [])) }
 {
     let begun = begin(ground, pid, ppid, exe, rest.len())?;
     match rest {
@@ -160,7 +160,7 @@ pub fn work_event(ground: &Ground<'_>, number: u64, acts: &[Act]) -> Result<Work
     ensures worked { IfOk result (λ worked. (before : List Taken) → IsFew ground.now before number (length acts.now) → IsWorked ground.now worked before (turned ground.now.ms ground.now.serial acts.now)) }
     ensures new { IfOk result (λ worked. AreNew ground.now.entities.now.keys worked.draft.added.keys) }
     ensures fits { IfOk result (λ worked. length (ground.now.entities.now.keys ++ worked.draft.added.keys) ≤ ground.now.most) }
-    ensures full { (full : Full) → result ≡ Err (fault.Full full) → (before : List Taken) → IsFew ground.now before number (length acts.now) → IsPast ground.now.most full (objects (acts_of (turned ground.now.ms ground.now.serial acts.now) ++ acts_of before)) }
+    ensures full { IfErr result (λ why. (full : Full) → why ≡ fault.Full full → (before : List Taken) → IsFew ground.now before number (length acts.now) → IsRefused ground.now full before (turned ground.now.ms ground.now.serial acts.now)) }
 {
     match acts {
         [] => Ok(Worked {

@@ -1,8 +1,12 @@
-use Rattle.std.proofs.Common.{◌≡◌, ◌∷◌, subst, sym}
+use Rattle.std.proofs.Common.{◌≡◌, ◌∷◌, ap, subst, sym, Err}
 use Rattle.acts.specs.declared.act.Act.TheVariants.{See}
 use Rattle.acts.specs.Lives.{life_of}
-use Rattle.acts.specs.Flows.{acts_of}
+use Rattle.acts.specs.Flows.{acts_of, objects}
+use Rattle.std.proofs.lemmas.Result.{err_from_is_err_and}
+use Rattle.flow_events.specs.Added.{IsPast}
 use Rattle.flow_events.proofs.Beginning.{drafted_nothing, way_begun}
+use Rattle.flow_events.specs.declared.fault.PrepareFault.TheVariants as fault
+use Rattle.flow_events.proofs.Past.{error_or}
 use Rattle.flow_events.proofs.work.begin.Goals as goal
 
 pub returns-clause-way : goal.returns-clause-way
@@ -20,3 +24,13 @@ returns-clause-way c = λ before stands.
 
 pub returns-clause-see : goal.returns-clause-see
 returns-clause-see c = λ before stands. c.in_ok-see.ensures (acts_of before) c.args.exe.now stands.lives_are stands.held_are stands.admitted
+
+pub returns-in_err-see-2-clause-full : goal.returns-in_err-see-2-clause-full
+returns-in_err-see-2-clause-full c =
+    let p = err_from_is_err_and c.from_residual-in_err-see-2.result c.from_residual-in_err-see-2.ensures.1 in
+    rw (p.1, p.2) (λ full is before stands.
+      let ground = c.args.ground.now in
+      let seen = c.see_acting-acting.ensures in
+      let start = c.in_ok-draft.ensures in
+      subst (λ pid. IsPast ground.most full (objects (See pid c.args.ppid c.args.exe.now ∷ acts_of before))) seen.pid
+      (c.in_err-see-2.ensures.full full (ap Err (ap (error_or (fault.Full full)) is)) before stands.lives_are (drafted_nothing ground c.in_ok-draft.draft before stands start.births start.given start.added)))

@@ -1,12 +1,15 @@
-use Rattle.std.proofs.Common.{◌<◌, ◌-◌, ◌++◌, ◌^◌, ◌∙◌, [], ◌∷◌, ap, sym, length, arith}
+use Rattle.std.proofs.Common.{Err, ◌<◌, ◌-◌, ◌++◌, ◌^◌, ◌∙◌, [], ◌∷◌, ap, sym, length, arith}
+use Rattle.std.proofs.lemmas.Result.{err_from_is_err_and}
 use Rattle.acts.specs.Holding.{holds, address_of}
 use Rattle.acts.specs.Flows.{acts_of}
 use Rattle.flow_events.specs.Acting.{IsBorn}
 use Rattle.flow_events.specs.Changes.{changed}
+use Rattle.flow_events.specs.declared.fault.PrepareFault.TheVariants as fault
 use Rattle.flow_events.specs.Drafts.{turned}
 use Rattle.flow_events.proofs.Applying.{changed_alike, readdressed_alike}
 use Rattle.flow_events.proofs.Drafting.{few_births}
 use Rattle.flow_events.proofs.Following.{calm_holds, numbered, front_length, split}
+use Rattle.flow_events.proofs.Past.{still_past}
 use Rattle.flow_events.proofs.work.go_on.Goals as goal
 
 pub change_of-requires-clause-few : goal.change_of-requires-clause-few
@@ -77,3 +80,20 @@ returns-clause-worked c = λ before first grounded begun see.
           (λ t. sym (way.acting_is.addresses_are.each t) ∙ grounded.addresses_are.each t)
           s;
     }
+
+pub returns-in_err-calm_acts-clause-full : goal.returns-in_err-calm_acts-clause-full
+returns-in_err-calm_acts-clause-full c =
+    let p = err_from_is_err_and c.from_residual.result c.from_residual.ensures.1 in
+    rw (p.1, p.2) (λ full is before first begun.
+      let ground = c.args.ground.now in
+      let now = turned ground.ms ground.serial c.args.front.now ++ first ∷ [] in
+      still_past _ full (c.args.last.now ∷ []) (acts_of now ++ acts_of before) (c.in_err-calm_acts.ensures.full full (ap Err is) before (first ∷ []) begun.way))
+
+pub returns-in_err-act-clause-full : goal.returns-in_err-act-clause-full
+returns-in_err-act-clause-full c =
+    let p = err_from_is_err_and c.from_residual-in_err-act.result c.from_residual-in_err-act.ensures.1 in
+    rw (p.1, p.2) (λ full is before first begun.
+      let ground = c.args.ground.now in
+      let now = turned ground.ms ground.serial c.args.front.now ++ first ∷ [] in
+      let way = c.in_ok-calm_acts.ensures.next before (first ∷ []) begun.way in
+      c.in_err-act.ensures.full full (ap Err is) before now way.acting_is way.drafted)

@@ -1,10 +1,16 @@
-use Rattle.std.proofs.Common.{◌-◌, ◌++◌, [], ◌∷◌, None, refl, subst, sym, length, take, arith}
+use Rattle.std.proofs.Common.{ap, Err, ◌-◌, ◌++◌, [], ◌∷◌, None, refl, subst, sym, length, take, arith}
 use Rattle.std.specs.Prelude.{All}
 use Rattle.flow_events.specs.declared.change.Change.TheVariants.{Nothing}
 use Rattle.flow_events.specs.declared.work.Worked.{Worked}
 use Rattle.call_acts.specs.Events.{IsCalmOf}
 use Rattle.flow_events.specs.Drafts.{turned}
-use Rattle.flow_events.specs.Working.{IsWorked, see_at}
+use Rattle.std.proofs.lemmas.Result.{err_from_is_err_and, IfErr-weaker}
+use Rattle.acts.specs.Flows.{acts_of, objects}
+use Rattle.flow_events.specs.Added.{IsPast}
+use Rattle.flow_events.specs.declared.fault.PrepareFault.TheVariants as fault
+use Rattle.flow_events.specs.Working.{IsRefused, IsWorked, see_at}
+use Rattle.flow_events.proofs.Following.{split}
+use Rattle.flow_events.proofs.Past.{still_past}
 use Rattle.flow_events.proofs.Resting.{mapped, none_left, whole, front_shorter, turned_whole}
 use Rattle.flow_events.proofs.work.work_out.Goals as goal
 
@@ -61,3 +67,30 @@ returns-in-len1-up-clause-worked c = mapped c.go_on.result
     (sym (turned_whole ground.ms ground.serial rest front c.last-item.result (whole rest c.last-item.result c.in-len1-up.len_at_least c.last-item.is)))
     (does before see grounded (record { way = begun.way before grounded; acts_are = enough.acts_are; few = omega (arith, few, short) }) (begun.see before grounded)))
     c.go_on.ensures.worked
+
+pub returns-in_err-begun-clause-full : goal.returns-in_err-begun-clause-full
+returns-in_err-begun-clause-full c =
+    let p = err_from_is_err_and c.from_residual.result c.from_residual.ensures.1 in
+    rw (p.1, p.2) (λ full is before enough.
+      let ground = c.args.ground.now in
+      let rest = turned ground.ms ground.serial c.args.rest.now in
+      let see = see_at ground.ms ground.serial c.args.pid c.args.ppid c.args.exe.now in
+      record {
+        past = subst (λ acts. IsPast ground.most full (objects acts)) (sym (split ground.ms ground.serial c.args.rest.now see before))
+            (still_past _ full (acts_of rest) (see.act ∷ acts_of before) (c.in_err-begun.ensures.full full (ap Err is) before enough.grounded));
+      })
+
+pub returns-in-len1-up-clause-full : goal.returns-in-len1-up-clause-full
+returns-in-len1-up-clause-full c = IfErr-weaker c.go_on.result _ _
+    (λ why does full is before enough.
+    let ground = c.args.ground.now in
+    let rest = c.args.rest.now in
+    let front = take (length rest - 1) rest in
+    let few = enough.few in
+    let short = front_shorter rest in
+    let begun = c.in_ok-begun.ensures in
+    let see = see_at ground.ms ground.serial c.args.pid c.args.ppid c.args.exe.now in
+    subst (λ all. IsRefused ground full before (all ++ see ∷ []))
+    (sym (turned_whole ground.ms ground.serial rest front c.last-item.result (whole rest c.last-item.result c.in-len1-up.len_at_least c.last-item.is)))
+    (record { past = does full is before see (record { way = begun.way before enough.grounded; acts_are = enough.acts_are; few = omega (arith, few, short) }) }))
+    c.go_on.ensures.full

@@ -5,7 +5,9 @@ use Rattle.acts.specs.Flows.{acts_of, objects, flows, link_of, with_ends}
 use Rattle.flow_events.specs.Acting.{IsBorn}
 use Rattle.flow_events.specs.Added.{flows_if}
 use Rattle.flow_events.specs.Entering.{pair_of}
+use Rattle.std.proofs.lemmas.Result.{err_from_is_err_and}
 use Rattle.flow_events.proofs.Drafting.{few_births, joined, flows_after}
+use Rattle.flow_events.proofs.Past.{link_past}
 use Rattle.flow_events.proofs.draft.Draft.act.Goals as goal
 
 pub link_of-requires-clause-few : goal.link_of-requires-clause-few
@@ -77,3 +79,17 @@ returns-clause-next c = λ before now base acting so_far.
           (ap (λ n. n + length c.args.self.now.added.flows) base)
           ∙ ap (λ added. flows before ++ added) (ap (λ n. c.args.self.now.added.flows ++ flows_if (known ++ c.add_link.new.added.keys) c.args.ground.now.ms c.args.ground.now.serial (c.args.ground.now.flows + n) c.in_ok-link.link) (sym c.count.ensures) ∙ sym c.in_ok-add_link.ensures.flows);
     }
+
+pub returns-in_err-add_link-clause-full : goal.returns-in_err-add_link-clause-full
+returns-in_err-add_link-clause-full c =
+    let p = err_from_is_err_and c.from_residual-in_err-add_link.result c.from_residual-in_err-add_link.ensures.1 in
+    rw (p.1, p.2) (λ full is before now acting so_far.
+      let drafted = c.requires.few.2.0 in
+      let bounds = c.requires.few.2.1 in
+      let born : IsBorn c.args.ground.now.births.now c.args.self.now.births (acts_of before) (acts_of now) = record {
+        before_are = so_far.before_are;
+        now_are = so_far.now_are;
+        births_few = few_births c.args.ground.now.births.now c.requires.few.0 (2 ^ 63) drafted.before_are (let b = bounds.0 in omega (arith, b));
+        fresh_few = few_births c.args.self.now.births c.requires.few.1 (2 ^ 63) drafted.now_are (let b = bounds.1 in omega (arith, b));
+      } in
+      link_past _ full _ (objects (acts_of now ++ acts_of before)) _ _ so_far.objects_are (c.in_ok-link.ensures (acts_of before) (acts_of now) born acting) (c.in_err-add_link.ensures.full full is))

@@ -1,6 +1,10 @@
-use Rattle.std.proofs.Common.{◌++◌, take, arith}
+use Rattle.std.proofs.Common.{◌+◌, ◌++◌, sym, subst, take, arith}
+use Rattle.std.proofs.lemmas.Result.{err_from_is_err_and}
+use Rattle.acts.specs.Flows.{acts_of, objects}
+use Rattle.flow_events.specs.Added.{IsPast}
 use Rattle.flow_events.specs.Drafts.{turned}
-use Rattle.flow_events.proofs.UnderWays.{calm_at, one_more, all_done}
+use Rattle.flow_events.proofs.Past.{all_past}
+use Rattle.flow_events.proofs.UnderWays.{calm_at, one_more, all_done, turned_more}
 use Rattle.flow_events.proofs.draft.Draft.calm_acts.Goals as goal
 
 pub loop-act-preserved : goal.loop-act-preserved
@@ -23,3 +27,15 @@ loop-act-preserved c =
 pub returns-clause-next : goal.returns-clause-next
 returns-clause-next c = λ before now start.
     all_done c.args.ground.now c.args.acting.now c.loop-act.self before now c.loop-act.act-index c.args.acts.now c.loop-act-test.false (c.loop-act.invariant.next before now start)
+
+pub returns-in_err-act-clause-full : goal.returns-in_err-act-clause-full
+returns-in_err-act-clause-full c =
+    let p = err_from_is_err_and c.from_residual.result c.from_residual.ensures.1 in
+    rw (p.1, p.2) (λ full is before now start.
+      let ground = c.args.ground.now in
+      let acts = c.args.acts.now in
+      let i = c.loop-act.act-index in
+      let way = c.loop-act.invariant.next before now start in
+      let here = c.in_err-act.ensures.full full is before (turned ground.ms ground.serial (take i acts) ++ now) way.acting_is way.drafted in
+      all_past _ full ground.ms ground.serial (i + 1) acts now before
+      (subst (λ all. IsPast ground.most full (objects (acts_of (all ++ now) ++ acts_of before))) (sym (turned_more ground.ms ground.serial i acts c.act-item.result c.loop-act-test.true c.act-item.is)) here))

@@ -6,7 +6,9 @@ use Rattle.acts.specs.Keys.{all_given, name_if}
 use Rattle.acts.specs.Flows.{acts_of, objects, flows, with_ends}
 use Rattle.flow_events.specs.Added.{flows_if}
 use Rattle.flow_events.specs.Entering.{pair_of}
+use Rattle.std.proofs.lemmas.Result.{err_from_is_err_and}
 use Rattle.flow_events.proofs.Drafting.{flows_after}
+use Rattle.flow_events.proofs.Past.{link_past}
 use Rattle.flow_events.proofs.draft.Draft.see.Goals as goal
 
 pub returns-clause-next : goal.returns-clause-next
@@ -33,3 +35,9 @@ returns-clause-next c = λ before base lives life so_far.
           (ap (λ n. n + length c.args.self.now.added.flows) base)
           ∙ ap (λ added. flows before ++ added) (ap (λ n. c.args.self.now.added.flows ++ flows_if (known ++ c.add_link.new.added.keys) c.args.ground.now.ms c.args.ground.now.serial (c.args.ground.now.flows + n) c.see_link-link.result) (sym c.count.ensures) ∙ sym c.in_ok-add_link.ensures.flows);
     }
+
+pub returns-in_err-add_link-clause-full : goal.returns-in_err-add_link-clause-full
+returns-in_err-add_link-clause-full c =
+    let p = err_from_is_err_and c.from_residual-in_err-add_link.result c.from_residual-in_err-add_link.ensures.1 in
+    rw (p.1, p.2) (λ full is before lives so_far.
+      link_past _ full _ (objects (acts_of before)) _ _ so_far.objects_are (c.see_link-link.ensures (acts_of before) c.args.exe.now lives) (c.in_err-add_link.ensures.full full is))

@@ -1,4 +1,10 @@
-use Rattle.std.proofs.Common.{◌∙◌, ap, sym, subst, length, arith}
+use Rattle.std.proofs.Common.{◌++◌, ◌∙◌, ap, sym, subst, length, arith}
+use Rattle.std.proofs.lemmas.Result.{err_from_is_err_and}
+use Rattle.acts.specs.Flows.{acts_of, objects}
+use Rattle.flow_events.specs.Added.{IsPast}
+use Rattle.flow_events.proofs.Drafting.{joined}
+use Rattle.flow_events.proofs.Past.{error_or}
+use Rattle.flow_events.specs.declared.fault.PrepareFault.TheVariants as fault
 use Rattle.name_text.specs.Addresses.{text_of}
 use Rattle.flow_events.specs.Drafts.{turned}
 use Rattle.flow_events.specs.Standing.{IsPlanOf}
@@ -50,3 +56,27 @@ returns-clause-flows c =
     let fewer = event_flows now before c.in_ok-plan_of.field-0.flows plan.flows_are in
     let long = turned_length c.args.ms c.args.serial c.args.acts in
     omega (arith, fewer, long)
+
+pub returns-in_err-worked-clause-full : goal.returns-in_err-worked-clause-full
+returns-in_err-worked-clause-full c =
+    let p = err_from_is_err_and c.from_residual.result c.from_residual.ensures.1 in
+    rw (p.1, p.2) (λ full is before may.
+      let stands = may.stands in
+      let slice = c.as_slice.ensures in
+      let now = turned c.args.ms c.args.serial c.as_slice.result.now in
+      subst (λ acts. IsPast c.args.self.now.most_objects full (objects (acts_of (turned c.args.ms c.args.serial acts ++ before)))) slice
+      (subst (λ all. IsPast c.args.self.now.most_objects full (objects all)) (sym (joined now before))
+      ((c.in_err-worked.ensures.full full (ap (error_or (fault.Full full)) is) before (record {
+        grounded = record {
+          lives_are = stands.lives_are;
+          held_are = stands.held_are;
+          addresses_are = stands.addresses_are;
+          births_are = stands.births_are;
+          objects_are = stands.objects_are;
+          flows_are = stands.flows_are;
+          admitted = may.admitted;
+          few = (let few = may.few in omega (arith, few));
+        };
+        acts_are = stands.acts_are;
+        few = (let few = may.few in let same = ap length slice in omega (arith, few, same));
+      })).past)))
