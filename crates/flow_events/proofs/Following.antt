@@ -1,6 +1,6 @@
 -- The acts after the see.
-use Rattle.std.proofs.Common.{◌≡◌, ◌+◌, ◌++◌, ◌∙◌, ap, refl, ℕ, List, [], ◌∷◌, length, map, append_assoc, arith}
-use Rattle.std.proofs.lemmas.List.{map-append, reverse-append}
+use Rattle.std.proofs.Common.{◌≡◌, ◌≤◌, ◌+◌, ◌-◌, ◌++◌, ◌∙◌, ap, sym, refl, ℕ, Option, List, [], ◌∷◌, length, map, take, drop, get_or, append_assoc, arith}
+use Rattle.std.proofs.lemmas.List.{map-append, reverse-append, take_all}
 use Rattle.std.proofs.lemmas.List.Elements.{All-head, All-tail}
 use Rattle.std.proofs.lemmas.Grind.{common_steps}
 use Rattle.std.specs.Prelude.{All}
@@ -11,6 +11,7 @@ use Rattle.acts.specs.Holding.{holds}
 use Rattle.acts.specs.Flows.{acts_of}
 use Rattle.call_acts.specs.Events.{IsCalm, IsCalmOf}
 use Rattle.flow_events.specs.Drafts.{turned}
+use Rattle.flow_events.specs.Working.{see_at}
 
 calm_hold : (act : Act) → IsCalm act → (A : List Act) (p n : ℕ) → holds (act ∷ A) p n ≡ holds A p n
 calm_hold (Birth file) calm A p n = refl
@@ -31,6 +32,15 @@ at ms serial act = record { act = act; ms = ms; serial = serial }
 
 pub first_last : (ms serial : ℕ) (act : Act) (acts : List Act) → turned ms serial (act ∷ acts) ≡ turned ms serial acts ++ at ms serial act ∷ []
 first_last ms serial act acts = reverse-append (at ms serial act ∷ []) (map (at ms serial) acts)
+
+-- the see and then the rest are all
+pub first_turned : (ms serial : ℕ) (acts : List Act) (pid ppid : ℕ) (exe : Option (List ℕ)) (other : Act) → 1 ≤ length acts → get_or acts 0 other ≡ See pid ppid exe
+    → turned ms serial (take (length acts - 1) (drop 1 acts)) ++ see_at ms serial pid ppid exe ∷ [] ≡ turned ms serial acts
+first_turned ms serial [] pid ppid exe other some is = absurd (omega (arith, some))
+first_turned ms serial (act ∷ rest) pid ppid exe other some is =
+    ap (λ all. turned ms serial all ++ see_at ms serial pid ppid exe ∷ []) (take_all (length (act ∷ rest) - 1) rest (let e : length rest ≤ length (act ∷ rest) - 1 = omega arith in e))
+    ∙ ap (λ one. turned ms serial rest ++ at ms serial one ∷ []) (sym is)
+    ∙ sym (first_last ms serial act rest)
 
 -- calm acts change nothing that is held
 pub calm_holds : (pid ms serial : ℕ) (acts : List Act) → All (IsCalmOf pid) acts → (A : List Act) (p n : ℕ) → holds (acts_of (turned ms serial acts) ++ A) p n ≡ holds A p n

@@ -1,5 +1,5 @@
 -- The acts after the see, as the front and the last one.
-use Rattle.std.proofs.Common.{◌≡◌, ◌≤◌, ◌<◌, ◌+◌, ◌-◌, ◌++◌, ◌∙◌, ap, sym, refl, ℕ, List, [], ◌∷◌, length, map, take, reverse, get_or, Result, Ok, Err, arith}
+use Rattle.std.proofs.Common.{◌≡◌, ◌≤◌, ◌<◌, ◌+◌, ◌-◌, ◌++◌, ◌∙◌, ap, sym, refl, ℕ, List, [], ◌∷◌, length, map, take, drop, reverse, get_or, Result, Ok, Err, arith}
 use Rattle.std.specs.Prelude.{IfOk}
 use Rattle.std.proofs.lemmas.List.{map-append, reverse-append, take_more, take_all}
 use Rattle.std.proofs.lemmas.Grind.{common_steps}
@@ -32,3 +32,7 @@ turned_whole ms serial rest front last is =
     ap (turned ms serial) is
     ∙ ap reverse (map-append at front (last ∷ []))
     ∙ reverse-append (map at front) (at last ∷ [])
+
+-- what follows the first one
+pub rest_shorter : (acts : List Act) → length (take (length acts - 1) (drop 1 acts)) ≤ length acts
+rest_shorter acts = grind (arith, common_steps)
