@@ -31,13 +31,7 @@ impl History {
         self.flows.as_slice()
     }
 
-    pub fn take(
-        &mut self,
-        alloc: Global,
-        act: Act,
-        ms: u64,
-        serial: u32,
-    ) -> Result<(), NoMemory> {
+    pub fn take(&mut self, alloc: Global, act: Act, ms: u64, serial: u32) -> Result<(), NoMemory> {
         let taken = Taken { act, ms, serial };
         if let Some(link) = link_of(alloc, self.acts.as_slice(), &taken.act)? {
             let from = number_of(&mut self.objects, link.from)?;
@@ -198,11 +192,7 @@ fn is_birth_of(act: &Act, id: FileId) -> bool {
     }
 }
 
-fn opened(
-    alloc: Global,
-    before: &[Taken],
-    what: &Opens,
-) -> Result<Object, NoMemory> {
+fn opened(alloc: Global, before: &[Taken], what: &Opens) -> Result<Object, NoMemory> {
     match what {
         Opens::File(file) => Ok(Object::File(file_key(alloc, before, file)?)),
         Opens::Socket { .. } => Ok(Object::Sock(before.len() as u64)),
@@ -210,12 +200,7 @@ fn opened(
 }
 
 // What a descriptor holds after these acts.
-fn held(
-    alloc: Global,
-    acts: &[Taken],
-    pid: u32,
-    fd: u32,
-) -> Result<Option<Held>, NoMemory> {
+fn held(alloc: Global, acts: &[Taken], pid: u32, fd: u32) -> Result<Option<Held>, NoMemory> {
     let [before @ .., last] = acts else {
         return Ok(None);
     };
@@ -271,7 +256,11 @@ fn held(
             })),
             None => Ok(None),
         },
-        Act::Address { pid: by, fd: at, .. } if *by == pid && *at == fd => {
+        Act::Address {
+            pid: by,
+            fd: at,
+            ..
+        } if *by == pid && *at == fd => {
             let so_far = held(alloc, before, pid, fd)?;
             match socket_of(&so_far) {
                 Some(_) => Ok(so_far),
@@ -282,8 +271,7 @@ fn held(
             }
         }
         Act::Fork { pid: by, child }
-            if *child == pid && *by != pid && !is_claimed(before, *by, pid) =>
-        {
+            if *child == pid && *by != pid && !is_claimed(before, *by, pid) => {
             held(alloc, before, *by, fd)
         }
         Act::See { pid: by, ppid, .. } if *by == pid && !is_live(before, pid) => {

@@ -6,20 +6,21 @@ ghost use Rattle.acts.specs.LookBack.{opens};
 use crate::look_back::History;
 use crate::parts::newest_first;
 use crate::{PrepareFault, Tables};
-use acts::{Act, Plain, Refused, Taken};
-use audit_lex::EventKey;
-use audit_record::{Body, NameKind, PathItem, Record, Syscall};
-use call_acts::{acts, acts_are_few, event_acts_are_admitted};
-use flow_base::{Bytes, Device, EntityId, FileId, Flow, Full, How, Key, Limit, Limits, List, NoMemory, Stamp};
-use record_join::EventView;
-use std::alloc::Global;
-use std::marker::Model;
-use std::test::Fail;
-
 use How::{Alter, Exec, Fork, Make, Read, Write};
 use Known::{AtAddress, Inode, Lost, Made, Process};
 use NameKind::{Create, Delete, Normal};
 use Said::{Address, Pair, Path};
+use acts::{Act, Plain, Refused, Taken};
+use audit_lex::EventKey;
+use audit_record::{Body, NameKind, PathItem, Record, Syscall};
+use call_acts::{acts, acts_are_few, event_acts_are_admitted};
+use flow_base::{
+    Bytes, Device, EntityId, FileId, Flow, Full, How, Key, Limit, Limits, List, NoMemory, Stamp,
+};
+use record_join::EventView;
+use std::alloc::Global;
+use std::marker::Model;
+use std::test::Fail;
 
 // What a record beside that of the call says.
 #[derive(Clone, Copy)]
@@ -43,7 +44,11 @@ enum Known {
 }
 
 // Events, and then the objects that they make, and the flows, each with the place of its event.
-type Case = (&'static [Step], &'static [Known], &'static [(u32, u32, u32, How)]);
+type Case = (
+    &'static [Step],
+    &'static [Known],
+    &'static [(u32, u32, u32, How)],
+);
 
 static CASES: [Case; 9] = [
     // A child is seen before the record of its fork, which claims it; a second fork of its pid begins another life.
@@ -53,7 +58,12 @@ static CASES: [Case; 9] = [
             (100, 1, 57, 101, [0, 0, 0], &[]),
             (100, 1, 57, 101, [0, 0, 0], &[]),
         ],
-        &[Process(101, 0), Lost(101, 0, 1), Process(100, 0), Process(101, 1)],
+        &[
+            Process(101, 0),
+            Lost(101, 0, 1),
+            Process(100, 0),
+            Process(101, 1),
+        ],
         &[(0, 0, 1, Write), (1, 2, 0, Fork), (2, 2, 3, Fork)],
     ),
     // A pid that ended is used again, and its descriptors are others.
@@ -64,8 +74,19 @@ static CASES: [Case; 9] = [
             (101, 100, 231, 0, [0, 0, 0], &[]),
             (101, 100, 0, 4, [0, 0, 0], &[]),
         ],
-        &[Process(100, 0), Process(101, 0), Lost(101, 0, 0), Process(101, 1), Lost(101, 1, 0)],
-        &[(0, 0, 1, Fork), (1, 2, 1, Read), (3, 0, 3, Fork), (3, 4, 3, Read)],
+        &[
+            Process(100, 0),
+            Process(101, 0),
+            Lost(101, 0, 0),
+            Process(101, 1),
+            Lost(101, 1, 0),
+        ],
+        &[
+            (0, 0, 1, Fork),
+            (1, 2, 1, Read),
+            (3, 0, 3, Fork),
+            (3, 4, 3, Read),
+        ],
     ),
     // An exec closes the marked descriptor 3 and leaves the unmarked 4.
     (
@@ -220,10 +241,7 @@ fn records(alloc: Global, step: &Step) -> Result<List<Record>, NoMemory> {
 fn view(records: &[Record], number: u32) -> EventView<'_> {
     let ms = 1000 + u64::from(number);
     EventView {
-        key: EventKey {
-            ms,
-            serial: number,
-        },
+        key: EventKey { ms, serial: number },
         ms,
         late: false,
         records,
@@ -285,7 +303,12 @@ impl Course {
         Ok((flows, plan.unmapped()))
     }
 
-    fn step(&mut self, alloc: Global, step: &Step, number: u32) -> Result<List<Flow>, PrepareFault> {
+    fn step(
+        &mut self,
+        alloc: Global,
+        step: &Step,
+        number: u32,
+    ) -> Result<List<Flow>, PrepareFault> {
         let records = records(alloc, step)?;
         self.take(alloc, &view(records.as_slice(), number))
     }
@@ -318,16 +341,17 @@ fn events_make_these_objects_and_flows(rt: HostRuntime) -> Result<(), Fail> {
         let mut course = Course::new(alloc, Limits::standard());
         let mut flows = List::new(alloc);
         for (number, step) in steps.iter().enumerate() {
-            let made = course
-                .step(alloc, step, number as u32)
-                .expect(&rt, "taken");
+            let made = course.step(alloc, step, number as u32).expect(&rt, "taken");
             for flow in made.as_slice() {
                 flows.push(*flow)?;
             }
         }
         assert_eq!(rt; flows.as_slice().len(), arrows.len());
         for (place, flow) in flows.as_slice().iter().enumerate() {
-            assert_eq!(rt; Some(*flow), arrows.get(place).map(|arrow| flow_of(*arrow, place)));
+            assert_eq!(rt;
+                Some(*flow),
+                arrows.get(place).map(|arrow| flow_of(*arrow, place))
+            );
         }
         assert_eq!(rt; course.tables.entities().count() as usize, keys.len());
         for (id, known) in keys.iter().enumerate() {
@@ -479,7 +503,14 @@ fn any_step(state: &mut u64) -> Step {
     let peer = (next(state) % 2) as usize;
     match next(state) % 14 {
         0 => (pid, ppid, 257, answer, [0, 0, mark * 524_288], RUN[file]),
-        1 => (pid, ppid, 257, answer, [0, 0, mark * 524_288], CREATED[file]),
+        1 => (
+            pid,
+            ppid,
+            257,
+            answer,
+            [0, 0, mark * 524_288],
+            CREATED[file],
+        ),
         2 => (pid, ppid, 32, answer, [fd, 0, 0], &[]),
         3 => (pid, ppid, 292, answer, [fd, 0, mark * 524_288], &[]),
         4 => (pid, ppid, 3, 0, [fd, 0, 0], &[]),
@@ -568,7 +599,10 @@ fn long_runs_with_descriptors_make_the_flows_of_a_look_back(rt: HostRuntime) -> 
                 flows.push(*flow)?;
             }
             assert!(rt; history.flows() == flows.as_slice());
-            assert_eq!(rt; history.objects().len(), course.tables.entities().count() as usize);
+            assert_eq!(rt;
+                history.objects().len(),
+                course.tables.entities().count() as usize
+            );
             for (id, key) in history.objects().iter().enumerate() {
                 assert!(rt; course.has_object(id as u32, key));
             }

@@ -29,8 +29,8 @@ pub returns-in_err-see-2-clause-full : goal.returns-in_err-see-2-clause-full
 returns-in_err-see-2-clause-full c =
     let p = err_from_is_err_and c.from_residual-in_err-see-2.result c.from_residual-in_err-see-2.ensures.1 in
     rw (p.1, p.2) (λ full is before stands.
-      let ground = c.args.ground.now in
-      let seen = c.see_acting-acting.ensures in
-      let start = c.in_ok-draft.ensures in
-      subst (λ pid. IsPast ground.most full (objects (See pid c.args.ppid c.args.exe.now ∷ acts_of before))) seen.pid
-      (c.in_err-see-2.ensures.full full (ap Err (ap (error_or (fault.Full full)) is)) before stands.lives_are (drafted_nothing ground c.in_ok-draft.draft before stands start.births start.given start.added)))
+    let ground = c.args.ground.now in
+    let seen = c.see_acting-acting.ensures in
+    let start = c.in_ok-draft.ensures in
+    subst (λ pid. IsPast ground.most full (objects (See pid c.args.ppid c.args.exe.now ∷ acts_of before))) seen.pid
+    (c.in_err-see-2.ensures.full full (ap Err (ap (error_or (fault.Full full)) is)) before stands.lives_are (drafted_nothing ground c.in_ok-draft.draft before stands start.births start.given start.added)))

@@ -85,15 +85,15 @@ pub returns-in_err-calm_acts-clause-full : goal.returns-in_err-calm_acts-clause-
 returns-in_err-calm_acts-clause-full c =
     let p = err_from_is_err_and c.from_residual.result c.from_residual.ensures.1 in
     rw (p.1, p.2) (λ full is before first begun.
-      let ground = c.args.ground.now in
-      let now = turned ground.ms ground.serial c.args.front.now ++ first ∷ [] in
-      still_past _ full (c.args.last.now ∷ []) (acts_of now ++ acts_of before) (c.in_err-calm_acts.ensures.full full (ap Err is) before (first ∷ []) begun.way))
+    let ground = c.args.ground.now in
+    let now = turned ground.ms ground.serial c.args.front.now ++ first ∷ [] in
+    still_past _ full (c.args.last.now ∷ []) (acts_of now ++ acts_of before) (c.in_err-calm_acts.ensures.full full (ap Err is) before (first ∷ []) begun.way))
 
 pub returns-in_err-act-clause-full : goal.returns-in_err-act-clause-full
 returns-in_err-act-clause-full c =
     let p = err_from_is_err_and c.from_residual-in_err-act.result c.from_residual-in_err-act.ensures.1 in
     rw (p.1, p.2) (λ full is before first begun.
-      let ground = c.args.ground.now in
-      let now = turned ground.ms ground.serial c.args.front.now ++ first ∷ [] in
-      let way = c.in_ok-calm_acts.ensures.next before (first ∷ []) begun.way in
-      c.in_err-act.ensures.full full (ap Err is) before now way.acting_is way.drafted)
+    let ground = c.args.ground.now in
+    let now = turned ground.ms ground.serial c.args.front.now ++ first ∷ [] in
+    let way = c.in_ok-calm_acts.ensures.next before (first ∷ []) begun.way in
+    c.in_err-act.ensures.full full (ap Err is) before now way.acting_is way.drafted)

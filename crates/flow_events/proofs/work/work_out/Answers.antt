@@ -72,13 +72,13 @@ pub returns-in_err-begun-clause-full : goal.returns-in_err-begun-clause-full
 returns-in_err-begun-clause-full c =
     let p = err_from_is_err_and c.from_residual.result c.from_residual.ensures.1 in
     rw (p.1, p.2) (λ full is before enough.
-      let ground = c.args.ground.now in
-      let rest = turned ground.ms ground.serial c.args.rest.now in
-      let see = see_at ground.ms ground.serial c.args.pid c.args.ppid c.args.exe.now in
-      record {
-        past = subst (λ acts. IsPast ground.most full (objects acts)) (sym (split ground.ms ground.serial c.args.rest.now see before))
-            (still_past _ full (acts_of rest) (see.act ∷ acts_of before) (c.in_err-begun.ensures.full full (ap Err is) before enough.grounded));
-      })
+    let ground = c.args.ground.now in
+    let rest = turned ground.ms ground.serial c.args.rest.now in
+    let see = see_at ground.ms ground.serial c.args.pid c.args.ppid c.args.exe.now in
+    record {
+      past = subst (λ acts. IsPast ground.most full (objects acts)) (sym (split ground.ms ground.serial c.args.rest.now see before))
+          (still_past _ full (acts_of rest) (see.act ∷ acts_of before) (c.in_err-begun.ensures.full full (ap Err is) before enough.grounded));
+    })
 
 pub returns-in-len1-up-clause-full : goal.returns-in-len1-up-clause-full
 returns-in-len1-up-clause-full c = IfErr-weaker c.go_on.result _ _

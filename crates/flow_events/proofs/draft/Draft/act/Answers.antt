@@ -84,12 +84,12 @@ pub returns-in_err-add_link-clause-full : goal.returns-in_err-add_link-clause-fu
 returns-in_err-add_link-clause-full c =
     let p = err_from_is_err_and c.from_residual-in_err-add_link.result c.from_residual-in_err-add_link.ensures.1 in
     rw (p.1, p.2) (λ full is before now acting so_far.
-      let drafted = c.requires.few.2.0 in
-      let bounds = c.requires.few.2.1 in
-      let born : IsBorn c.args.ground.now.births.now c.args.self.now.births (acts_of before) (acts_of now) = record {
-        before_are = so_far.before_are;
-        now_are = so_far.now_are;
-        births_few = few_births c.args.ground.now.births.now c.requires.few.0 (2 ^ 63) drafted.before_are (let b = bounds.0 in omega (arith, b));
-        fresh_few = few_births c.args.self.now.births c.requires.few.1 (2 ^ 63) drafted.now_are (let b = bounds.1 in omega (arith, b));
-      } in
-      link_past _ full _ (objects (acts_of now ++ acts_of before)) _ _ so_far.objects_are (c.in_ok-link.ensures (acts_of before) (acts_of now) born acting) (c.in_err-add_link.ensures.full full is))
+    let drafted = c.requires.few.2.0 in
+    let bounds = c.requires.few.2.1 in
+    let born : IsBorn c.args.ground.now.births.now c.args.self.now.births (acts_of before) (acts_of now) = record {
+      before_are = so_far.before_are;
+      now_are = so_far.now_are;
+      births_few = few_births c.args.ground.now.births.now c.requires.few.0 (2 ^ 63) drafted.before_are (let b = bounds.0 in omega (arith, b));
+      fresh_few = few_births c.args.self.now.births c.requires.few.1 (2 ^ 63) drafted.now_are (let b = bounds.1 in omega (arith, b));
+    } in
+    link_past _ full _ (objects (acts_of now ++ acts_of before)) _ _ so_far.objects_are (c.in_ok-link.ensures (acts_of before) (acts_of now) born acting) (c.in_err-add_link.ensures.full full is))

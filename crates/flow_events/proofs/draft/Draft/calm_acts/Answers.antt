@@ -32,10 +32,10 @@ pub returns-in_err-act-clause-full : goal.returns-in_err-act-clause-full
 returns-in_err-act-clause-full c =
     let p = err_from_is_err_and c.from_residual.result c.from_residual.ensures.1 in
     rw (p.1, p.2) (λ full is before now start.
-      let ground = c.args.ground.now in
-      let acts = c.args.acts.now in
-      let i = c.loop-act.act-index in
-      let way = c.loop-act.invariant.next before now start in
-      let here = c.in_err-act.ensures.full full is before (turned ground.ms ground.serial (take i acts) ++ now) way.acting_is way.drafted in
-      all_past _ full ground.ms ground.serial (i + 1) acts now before
-      (subst (λ all. IsPast ground.most full (objects (acts_of (all ++ now) ++ acts_of before))) (sym (turned_more ground.ms ground.serial i acts c.act-item.result c.loop-act-test.true c.act-item.is)) here))
+    let ground = c.args.ground.now in
+    let acts = c.args.acts.now in
+    let i = c.loop-act.act-index in
+    let way = c.loop-act.invariant.next before now start in
+    let here = c.in_err-act.ensures.full full is before (turned ground.ms ground.serial (take i acts) ++ now) way.acting_is way.drafted in
+    all_past _ full ground.ms ground.serial (i + 1) acts now before
+    (subst (λ all. IsPast ground.most full (objects (acts_of (all ++ now) ++ acts_of before))) (sym (turned_more ground.ms ground.serial i acts c.act-item.result c.loop-act-test.true c.act-item.is)) here))

@@ -40,4 +40,4 @@ pub returns-in_err-add_link-clause-full : goal.returns-in_err-add_link-clause-fu
 returns-in_err-add_link-clause-full c =
     let p = err_from_is_err_and c.from_residual-in_err-add_link.result c.from_residual-in_err-add_link.ensures.1 in
     rw (p.1, p.2) (λ full is before lives so_far.
-      link_past _ full _ (objects (acts_of before)) _ _ so_far.objects_are (c.see_link-link.ensures (acts_of before) c.args.exe.now lives) (c.in_err-add_link.ensures.full full is))
+    link_past _ full _ (objects (acts_of before)) _ _ so_far.objects_are (c.see_link-link.ensures (acts_of before) c.args.exe.now lives) (c.in_err-add_link.ensures.full full is))

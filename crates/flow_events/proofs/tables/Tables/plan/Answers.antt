@@ -61,22 +61,22 @@ pub returns-in_err-worked-clause-full : goal.returns-in_err-worked-clause-full
 returns-in_err-worked-clause-full c =
     let p = err_from_is_err_and c.from_residual.result c.from_residual.ensures.1 in
     rw (p.1, p.2) (λ full is before may.
-      let stands = may.stands in
-      let slice = c.as_slice.ensures in
-      let now = turned c.args.ms c.args.serial c.as_slice.result.now in
-      subst (λ acts. IsPast c.args.self.now.most_objects full (objects (acts_of (turned c.args.ms c.args.serial acts ++ before)))) slice
-      (subst (λ all. IsPast c.args.self.now.most_objects full (objects all)) (sym (joined now before))
-      ((c.in_err-worked.ensures.full full (ap (error_or (fault.Full full)) is) before (record {
-        grounded = record {
-          lives_are = stands.lives_are;
-          held_are = stands.held_are;
-          addresses_are = stands.addresses_are;
-          births_are = stands.births_are;
-          objects_are = stands.objects_are;
-          flows_are = stands.flows_are;
-          admitted = may.admitted;
-          few = (let few = may.few in omega (arith, few));
-        };
-        acts_are = stands.acts_are;
-        few = (let few = may.few in let same = ap length slice in omega (arith, few, same));
-      })).past)))
+    let stands = may.stands in
+    let slice = c.as_slice.ensures in
+    let now = turned c.args.ms c.args.serial c.as_slice.result.now in
+    subst (λ acts. IsPast c.args.self.now.most_objects full (objects (acts_of (turned c.args.ms c.args.serial acts ++ before)))) slice
+    (subst (λ all. IsPast c.args.self.now.most_objects full (objects all)) (sym (joined now before))
+    ((c.in_err-worked.ensures.full full (ap (error_or (fault.Full full)) is) before (record {
+      grounded = record {
+        lives_are = stands.lives_are;
+        held_are = stands.held_are;
+        addresses_are = stands.addresses_are;
+        births_are = stands.births_are;
+        objects_are = stands.objects_are;
+        flows_are = stands.flows_are;
+        admitted = may.admitted;
+        few = (let few = may.few in omega (arith, few));
+      };
+      acts_are = stands.acts_are;
+      few = (let few = may.few in let same = ap length slice in omega (arith, few, same));
+    })).past)))
