@@ -30,6 +30,4 @@ pub use plan::{NewAddress, Plan};
 pub use tables::Tables;
 
 #[cfg(test)]
-mod look_back;
-#[cfg(test)]
 mod tests;

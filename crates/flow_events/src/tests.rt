@@ -3,7 +3,6 @@
 ghost use Rattle.std.specs.Prelude.{◌≡◌, ⊤, not};
 ghost use Rattle.acts.specs.LookBack.{opens};
 
-use crate::look_back::History;
 use crate::parts::newest_first;
 use crate::{PrepareFault, Tables};
 use How::{Alter, Exec, Fork, Make, Read, Write};
@@ -313,6 +312,22 @@ impl Course {
         self.take(alloc, &view(records.as_slice(), number))
     }
 
+    fn objects(&self) -> u32 {
+        self.tables.entities().count()
+    }
+
+    fn acts(&self) -> u64 {
+        self.tables.acts()
+    }
+
+    fn flows(&self) -> u64 {
+        self.tables.flows()
+    }
+
+    fn found(&self, name: &[u8]) -> Result<List<EntityId>, NoMemory> {
+        self.tables.entities().find(name)
+    }
+
     fn has_object(&self, id: u32, key: &Key) -> bool {
         let entities = self.tables.entities();
         id < entities.count() && entities.key(EntityId(id)) == key
@@ -334,29 +349,56 @@ fn flow_of(arrow: (u32, u32, u32, How), place: usize) -> Flow {
     }
 }
 
+fn are_arrows(flows: &[Flow], arrows: &[(u32, u32, u32, How)]) -> bool {
+    if flows.len() != arrows.len() {
+        return false;
+    }
+    for (place, arrow) in arrows.iter().enumerate() {
+        if flows.get(place) != Some(&flow_of(*arrow, place)) {
+            return false;
+        }
+    }
+    true
+}
+
+// All flows of these steps, in their order.
+fn take_steps(
+    alloc: Global,
+    course: &mut Course,
+    steps: &[Step],
+) -> Result<List<Flow>, PrepareFault> {
+    let mut flows = List::new(alloc);
+    for (number, step) in steps.iter().enumerate() {
+        let made = course.step(alloc, step, number as u32)?;
+        put_flows(&mut flows, made.as_slice())?;
+    }
+    Ok(flows)
+}
+
+fn put_flows(flows: &mut List<Flow>, made: &[Flow]) -> Result<(), NoMemory> {
+    for flow in made {
+        flows.push(*flow)?;
+    }
+    Ok(())
+}
+
+fn has_objects(alloc: Global, course: &Course, keys: &[Known]) -> Result<bool, NoMemory> {
+    for (id, known) in keys.iter().enumerate() {
+        if !course.has_object(id as u32, &key_of(alloc, *known)?) {
+            return Ok(false);
+        }
+    }
+    Ok(course.objects() as usize == keys.len())
+}
+
 #[test]
 fn events_make_these_objects_and_flows(rt: HostRuntime) -> Result<(), Fail> {
     let alloc = rt.alloc();
     for (steps, keys, arrows) in CASES {
         let mut course = Course::new(alloc, Limits::standard());
-        let mut flows = List::new(alloc);
-        for (number, step) in steps.iter().enumerate() {
-            let made = course.step(alloc, step, number as u32).expect(&rt, "taken");
-            for flow in made.as_slice() {
-                flows.push(*flow)?;
-            }
-        }
-        assert_eq!(rt; flows.as_slice().len(), arrows.len());
-        for (place, flow) in flows.as_slice().iter().enumerate() {
-            assert_eq!(rt;
-                Some(*flow),
-                arrows.get(place).map(|arrow| flow_of(*arrow, place))
-            );
-        }
-        assert_eq!(rt; course.tables.entities().count() as usize, keys.len());
-        for (id, known) in keys.iter().enumerate() {
-            assert!(rt; course.has_object(id as u32, &key_of(alloc, *known)?));
-        }
+        let flows = take_steps(alloc, &mut course, steps).expect(&rt, "taken");
+        assert!(rt; are_arrows(flows.as_slice(), arrows));
+        assert!(rt; has_objects(alloc, &course, keys)?);
     }
     Ok(())
 }
@@ -376,9 +418,9 @@ fn an_event_that_is_only_prepared_changes_nothing(rt: HostRuntime) -> Result<(),
         let (flows, told) = course.look(alloc, &event).expect(&rt, "prepared");
         assert!(rt; flows.as_slice() == wanted);
         assert_eq!(rt; told, unmapped);
-        assert_eq!(rt; course.tables.acts(), 0);
-        assert_eq!(rt; course.tables.flows(), 0);
-        assert_eq!(rt; course.tables.entities().count(), 0);
+        assert_eq!(rt; course.acts(), 0);
+        assert_eq!(rt; course.flows(), 0);
+        assert_eq!(rt; course.objects(), 0);
     }
     Ok(())
 }
@@ -391,12 +433,12 @@ fn objects_have_the_names_that_acts_gave_them(rt: HostRuntime) -> Result<(), Fai
     let open: Step = (100, 1, 257, 3, [0, 0, 0], &[Path(Normal, 7, "/a")]);
     let read: Step = (100, 1, 0, 5, [3, 0, 0], &[]);
     course.step(alloc, &open, 0).expect(&rt, "taken");
-    let found = course.tables.entities().find(b"/a".as_slice())?;
+    let found = course.found(b"/a".as_slice())?;
     assert!(rt; found.as_slice().is_empty());
     course.step(alloc, &read, 1).expect(&rt, "taken");
-    let found = course.tables.entities().find(b"/a".as_slice())?;
+    let found = course.found(b"/a".as_slice())?;
     assert!(rt; found.as_slice() == [EntityId(0)].as_slice());
-    let found = course.tables.entities().find(b"/p".as_slice())?;
+    let found = course.found(b"/p".as_slice())?;
     assert!(rt; found.as_slice() == [EntityId(1)].as_slice());
     Ok(())
 }
@@ -434,13 +476,13 @@ fn a_limit_refuses_the_event_that_would_pass_it(rt: HostRuntime) -> Result<(), F
         course.step(alloc, &fork, 0).expect(&rt, "taken");
         assert!(rt; is_full(&course.step(alloc, &step, 1), limit, number));
         // Nothing of the event was taken, and one that makes no flow still goes.
-        assert_eq!(rt; course.tables.acts(), 2);
-        assert_eq!(rt; course.tables.flows(), 1);
-        assert_eq!(rt; course.tables.entities().count(), 2);
+        assert_eq!(rt; course.acts(), 2);
+        assert_eq!(rt; course.flows(), 1);
+        assert_eq!(rt; course.objects(), 2);
         assert!(rt; course.has_object(0, &key_of(alloc, Process(100, 0))?));
         assert!(rt; course.has_object(1, &key_of(alloc, Process(101, 0))?));
         course.step(alloc, &exit, 2).expect(&rt, "taken");
-        assert_eq!(rt; course.tables.acts(), 4);
+        assert_eq!(rt; course.acts(), 4);
     }
     Ok(())
 }
@@ -458,8 +500,6 @@ static CREATED: [&[Said]; 3] = [
 ];
 
 static PEERS: [&[Said]; 2] = [&[Address("peer")], &[Address("other")]];
-
-static PAIRS: [&[Said]; 3] = [&[Pair(0, 1)], &[Pair(2, 3)], &[Pair(1, 1)]];
 
 // The next number of a linear congruence.
 fn next(state: &mut u64) -> u32 {
@@ -492,38 +532,6 @@ fn some_step(state: &mut u64) -> Step {
     }
 }
 
-// An event of the same processes, of any call.
-fn any_step(state: &mut u64) -> Step {
-    let pid = 100 + next(state) % 4;
-    let ppid = 99 + next(state) % 5;
-    let fd = u64::from(next(state) % 4);
-    let answer = i64::from(next(state) % 4);
-    let mark = u64::from(next(state) % 2);
-    let file = (next(state) % 3) as usize;
-    let peer = (next(state) % 2) as usize;
-    match next(state) % 14 {
-        0 => (pid, ppid, 257, answer, [0, 0, mark * 524_288], RUN[file]),
-        1 => (
-            pid,
-            ppid,
-            257,
-            answer,
-            [0, 0, mark * 524_288],
-            CREATED[file],
-        ),
-        2 => (pid, ppid, 32, answer, [fd, 0, 0], &[]),
-        3 => (pid, ppid, 292, answer, [fd, 0, mark * 524_288], &[]),
-        4 => (pid, ppid, 3, 0, [fd, 0, 0], &[]),
-        5 => (pid, ppid, 72, 0, [fd, 2, mark], &[]),
-        6 => (pid, ppid, 293, 0, [0, mark * 524_288, 0], PAIRS[file]),
-        7 => (pid, ppid, 41, answer, [0, mark * 524_288, 0], &[]),
-        8 => (pid, ppid, 49, 0, [fd, 0, 0], PEERS[peer]),
-        9 => (pid, ppid, 43, answer, [fd, 0, 0], PEERS[peer]),
-        10 => (pid, ppid, 43, answer, [fd, 0, 0], &[]),
-        _ => some_step(state),
-    }
-}
-
 // Whether an act may put something at a descriptor.
 fn may_open(act: &Act) -> bool
     ensures { result ≡ opens act.now }
@@ -550,62 +558,43 @@ fn take_plainly(plain: &mut Plain, acts: List<Act>, number: u32) -> Result<(), R
     Ok(())
 }
 
-#[test]
-fn long_runs_make_the_flows_of_the_plain_program(rt: HostRuntime) -> Result<(), Fail> {
-    let alloc = rt.alloc();
-    let limits = Limits::standard();
-    for seed in [1, 2, 3] {
-        let mut state = seed;
-        let mut course = Course::new(alloc, limits);
-        let mut plain = Plain::new(alloc, 10_000, 10_000);
-        let mut flows = List::new(alloc);
-        for number in 0..250 {
-            let records = records(alloc, &some_step(&mut state))?;
-            let event = view(records.as_slice(), number);
-            let done = newest_first(alloc, acts(alloc, &event, &limits)?)?;
-            take_plainly(&mut plain, done, number).expect(&rt, "taken plainly");
-            let made = course.take(alloc, &event).expect(&rt, "taken");
-            for flow in made.as_slice() {
-                flows.push(*flow)?;
-            }
-            assert!(rt; plain.flows() == flows.as_slice());
-            assert_eq!(rt; plain.known(), course.tables.entities().count());
-            for (id, key) in plain.objects().iter().enumerate() {
-                assert!(rt; course.has_object(id as u32, key));
-            }
+// The plain program takes an event.
+fn take_plainly_by(
+    alloc: Global,
+    plain: &mut Plain,
+    step: &Step,
+    number: u32,
+) -> Result<bool, NoMemory> {
+    let records = records(alloc, step)?;
+    let event = view(records.as_slice(), number);
+    let done = newest_first(alloc, acts(alloc, &event, &Limits::standard())?)?;
+    Ok(take_plainly(plain, done, number).is_ok())
+}
+
+// Whether both have these flows, and the same objects.
+fn agree(course: &Course, plain: &Plain, flows: &[Flow]) -> bool {
+    for (id, key) in plain.objects().iter().enumerate() {
+        if !course.has_object(id as u32, key) {
+            return false;
         }
     }
-    Ok(())
+    plain.flows() == flows && plain.known() == course.objects()
 }
 
 #[test]
-fn long_runs_with_descriptors_make_the_flows_of_a_look_back(rt: HostRuntime) -> Result<(), Fail> {
+fn long_runs_make_the_flows_of_the_plain_program(rt: HostRuntime) -> Result<(), Fail> {
     let alloc = rt.alloc();
-    let limits = Limits::standard();
-    for seed in [4, 5, 6] {
+    for seed in [1, 2, 3] {
         let mut state = seed;
-        let mut course = Course::new(alloc, limits);
-        let mut history = History::new(alloc);
+        let mut course = Course::new(alloc, Limits::standard());
+        let mut plain = Plain::new(alloc, 10_000, 10_000);
         let mut flows = List::new(alloc);
         for number in 0..250 {
-            let records = records(alloc, &any_step(&mut state))?;
-            let event = view(records.as_slice(), number);
-            let mut done = newest_first(alloc, acts(alloc, &event, &limits)?)?;
-            while let Some(act) = done.pop() {
-                history.take(alloc, act, 1000 + u64::from(number), number)?;
-            }
-            let made = course.take(alloc, &event).expect(&rt, "taken");
-            for flow in made.as_slice() {
-                flows.push(*flow)?;
-            }
-            assert!(rt; history.flows() == flows.as_slice());
-            assert_eq!(rt;
-                history.objects().len(),
-                course.tables.entities().count() as usize
-            );
-            for (id, key) in history.objects().iter().enumerate() {
-                assert!(rt; course.has_object(id as u32, key));
-            }
+            let step = some_step(&mut state);
+            assert!(rt; take_plainly_by(alloc, &mut plain, &step, number)?);
+            let made = course.step(alloc, &step, number).expect(&rt, "taken");
+            put_flows(&mut flows, made.as_slice())?;
+            assert!(rt; agree(&course, &plain, flows.as_slice()));
         }
     }
     Ok(())
