@@ -1,5 +1,5 @@
 -- The field of a name, both ways.
-use Rattle.std.proofs.Common.{◌≡◌, ◌≢◌, ◌↔◌, ◌∙◌, sym, refl, ap, ℕ, List, length, ◌==◌, Bool, true, false, Option, None, Some, codes, if◌then◌else◌}
+use Rattle.std.proofs.Common.{◌≡◌, ◌≢◌, ◌↔◌, ◌∙◌, sym, refl, ap, ℕ, List, length, ◌==◌, Bool, true, false, Option, None, Some, if◌then◌else◌}
 use Rattle.std.specs.Str.{bytes_eq}
 use Rattle.std.proofs.lemmas.Slice.Eq.{bytes_eq-Decides}
 use Rattle.audit_lex.specs.FieldTable.{name_of}

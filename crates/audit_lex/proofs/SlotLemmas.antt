@@ -4,8 +4,10 @@ use Rattle.std.specs.Option.{option_or, option_to_list}
 use Rattle.std.proofs.lemmas.Bool.{cases_eq, cases_lt, false_from_ne_true}
 use Rattle.std.proofs.lemmas.List.{map-set, take_all, drop_all, length-drop, length-set, get_or-set_same, get_or-set_other}
 use Rattle.audit_lex.specs.Tokens.{NameValue, value_in, token_at, token_len, field_of}
-use Rattle.audit_lex.specs.Slots.{names_of, AreFilled, AreFound}
+use Rattle.audit_lex.specs.Slots.{spanned, held, names_of, AreFilled, AreFound}
 use Rattle.audit_lex.specs.declared.fields.Rule.{Rule}
+use Rattle.audit_lex.specs.declared.spans.Span.{Span}
+use Rattle.std.specs.Prelude.{is_some}
 use Rattle.audit_lex.proofs.TokenLemmas.{field_after_space, field_at_token}
 use Rattle.std.proofs.Math.ListN.{get_or-map}
 use Rattle.audit_lex.specs.declared.fields.Field.{Field}
@@ -162,3 +164,39 @@ past_token rules raw rest before after some isnt filled finding place below =
 pub found : (rules : List Rule) (raw rest : List ℕ) (slots : List (Option (List ℕ))) → length rest ≡ 0 → Finding rules raw rest slots → AreFound rules raw slots
 found rules raw [] slots none finding place below = sym (or_none (get_or slots place None)) ∙ finding place below
 found rules raw (byte ∷ rest) slots none finding place below = absurd (omega (arith, none))
+
+-- ---- full places
+
+-- so many places at the front are full
+abbrev pub Full : ℕ → List (Option (List ℕ)) → Type 0
+Full count slots = (place : ℕ) → place < count → is_some (get_or slots place None) ≡ true
+
+still_some : {A : Type 0} (a b : Option A) → is_some a ≡ true → is_some (option_or a b) ≡ true
+still_some None b is = cc
+still_some (Some a) b is = refl
+
+keeps_own : {A : Type 0} (a b : Option A) → is_some a ≡ true → a ≡ option_or a b
+keeps_own None b is = cc
+keeps_own (Some a) b is = refl
+
+some_mapped : {X Y : Type 0} (f : X → Y) (a : Option X) → is_some (option_map f a) ≡ is_some a
+some_mapped f None = refl
+some_mapped f (Some a) = refl
+
+-- a full place stays full
+pub stays_full : (rules : List Rule) (tokens : List NameValue) (before after : List (Option (List ℕ))) (count : ℕ) → count ≤ length rules
+    → AreFilled rules tokens before after → Full count before → Full count after
+stays_full rules tokens before after count within filled full place below =
+    ap is_some (filled place (omega (arith, below, within))) ∙ still_some (get_or before place None) _ (full place below)
+
+-- the places up to one and those from there on
+pub more_full : (raw : List ℕ) (spans : List (Option Span)) (from to : ℕ) → Full from (held raw spans)
+    → ((place : ℕ) → from ≤ place → place < to → is_some (get_or spans place None) ≡ true) → Full to (held raw spans)
+more_full raw spans from to full more place below = elim (cases_lt place from) [
+  | inl front ↦ full place front
+  | inr behind ↦ ap is_some (get_or-map (option_map (spanned raw)) spans place None) ∙ some_mapped (spanned raw) (get_or spans place None) ∙ more place behind below
+]
+
+-- where each place is full, the rest changes nothing
+pub found_full : (rules : List Rule) (raw rest : List ℕ) (slots : List (Option (List ℕ))) → Full (length rules) slots → Finding rules raw rest slots → AreFound rules raw slots
+found_full rules raw rest slots full finding place below = keeps_own (get_or slots place None) _ (full place below) ∙ finding place below

@@ -1,7 +1,7 @@
 //! A place for each field of a table.
 //!
 //! One pass over a raw part fills the places, so a line is read once however many fields its table has.
-ghost use Rattle.std.specs.Prelude.{◌≡◌, ◌<◌, ◌≤◌, ℕ, List, [], ◌∷◌, length, None, option_map, slice_set};
+ghost use Rattle.std.specs.Prelude.{◌≡◌, ◌<◌, ◌≤◌, ℕ, List, [], ◌∷◌, length, true, None, is_some, option_map, slice_set};
 ghost use Rattle.std.specs.List.{slice_index_or};
 ghost use Rattle.std.specs.Option.{option_or, option_to_list};
 ghost use Rattle.audit_lex.specs.Lent.{seen};
@@ -37,6 +37,21 @@ impl Slots {
         ensures { (raw : List ℕ) → option_map (spanned raw) result ≡ slice_index_or (held raw self.now.spans) place None }
     {
         self.spans[place]
+    }
+
+    /// The first empty place from here up to the end of the table, or that end.
+    pub(crate) fn first_empty(&self, from: usize, end: usize) -> usize
+        requires from { from ≤ end }
+        requires end { end ≤ 11 }
+        ensures full { (place : ℕ) → from ≤ place → place < result → is_some (slice_index_or self.now.spans place None) ≡ true }
+        ensures within { result ≤ end }
+    {
+        for place in from..end {
+            if self.spans[place].is_none() {
+                return place;
+            }
+        }
+        end
     }
 
     /// Fills the empty slots of the token's name.

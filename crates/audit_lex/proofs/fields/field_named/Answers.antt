@@ -1,4 +1,3 @@
-use Rattle.std.proofs.Common.{◌≡◌}
 use Rattle.audit_lex.proofs.FieldLemmas.{exact_field}
 use Rattle.audit_lex.proofs.fields.field_named.Goals as goal
 

@@ -1,4 +1,4 @@
-use Rattle.std.proofs.Common.{◌≡◌, ◌∙◌, sym, arith}
+use Rattle.std.proofs.Common.{◌∙◌, arith}
 use Rattle.audit_lex.proofs.TokenLemmas.{unquoted_len, no_quote}
 use Rattle.audit_lex.proofs.tokens.end_of_value.Goals as goal
 use Rattle.audit_lex.proofs.tokens.end_of_value.Goals.{else-begin-text-via-then-begin-text+else-text-begin-eq34, else-begin-text-via-else-begin-text}

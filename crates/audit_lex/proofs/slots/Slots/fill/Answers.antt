@@ -1,4 +1,3 @@
-use Rattle.std.proofs.Common.{◌≡◌, ◌∙◌, sym, ap, None}
 use Rattle.audit_lex.specs.Slots.{held, spanned}
 use Rattle.audit_lex.proofs.FieldLemmas.{not_named}
 use Rattle.audit_lex.proofs.SlotLemmas.{no_field}
