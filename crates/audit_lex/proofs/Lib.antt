@@ -2,6 +2,7 @@ pub mod PlaceLemmas
 pub mod HistoryLemmas
 pub mod HistoryLaws
 pub mod TokenLemmas
+pub mod FieldLemmas
 pub mod SlotLemmas
 pub mod NumberLemmas
 pub mod HexTexts

@@ -5,6 +5,7 @@ pub mod Lent
 pub mod Values
 pub mod Header
 pub mod FieldTable
+pub mod FieldNames
 pub mod Slots
 pub mod LineClass
 pub mod LineFields

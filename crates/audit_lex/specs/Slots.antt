@@ -4,6 +4,7 @@ use Rattle.std.specs.List.{slice_index_or, slice_range}
 use Rattle.std.specs.Option.{option_or}
 use Rattle.audit_lex.specs.FieldTable.{name_of}
 use Rattle.audit_lex.specs.Tokens.{NameValue, value_in, field_of}
+use Rattle.audit_lex.specs.declared.fields.Field.{Field}
 use Rattle.audit_lex.specs.declared.fields.Rule.{Rule}
 use Rattle.audit_lex.specs.declared.spans.Span.{Span}
 
@@ -18,6 +19,10 @@ held raw spans = map (option_map (spanned raw)) spans
 -- the names that a table asks for, in its order
 abbrev pub names_of : List Rule → List (List ℕ)
 names_of rules = map (λ rule. name_of rule.field) rules
+
+-- a token of this field
+abbrev pub token_of : List ℕ → Field → Span → NameValue
+token_of raw field value = record { name = name_of field; value = spanned raw value }
 
 -- an empty slot takes the value of the first of these tokens that has its name, and a full one keeps its own
 abbrev pub AreFilled : List Rule → List NameValue → List (Option (List ℕ)) → List (Option (List ℕ)) → Type 0

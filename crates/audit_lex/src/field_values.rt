@@ -88,14 +88,20 @@ fn first_values(raw: &[u8], rules: &[Rule]) -> Slots
     ensures { AreFound rules.now raw.now (held raw.now result.spans) }
 {
     let mut slots = Slots::new();
+    let mut full = 0;
     let mut place = 0;
     while place < raw.len() {
+        // A full slot keeps its value, so what is left of the line changes nothing.
+        if full == rules.len() {
+            return slots;
+        }
         if raw[place] == b' ' {
             place += 1;
             continue;
         }
         let (token, end) = token_from(raw, place);
         slots.fill(rules, token);
+        full = slots.first_empty(full, rules.len());
         place = end;
     }
     slots

@@ -4,13 +4,18 @@ use Rattle.std.specs.List.{slice_index_or}
 use Rattle.std.proofs.lemmas.List.{length-drop, drop-drop, get_or-drop}
 use Rattle.audit_lex.specs.Slots.{held, names_of}
 use Rattle.audit_lex.specs.Tokens.{token_len, field_of, value_in}
-use Rattle.audit_lex.proofs.SlotLemmas.{past_token}
+use Rattle.audit_lex.proofs.SlotLemmas.{past_token, more_full, stays_full}
 use Rattle.audit_lex.proofs.field_values.first_values.Goals as goal
 
 pub loop-place-init : goal.loop-place-init
 loop-place-init c =
     let raw = c.args.raw.now in
-    (omega arith, λ place below. ap (λ slot. option_or slot (field_of raw (slice_index_or (names_of c.args.rules.now) place []))) (c.new-slots.ensures raw place))
+    record {
+      within = omega arith;
+      table = omega arith;
+      full = λ place below. absurd (omega (arith, below));
+      finding = λ place below. ap (λ slot. option_or slot (field_of raw (slice_index_or (names_of c.args.rules.now) place []))) (c.new-slots.ensures raw place);
+    }
 
 pub loop-place-preserved : goal.loop-place-preserved
 loop-place-preserved c =
@@ -23,5 +28,11 @@ loop-place-preserved c =
     c.fill.ensures raw k below
     ∙ ap (λ token. option_or (get_or (held raw c.loop-place.slots.spans) k None) (value_in (option_to_list token) (get_or (names_of c.args.rules.now) k []))) c.token_from-end.ensures.token in
     let found = past_token c.args.rules.now raw rest (held raw c.loop-place.slots.spans) (held raw c.fill.new.self.spans)
-    (omega (arith, length-drop place raw)) (λ is. c.if-raw-place-eq32.false (sym here ∙ is)) filled c.loop-place.invariant.1 in
-    (c.token_from-end.ensures.within, λ k below. ap (λ text. option_or (get_or (held raw c.fill.new.self.spans) k None) (field_of text (get_or (names_of c.args.rules.now) k []))) (sym next) ∙ found k below)
+    (omega (arith, length-drop place raw)) (λ is. c.if-raw-place-eq32.false (sym here ∙ is)) filled c.loop-place.invariant.finding in
+    record {
+      within = c.token_from-end.ensures.within;
+      table = c.first_empty-full.ensures.within;
+      full = more_full raw c.fill.new.self.spans c.loop-place.full c.first_empty-full.result
+          (stays_full c.args.rules.now _ (held raw c.loop-place.slots.spans) (held raw c.fill.new.self.spans) c.loop-place.full c.loop-place.invariant.table filled c.loop-place.invariant.full) c.first_empty-full.ensures.full;
+      finding = λ k below. ap (λ text. option_or (get_or (held raw c.fill.new.self.spans) k None) (field_of text (get_or (names_of c.args.rules.now) k []))) (sym next) ∙ found k below;
+    }

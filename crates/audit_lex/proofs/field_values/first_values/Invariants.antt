@@ -1,11 +1,16 @@
 use Rattle.std.proofs.Common.{◌≤◌, ◌-◌, length, drop}
 use Rattle.audit_lex.specs.Slots.{held}
-use Rattle.audit_lex.proofs.SlotLemmas.{Finding}
+use Rattle.audit_lex.proofs.SlotLemmas.{Finding, Full}
 use Rattle.audit_lex.proofs.field_values.first_values.Given as goal
 
 -- what the slots have, or else the bytes from the place on have, is what the raw part has
 abbrev pub invariant-loop-place : goal.invariant-loop-place
-invariant-loop-place l = (l.place ≤ length l.raw) × Finding l.rules l.raw (drop l.place l.raw) (held l.raw l.slots.spans)
+invariant-loop-place l = record {
+  within : l.place ≤ length l.raw;
+  table : l.full ≤ length l.rules;
+  full : Full l.full (held l.raw l.slots.spans);
+  finding : Finding l.rules l.raw (drop l.place l.raw) (held l.raw l.slots.spans);
+}
 
 abbrev pub decreases-loop-place : goal.decreases-loop-place
 decreases-loop-place l = length l.raw - l.place
