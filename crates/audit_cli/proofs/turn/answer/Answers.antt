@@ -4,6 +4,8 @@ use Rattle.report_json.specs.declared.ask.Ask.TheVariants as ask
 use Rattle.std.proofs.lemmas.Result.{err_from_is_err_and}
 use Rattle.std.specs.Prelude.{IfErr}
 use Rattle.report_json.specs.declared.reply.Reply.TheVariants as reply
+use Rattle.ingest.specs.Parts.{Engine}
+use Rattle.ingest.specs.StandsFor.{StandsFor}
 use Rattle.ingest.specs.Stops.{Stops}
 use Rattle.audit_cli.specs.Dialogue.{Moment, after, Answers}
 use Rattle.audit_cli.specs.Course.{At, IsDue}
@@ -52,10 +54,10 @@ pub returns-in_ok-ask-in-Some-Question-clause-moves : goal.returns-in_ok-ask-in-
 returns-in_ok-ask-in-Some-Question-clause-moves g c = λ limits m h.
     let inner = rw c.in-Some-Question.is at c.in-Some-Question.field-0-is in
     let e : c.args.question ≡ Some (ask.Question c.in-Some-Question.question) = c.in-Some-Question.is ∙ ap Some inner in
-    subst (λ (q : Option Ask). At limits c.ask.new.self (g.L.Source.left c.args.log.now) (after q m)) (sym e) (record { stands = c.ask.ensures.same limits m.history h.stands; told = h.told })
+    subst (λ (q : Option Ask). At limits c.ask.new.self (g.L.Source.left c.args.log.now) (after q m)) (sym e) (record { stands = subst (λ (e : Engine). StandsFor limits e m.history) (sym c.ask.ensures.same) h.stands; told = h.told })
 
 pub returns-in_ok-ask-in-Some-Stat-clause-moves : goal.returns-in_ok-ask-in-Some-Stat-clause-moves
 returns-in_ok-ask-in-Some-Stat-clause-moves g c = λ limits m h.
     let inner = rw c.in-Some-Stat.is at c.in-Some-Stat.field-0-is in
     let e : c.args.question ≡ Some ask.Stat = c.in-Some-Stat.is ∙ ap Some inner in
-    subst (λ (q : Option Ask). At limits c.ask-in-Some-Stat.new.self (g.L.Source.left c.args.log.now) (after q m)) (sym e) (record { stands = c.ask-in-Some-Stat.ensures.same limits m.history h.stands; told = h.told })
+    subst (λ (q : Option Ask). At limits c.ask-in-Some-Stat.new.self (g.L.Source.left c.args.log.now) (after q m)) (sym e) (record { stands = subst (λ (e : Engine). StandsFor limits e m.history) (sym c.ask-in-Some-Stat.ensures.same) h.stands; told = h.told })

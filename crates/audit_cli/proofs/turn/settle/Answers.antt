@@ -3,4 +3,4 @@ use Rattle.report_json.specs.declared.reply.Reply.TheVariants as reply
 use Rattle.audit_cli.proofs.turn.settle.Goals as goal
 
 pub returns-in-Ok-clause-reply : goal.returns-in-Ok-clause-reply
-returns-in-Ok-clause-reply c = λ limits h stands. ap reply.Settle (c.events.ensures limits _ (c.in-Ok.ensures.ok limits h stands))
+returns-in-Ok-clause-reply c = λ limits h stands. ap reply.Settle (c.events.ensures.all limits _ (c.in-Ok.ensures.ok limits h stands))
