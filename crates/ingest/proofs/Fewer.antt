@@ -18,7 +18,7 @@ no_longer : {A : Type 0} (p : A → Bool) (xs : List A) → length (filter (λ x
 no_longer p [] = omega arith
 no_longer p (x ∷ xs) = let ih = no_longer p xs in grind (arith, ih)
 
-shorter : {A : Type 0} (p : A → Bool) (xs : List A) → list_any p xs ≡ true → length (filter (λ x. not (p x)) xs) < length xs
+pub shorter : {A : Type 0} (p : A → Bool) (xs : List A) → list_any p xs ≡ true → length (filter (λ x. not (p x)) xs) < length xs
 shorter p [] e = absurd (true≢false (sym e))
 shorter p (x ∷ xs) e = let ih = shorter p xs in let le = no_longer p xs in grind (arith, ih, le, e)
 
@@ -41,7 +41,7 @@ lesser_waits : (r : Record) (rs : List Record) (k m : EventKey) (below : Bool) �
 lesser_waits r rs k m true w e = there m r rs (subst (λ (z : EventKey). waits z rs ≡ true) e w)
 lesser_waits r rs k m false w e = here m r rs e
 
-least_waits : (rs : List Record) (m : EventKey) → least_key rs ≡ Some m → waits m rs ≡ true
+pub least_waits : (rs : List Record) (m : EventKey) → least_key rs ≡ Some m → waits m rs ≡ true
 least_waits [] m e = absurd (cc e)
 least_waits (r ∷ rs) m e = join (least_key rs) (λ k. least_waits rs k) refl e
   where
@@ -54,7 +54,7 @@ module _ (limits : Limits) (s : Joining) where
   ripe_if true k m e = inside _ _ e
   ripe_if false k m e = absurd (cc e)
 
-  only_least : (o : Option EventKey) (m : EventKey) → only_ripe limits s o ≡ Some m → o ≡ Some m
+  pub only_least : (o : Option EventKey) (m : EventKey) → only_ripe limits s o ≡ Some m → o ≡ Some m
   only_least None m e = absurd (cc e)
   only_least (Some k) m e = ap Some (ripe_if (is_ripe_at limits s k) k m e)
 

@@ -50,7 +50,7 @@ flows_grow (taken ∷ more) before =
 pub taken_more : (limits : Limits) (xs ys : List Event) → taken_in limits (xs ++ ys) ≡ taken_in limits ys ++ taken_in limits xs
 taken_more limits xs ys = ap reverse (flat_map-append (taken_by limits) xs ys) ∙ reverse-append (flat_map (taken_by limits) xs) (flat_map (taken_by limits) ys)
 
-map_turned : {X Y : Type 0} (f : X → Y) (xs : List X) → reverse (map f xs) ≡ map f (reverse xs)
+pub map_turned : {X Y : Type 0} (f : X → Y) (xs : List X) → reverse (map f xs) ≡ map f (reverse xs)
 map_turned f [] = refl
 map_turned f (x ∷ xs) =
     reverse-append (f x ∷ []) (map f xs)

@@ -7,7 +7,12 @@ pub mod Tallying
 pub mod ReaderSteps
 pub mod Answered
 pub mod Fewer
+pub mod Counted
 pub mod Releasing
+pub mod Following
+pub mod Quiet
 pub mod FewEvents
+pub mod Turns
+pub mod Closing
 pub mod EngineSteps
 pub mod StopLemmas

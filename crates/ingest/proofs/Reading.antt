@@ -1,6 +1,5 @@
 -- The record of a line is the one that it spells.
-use Rattle.std.proofs.Common.{◌≡◌, ◌≤◌, ◌∙◌, sym, refl, ap, subst, ℕ, Bool, true, false, List, [], ◌∷◌, length, arith, Option, None, Some, nat_lt, if◌then◌else◌}
-use Rattle.std.specs.Prelude.{◌↔◌}
+use Rattle.std.proofs.Common.{◌≡◌, ◌≤◌, ◌∙◌, sym, refl, ap, subst, ℕ, Bool, true, false, List, [], length, arith, Option, None, Some, if◌then◌else◌}
 use Rattle.std.proofs.lemmas.Grind.{common_steps}
 use Rattle.audit_lex.specs.History.{is_long}
 use Rattle.audit_lex.specs.LineClass.{Class, Used, Other, Blank, Malformed, text_class, class_of}
@@ -84,3 +83,14 @@ spelled_to limit line made e =
 
 pub spelled_from : (limit : ℕ) (line : List ℕ) (made : Record) → (length line ≤ limit) × Spells line made → record_of limit line ≡ Some made
 spelled_from limit line made both = some_if line (is_long limit line) made (so_short limit line both.0) both.1
+
+class_short : (line : List ℕ) (long : Bool) → long ≡ false → class_if line long ≡ text_class line
+class_short line true short = absurd (cc short)
+class_short line false short = refl
+
+-- a line whose record is read is a used one
+pub used_class : (limit : ℕ) (line : List ℕ) (made : Record) → record_of limit line ≡ Some made → (kind : Kind) × (class_of limit line ≡ Used made.key kind)
+used_class limit line made e =
+    let both = spelled_if line (is_long limit line) made e in
+    let used : IsUsed line made.key = spelled_is_used line made both.1 in
+    (used.0, class_short line (is_long limit line) both.0 ∙ used.1)

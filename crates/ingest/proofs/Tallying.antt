@@ -1,11 +1,14 @@
 -- One more line is counted.
 use Rattle.std.proofs.Common.{◌≡◌, ◌+◌, ◌++◌, ◌∙◌, ap, sym, ℕ, List, [], ◌∷◌, length, arith}
-use Rattle.std.specs.List.{fold}
 use Rattle.std.proofs.lemmas.List.Sums.{fold-append}
 use Rattle.flow_base.specs.declared.limits.Limits.{Limits}
-use Rattle.audit_lex.specs.LineClass.{class_of}
+use Rattle.audit_lex.specs.LineClass.{Class, Used, Other, Blank, Malformed, class_of}
 use Rattle.audit_lex.specs.Tally.{Classed, nothing_counted, one_counted, tally_of}
-use Rattle.ingest.specs.Counting.{classed_from, tally_of_lines}
+use Rattle.audit_lex.specs.declared.fields.Kind.{Kind}
+use Rattle.audit_lex.specs.declared.header.EventKey.{EventKey}
+use Rattle.audit_lex.specs.declared.tally.Tally.{Tally}
+use Rattle.audit_lex.proofs.TallyLaws.{all_counted}
+use Rattle.ingest.specs.Counting.{classed_from, tally_of_lines, total}
 
 abbrev classed : ℕ → ℕ → List ℕ → Classed
 classed limit number text = record { number = number; class = class_of limit text }
@@ -20,19 +23,35 @@ classed_more limit number (line ∷ lines) text =
     ap (λ later. classed limit number line ∷ later) (classed_more limit (number + 1) lines text)
     ∙ ap (λ n. classed limit number line ∷ (classed_from limit (number + 1) lines ++ classed limit n text ∷ [])) same
 
--- lines that are counted one after the other are all counted
-abbrev pub AreCounted : Type 0
-AreCounted = (shown : ℕ) (lines : List Classed) → fold (one_counted shown) nothing_counted lines ≡ tally_of shown lines
-
 -- one more line is counted behind those that are
-pub tally_more : AreCounted → (limits : Limits) (lines : List (List ℕ)) (text : List ℕ)
+pub tally_more : (limits : Limits) (lines : List (List ℕ)) (text : List ℕ)
     → one_counted limits.shown (tally_of_lines limits lines) (record { number = length lines + 1; class = class_of limits.line text }) ≡ tally_of_lines limits (lines ++ text ∷ [])
-tally_more counted limits lines text =
+tally_more limits lines text =
     let before = classed_from limits.line 1 lines in
     let line = classed limits.line (1 + length lines) text in
     let number : length lines + 1 ≡ 1 + length lines = omega arith in
     ap (λ n. one_counted limits.shown (tally_of_lines limits lines) (classed limits.line n text)) number
-    ∙ ap (λ tally. one_counted limits.shown tally line) (sym (counted limits.shown before))
+    ∙ ap (λ tally. one_counted limits.shown tally line) (sym (all_counted limits.shown before))
     ∙ sym (fold-append (one_counted limits.shown) nothing_counted before (line ∷ []))
-    ∙ counted limits.shown (before ++ line ∷ [])
+    ∙ all_counted limits.shown (before ++ line ∷ [])
     ∙ ap (tally_of limits.shown) (sym (classed_more limits.line 1 lines text))
+
+-- one more line of a class that is known
+pub class_more : (limits : Limits) (tally : Tally) (lines : List (List ℕ)) (text : List ℕ) (class : Class) → tally ≡ tally_of_lines limits lines → class ≡ class_of limits.line text
+    → one_counted limits.shown tally (record { number = length lines + 1; class = class }) ≡ tally_of_lines limits (lines ++ text ∷ [])
+class_more limits tally lines text class is same =
+    ap (λ (t : Tally). one_counted limits.shown t (record { number = length lines + 1; class = class })) is
+    ∙ ap (λ (k : Class). one_counted limits.shown (tally_of_lines limits lines) (record { number = length lines + 1; class = k })) same
+    ∙ tally_more limits lines text
+
+-- one more used line
+pub used_more : (limits : Limits) (tally : Tally) (lines : List (List ℕ)) (text : List ℕ) (key : EventKey) (kind : Kind) → tally ≡ tally_of_lines limits lines → class_of limits.line text ≡ Used key kind
+    → record tally { used = tally.used + 1 } ≡ tally_of_lines limits (lines ++ text ∷ [])
+used_more limits tally lines text key kind is used = class_more limits tally lines text (Used key kind) is (sym used)
+
+-- counting a line adds one
+pub one_adds : (shown number : ℕ) (tally : Tally) (class : Class) → total (one_counted shown tally (record { number = number; class = class })) ≡ total tally + 1
+one_adds shown number tally (Used key kind) = omega arith
+one_adds shown number tally Other = omega arith
+one_adds shown number tally Blank = omega arith
+one_adds shown number tally (Malformed f) = omega arith

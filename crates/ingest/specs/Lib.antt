@@ -4,5 +4,8 @@ pub mod Events
 pub mod Counting
 pub mod Parts
 pub mod Stops
+pub mod Following
 pub mod StandsFor
+pub mod Owing
+pub mod Ending
 pub mod Replies

@@ -1,16 +1,21 @@
 -- What an engine stands for.
-use Rattle.std.specs.Prelude.{◌≡◌, ◌≤◌, ◌+◌, ◌^◌, ◌-◌, ℕ, List, length, reverse, None}
+use Rattle.std.specs.Prelude.{◌≡◌, ◌≤◌, ◌+◌, ◌^◌, ◌-◌, ℕ, List, [], false, length, None}
 use Rattle.flow_base.specs.declared.limits.Limits.{Limits}
 use Rattle.audit_lex.specs.History.{History}
 use Rattle.audit_lex.specs.LineCut.{Cutter, StandsFor as CutStandsFor}
 use Rattle.audit_lex.specs.declared.tally.Tally.{Tally}
 use Rattle.record_join.specs.Events.{Joining}
 use Rattle.record_join.specs.StandsFor.{Joiner, StandsFor as JoinStandsFor}
-use Rattle.acts.specs.Flows.{latest, TimesNeverFall}
-use Rattle.acts.specs.LookBack.{Course}
+use Rattle.name_text.specs.Addresses.{text_of}
+use Rattle.flow_base.specs.declared.types.Flow.{Flow}
+use Rattle.acts.specs.declared.act.Taken.{Taken}
+use Rattle.acts.specs.Admitted.{Admitted}
+use Rattle.acts.specs.Flows.{acts_of, flows, latest, TimesNeverFall}
+use Rattle.flow_events.specs.declared.tables.Tables.{Tables}
+use Rattle.flow_events.specs.Standing.{StandsFor as TablesStandFor, HasLimits}
 use Rattle.record_join.specs.declared.event.Event.{Event}
 use Rattle.ingest.specs.Counting.{bytes_in, tally_in, counts_in, total}
-use Rattle.ingest.specs.Events.{taken_in, state_of, events_of}
+use Rattle.ingest.specs.Events.{taken_in, flows_in, state_of, events_of}
 use Rattle.ingest.specs.Parts.{Reader, Joined, Engine}
 use Rattle.ingest.specs.Stops.{Fits, full_of}
 
@@ -22,6 +27,11 @@ pub record ReaderStandsFor (limits : Limits) (reader : Reader) (h : History) : T
   pub tally : reader.tally ≡ tally_in limits h
   pub bytes : reader.bytes ≡ bytes_in h
 
+-- no byte of a line has come
+pub record HasNoTail (reader : Reader) : Type 0 where
+  pub tail : reader.cut.tail ≡ []
+  pub long : reader.cut.long ≡ false
+
 -- the lines are those of some history of so many bytes, no more of them were counted, and there may be so many bytes; so no
 -- count comes to its end, whatever the reader stands for
 pub record IsWithin (limits : Limits) (cut : Cutter) (tally : Tally) (bytes : ℕ) : Type 0 where
@@ -32,17 +42,18 @@ pub record IsWithin (limits : Limits) (cut : Cutter) (tally : Tally) (bytes : �
   pub within : bytes ≤ limits.input
   pub input : limits.input ≤ 2 ^ 60
 
--- the bound on flows of the acts alone: an event's flows are looked at when all of its acts were taken
-abbrev pub NO_BOUND : ℕ
-NO_BOUND = 2 ^ 64 - 1
-
--- the joiner stands for something that waits, and no act is later than what it released last
-pub record IsInTime (limits : Limits) (join : Joiner) (course : Course) : Type 0 where
+-- the joiner stands for something that waits, the tables and flows for acts that are admitted, and none of these is later
+-- than what the joiner released last
+pub record IsInTime (limits : Limits) (join : Joiner) (tables : Tables) (kept : List Flow) : Type 0 where
   pub s : Joining
   pub join_is : JoinStandsFor limits join s
-  pub rise : TimesNeverFall course.taken
-  pub later : latest course.taken ≤ join.clock.effective
-  pub bound : course.most_flows ≡ NO_BOUND
+  pub taken : List Taken
+  pub tables_are : TablesStandFor text_of tables taken
+  pub admitted : Admitted (acts_of taken)
+  pub bounds : HasLimits limits tables
+  pub flows_are : kept ≡ flows taken
+  pub rise : TimesNeverFall taken
+  pub later : latest taken ≤ join.clock.effective
 
 -- this waits, and these events were released, counted and followed
 pub record JoinedStandsFor (limits : Limits) (joined : Joined) (s : Joining) (released : List Event) : Type 0 where
@@ -50,8 +61,8 @@ pub record JoinedStandsFor (limits : Limits) (joined : Joined) (s : Joining) (re
   pub join : JoinStandsFor limits joined.join s
   pub excess : joined.excess ≡ s.excess
   pub counts : joined.counts ≡ counts_in released
-  pub acts : joined.course.taken ≡ taken_in limits released
-  pub most_objects : joined.course.most_objects ≡ limits.entities
+  pub tables : TablesStandFor text_of joined.tables (taken_in limits released)
+  pub flows_are : joined.flows ≡ flows_in limits released
   pub fits : full_of limits released ≡ None
 
 -- the engine has read the history, joined its records and followed its events, and no limit is passed

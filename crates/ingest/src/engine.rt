@@ -1,12 +1,17 @@
 //! The engine.
-ghost use Rattle.std.specs.Prelude.{◌≡◌, ◌≤◌, ◌<◌, ◌+◌, ◌^◌, ◌++◌, ◌∷◌, [], ℕ, List, Err, false, length, take, OnOk, IfOk, IfErr};
+ghost use Rattle.std.specs.Prelude.{◌≡◌, ◌≤◌, ◌<◌, ◌+◌, ◌^◌, ◌++◌, ◌⊎◌, ◌∷◌, [], ℕ, List, Err, false, length, take, is_some, OnOk, OnErr, IfOk, IfErr};
+ghost use Rattle.std.specs.List.{position_or_len};
+ghost use Rattle.memchr.specs.Find.{is_byte};
 ghost use Rattle.flow_base.specs.declared.limits.Full.{Full};
 ghost use Rattle.flow_base.specs.declared.limits.Limits.{Limits};
 ghost use Rattle.audit_lex.specs.History.{History, Settle, with_bytes};
+ghost use Rattle.record_join.specs.Events.{next_event};
+ghost use Rattle.ingest.specs.Ending.{EndsLast};
 ghost use Rattle.ingest.specs.Events.{events_of};
-ghost use Rattle.ingest.specs.Replies.{IsQuestion, IsReply, AnswersBack, counts_of};
-ghost use Rattle.ingest.specs.StandsFor.{StandsFor};
-ghost use Rattle.ingest.specs.Stops.{Stops, StopsFor};
+ghost use Rattle.ingest.specs.Owing.{MayOwe, Halts, HaltsSettling, OwesFor};
+ghost use Rattle.ingest.specs.Replies.{IsQuestion, IsReply};
+ghost use Rattle.ingest.specs.StandsFor.{StandsFor, HasNoTail};
+ghost use Rattle.ingest.specs.Stops.{Fits, Stops, StopsFor};
 ghost use Rattle.ingest.specs.declared.stop.StopWhy.TheVariants as why;
 
 use crate::event_flows::EventFlows;
@@ -14,12 +19,15 @@ use crate::line_reader::LineReader;
 use crate::replies::{answer_back, answer_stat};
 use crate::stop::{Stop, StopWhy};
 use flow_base::{Full, Limit, Limits, NoMemory};
+use memchr::memchr;
 use report_json::{Ask, Question, Reply};
 use std::alloc::Global;
 use std::marker::Model;
 
-/// The engine: it takes a log piece by piece, and answers questions at any time. Once it has stopped, for want of
-/// memory or at a limit, it stands for nothing any more.
+/// The engine: it takes a log piece by piece, and answers questions at any time.
+///
+/// Where it stops, for want of memory or at a limit, it stands for the bytes that were done. An event that was refused is
+/// owed, with all that is ripe behind it, and the next call tries it again before anything else.
 #[derive(Drop)]
 pub struct Ingest {
     alloc: Global,
@@ -47,11 +55,78 @@ impl Ingest {
         }
     }
 
-    /// Takes a piece of the log. It stops at the first line whose events pass a limit, and at a byte past the limit of
-    /// bytes once those before it are taken.
+    /// Releases what is owed, and then takes a piece of the log. It stops at the first event that passes a limit, and at
+    /// a byte past the limit of bytes once those before it are taken.
     pub fn feed(&mut self, piece: &[u8]) -> Result<(), Stop>
         ensures ok { OnOk result ((limits : Limits) (h : History) → StandsFor limits self.old h → StandsFor limits self.new (with_bytes h piece.now)) }
+        ensures again { OnOk result ((limits : Limits) (h : History) → MayOwe limits self.old h → StandsFor limits self.new (with_bytes h piece.now)) }
         ensures stop { IfErr result (λ stop. (limits : Limits) (h : History) → StandsFor limits self.old h → StopsFor limits h piece.now stop) }
+        ensures halts { IfErr result (λ stop. (limits : Limits) (h : History) → MayOwe limits self.old h → Halts limits self.new h piece.now stop) }
+        ensures owed_first { IfErr result (λ stop. (limits : Limits) (h : History) → MayOwe limits self.old h → 0 < stop.done → Fits limits h) }
+    {
+        match self.joined.release() {
+            Ok(()) => self.feed_bounded(piece),
+            Err(why) => Err(Stop { done: 0, why }),
+        }
+    }
+
+    /// Releases what is owed, then ends the last line, where it has a byte, and releases all that waits.
+    pub fn settle(&mut self) -> Result<(), StopWhy>
+        ensures ok { OnOk result ((limits : Limits) (h : History) → StandsFor limits self.old h → StandsFor limits self.new (h ++ Settle ∷ [])) }
+        ensures again { OnOk result ((limits : Limits) (h : History) → MayOwe limits self.old h → StandsFor limits self.new (h ++ Settle ∷ [])) }
+        ensures full { (full : Full) → result ≡ Err (why.Full full) → (limits : Limits) (h : History) → StandsFor limits self.old h → Stops limits (h ++ Settle ∷ []) full }
+        ensures halts { IfErr result (λ cause. (limits : Limits) (h : History) → MayOwe limits self.old h → HaltsSettling limits self.new h cause) }
+    {
+        match self.joined.release() {
+            Ok(()) => {}
+            Err(why) => return Err(why),
+        }
+        match self.end_last() {
+            Ok(()) => {}
+            Err(NoMemory) => return Err(StopWhy::NoMemory),
+        }
+        self.joined.close();
+        self.joined.release()
+    }
+
+    /// How many events were released and followed so far.
+    pub fn events(&self) -> u64
+        ensures all { (limits : Limits) (h : History) → StandsFor limits self.now h → result ≡ length (events_of limits h) }
+        ensures done { (limits : Limits) (h : History) (w : MayOwe limits self.now h) → result ≡ length w.done }
+    {
+        let _ = &self.reader;
+        self.joined.counts().events
+    }
+
+    /// Whether an event that is ripe was left for a later call.
+    pub fn owed(&self) -> bool
+        ensures ripe { (limits : Limits) (h : History) (w : MayOwe limits self.now h) → result ≡ is_some (next_event limits w.rest) }
+        ensures nothing { result ≡ false → (limits : Limits) (h : History) → MayOwe limits self.now h → StandsFor limits self.now h }
+    {
+        let _ = &self.reader;
+        self.joined.ripe()
+    }
+
+    /// Answers a question about what was taken, where nothing is owed.
+    pub fn ask(&mut self, ask: &Ask) -> Result<Reply, NoMemory>
+        requires asks { IsQuestion ask.now }
+        ensures reply { IfOk result (λ reply. (limits : Limits) (h : History) → StandsFor limits self.old h → IsReply limits h ask.now reply) }
+        ensures same { self.new ≡ self.old }
+    {
+        match ask {
+            Ask::Question(Question::Back { of, until }) => {
+                answer_back(self.alloc, &self.joined, *of, *until)
+            }
+            Ask::Stat => answer_stat(self.alloc, &self.reader, &self.joined),
+            Ask::Take(_) | Ask::Settle | Ask::End => unreachable!(),
+        }
+    }
+
+    // Takes a piece, of which some bytes may be too many.
+    fn feed_bounded(&mut self, piece: &[u8]) -> Result<(), Stop>
+        ensures ok { OnOk result ((limits : Limits) (h : History) → StandsFor limits self.old h → StandsFor limits self.new (with_bytes h piece.now)) }
+        ensures stop { IfErr result (λ stop. (limits : Limits) (h : History) → StandsFor limits self.old h → StopsFor limits h piece.now stop) }
+        ensures halts { IfErr result (λ stop. (limits : Limits) (h : History) → StandsFor limits self.old h → Halts limits self.new h piece.now stop) }
     {
         let room = self.reader.most() - self.reader.bytes();
         if piece.len() as u64 <= room {
@@ -70,58 +145,13 @@ impl Ingest {
         }
     }
 
-    /// Ends the last line, where it has a byte, and releases all that waits.
-    pub fn settle(&mut self) -> Result<(), StopWhy>
-        ensures ok { OnOk result ((limits : Limits) (h : History) → StandsFor limits self.old h → StandsFor limits self.new (h ++ Settle ∷ [])) }
-        ensures full { (full : Full) → result ≡ Err (why.Full full) → (limits : Limits) (h : History) → StandsFor limits self.old h → Stops limits (h ++ Settle ∷ []) full }
-    {
-        match self.reader.end()? {
-            None => self.joined.settle(),
-            Some(item) => match self.joined.came(item) {
-                Ok(()) => self.joined.settle(),
-                Err(why) => Err(why),
-            },
-        }
-    }
-
-    /// How many events were released so far.
-    pub fn events(&self) -> u64
-        ensures { (limits : Limits) (h : History) → StandsFor limits self.now h → result ≡ length (events_of limits h) }
-    {
-        let _ = &self.reader;
-        self.joined.counts().events
-    }
-
-    /// Whether events that are ripe were left for a later call. None are, since a call that can't take them all ends
-    /// the engine.
-    pub fn owed(&self) -> bool
-        ensures { result ≡ false }
-    {
-        let _ = self;
-        false
-    }
-
-    /// Answers a question about what was taken.
-    pub fn ask(&mut self, ask: &Ask) -> Result<Reply, NoMemory>
-        requires asks { IsQuestion ask.now }
-        ensures reply { IfOk result (λ reply. (limits : Limits) (h : History) → StandsFor limits self.old h → IsReply limits h ask.now reply) }
-        ensures same { (limits : Limits) (h : History) → StandsFor limits self.old h → StandsFor limits self.new h }
-    {
-        match ask {
-            Ask::Question(Question::Back { of, until }) => {
-                answer_back(self.alloc, &self.joined, *of, *until)
-            }
-            Ask::Stat => answer_stat(self.alloc, &self.reader, &self.joined),
-            Ask::Take(_) | Ask::Settle | Ask::End => unreachable!(),
-        }
-    }
-
     // Takes a piece for which there is room.
     fn feed_within(&mut self, piece: &[u8]) -> Result<(), Stop>
         requires room { self.old.reader.bytes + length piece.now ≤ self.old.reader.limits.input }
         ensures limits { OnOk result (self.new.reader.limits ≡ self.old.reader.limits) }
         ensures ok { OnOk result ((limits : Limits) (h : History) → StandsFor limits self.old h → StandsFor limits self.new (with_bytes h piece.now)) }
         ensures stop { IfErr result (λ stop. (limits : Limits) (h : History) → StandsFor limits self.old h → StopsFor limits h piece.now stop) }
+        ensures halts { IfErr result (λ stop. (limits : Limits) (h : History) → StandsFor limits self.old h → Halts limits self.new h piece.now stop) }
     {
         let mut done = 0;
         while done < piece.len() {
@@ -137,25 +167,126 @@ impl Ingest {
     // bytes it took.
     fn feed_line(&mut self, piece: &[u8]) -> Result<usize, Stop>
         requires room { self.old.reader.bytes + length piece.now ≤ self.old.reader.limits.input }
+        requires some { 0 < length piece.now }
         ensures within { IfOk result (λ n. n ≤ length piece.now) }
-        ensures some { IfOk result (λ n. 0 < length piece.now → 0 < n) }
+        ensures some { IfOk result (λ n. 0 < n) }
         ensures short { IfErr result (λ stop. stop.done ≤ length piece.now) }
         ensures bytes { IfOk result (λ n. self.new.reader.bytes ≡ self.old.reader.bytes + n) }
-        ensures limits { IfOk result (λ _. self.new.reader.limits ≡ self.old.reader.limits) }
+        ensures limits { self.new.reader.limits ≡ self.old.reader.limits }
         ensures ok { IfOk result (λ n. (limits : Limits) (h : History) → StandsFor limits self.old h → StandsFor limits self.new (with_bytes h (take n piece.now))) }
         ensures stop { IfErr result (λ stop. (limits : Limits) (h : History) → StandsFor limits self.old h → StopsFor limits h piece.now stop) }
+        ensures halts { IfErr result (λ stop. (limits : Limits) (h : History) → StandsFor limits self.old h → Halts limits self.new h piece.now stop) }
     {
-        match self.reader.take(piece) {
+        let end = end_of_line(piece);
+        if end == piece.len() || !self.reader.is_between_lines() {
+            self.hold(&piece[..end])?;
+            if end == piece.len() {
+                return Ok(end);
+            }
+            return match self.end_line(&[]) {
+                Ok(()) => Ok(end + 1),
+                Err(stop) => Err(later(end, stop)),
+            };
+        }
+        self.end_line(&piece[..end])?;
+        Ok(end + 1)
+    }
+
+    // Takes bytes without a line feed.
+    fn hold(&mut self, part: &[u8]) -> Result<(), Stop>
+        requires room { self.old.reader.bytes + length part.now ≤ self.old.reader.limits.input }
+        requires no_feed { position_or_len (is_byte 10) part.now ≡ length part.now }
+        ensures limits { self.new.reader.limits ≡ self.old.reader.limits }
+        ensures bytes { OnOk result (self.new.reader.bytes ≡ self.old.reader.bytes + length part.now) }
+        ensures ok { OnOk result ((limits : Limits) (h : History) → StandsFor limits self.old h → StandsFor limits self.new (with_bytes h part.now)) }
+        ensures none { IfErr result (λ stop. stop ≡ record { done = 0; why = why.NoMemory }) }
+        ensures err { OnErr result (self.new ≡ self.old) }
+    {
+        match self.reader.hold(part) {
+            Ok(()) => Ok(()),
             Err(NoMemory) => Err(Stop {
                 done: 0,
                 why: StopWhy::NoMemory,
             }),
-            Ok((count, None)) => Ok(count),
-            Ok((count, Some(item))) => match self.joined.came(item) {
-                Ok(()) => Ok(count),
-                Err(why) => Err(Stop { done: count, why }),
-            },
         }
+    }
+
+    // Ends a line with these bytes and a line feed, and releases what is ripe then.
+    fn end_line(&mut self, part: &[u8]) -> Result<(), Stop>
+        requires room { self.old.reader.bytes + (length part.now + 1) ≤ self.old.reader.limits.input }
+        requires no_feed { position_or_len (is_byte 10) part.now ≡ length part.now }
+        requires whole { HasNoTail self.old.reader ⊎ (part.now ≡ []) }
+        ensures limits { self.new.reader.limits ≡ self.old.reader.limits }
+        ensures short { IfErr result (λ stop. stop.done ≤ length part.now + 1) }
+        ensures bytes { OnOk result (self.new.reader.bytes ≡ self.old.reader.bytes + (length part.now + 1)) }
+        ensures ok { OnOk result ((limits : Limits) (h : History) → StandsFor limits self.old h → StandsFor limits self.new (with_bytes h (part.now ++ 10 ∷ []))) }
+        ensures stop { IfErr result (λ stop. (limits : Limits) (h : History) → StandsFor limits self.old h → StopsFor limits h (part.now ++ 10 ∷ []) stop) }
+        ensures halts { IfErr result (λ stop. (limits : Limits) (h : History) → StandsFor limits self.old h → Halts limits self.new h (part.now ++ 10 ∷ []) stop) }
+    {
+        match self.join_line(part) {
+            Ok(()) => {}
+            Err(NoMemory) => {
+                return Err(Stop {
+                    done: 0,
+                    why: StopWhy::NoMemory,
+                });
+            }
+        }
+        match self.joined.release() {
+            Ok(()) => Ok(()),
+            Err(why) => Err(Stop {
+                done: part.len() + 1,
+                why,
+            }),
+        }
+    }
+
+    // Ends a line with these bytes and a line feed, and gives its record to the joiner. Where no memory is found nothing
+    // has changed.
+    fn join_line(&mut self, part: &[u8]) -> Result<(), NoMemory>
+        requires room { self.old.reader.bytes + (length part.now + 1) ≤ self.old.reader.limits.input }
+        requires no_feed { position_or_len (is_byte 10) part.now ≡ length part.now }
+        requires whole { HasNoTail self.old.reader ⊎ (part.now ≡ []) }
+        ensures limits { self.new.reader.limits ≡ self.old.reader.limits }
+        ensures bytes { OnOk result (self.new.reader.bytes ≡ self.old.reader.bytes + (length part.now + 1)) }
+        ensures ok { OnOk result ((limits : Limits) (h : History) → StandsFor limits self.old h → MayOwe limits self.new (with_bytes h (part.now ++ 10 ∷ []))) }
+        ensures err { OnErr result (self.new ≡ self.old) }
+    {
+        match self.reader.read(part)? {
+            Some(item) => {
+                self.joined.enter(item)?;
+                self.reader.end_used(part);
+                Ok(())
+            }
+            None => self.reader.end_other(part),
+        }
+    }
+
+    // Ends the last line, where it has a byte, and gives its record to the joiner. Where no memory is found nothing has
+    // changed.
+    fn end_last(&mut self) -> Result<(), NoMemory>
+        ensures ok { OnOk result ((limits : Limits) (h : History) → StandsFor limits self.old h → EndsLast limits self.new h) }
+        ensures err { OnErr result (self.new ≡ self.old) }
+    {
+        match self.reader.read(&[])? {
+            Some(item) => {
+                self.joined.enter(item)?;
+                self.reader.settle_used();
+                Ok(())
+            }
+            None => self.reader.settle_other(),
+        }
+    }
+}
+
+// Where the first line feed stands, or the length.
+fn end_of_line(piece: &[u8]) -> usize
+    ensures place { result ≡ position_or_len (is_byte 10) piece.now }
+    ensures within { result ≤ length piece.now }
+{
+    match memchr(b'\n', piece) {
+        Some(place) => place,
+        None => piece.len(),
     }
 }
 

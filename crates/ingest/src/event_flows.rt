@@ -1,33 +1,44 @@
 //! Records joined into events, and the flows of their acts.
 //!
-//! After each record, and after a settle, all that is ripe is released: an event is counted, and its acts are taken one
-//! after the other. An event whose objects or flows would pass a limit stops the engine.
-ghost use Rattle.std.specs.Prelude.{◌≡◌, ◌≤◌, ◌<◌, ◌+◌, ◌^◌, ◌++◌, ◌∷◌, [], ℕ, List, None, Some, Err, false, length, map, reverse, OnOk, IfOk, OnErr, IfErr};
+//! An event that is ripe is prepared by the tables, with all the memory for it, and then followed, which can't fail: so an
+//! event that is refused has changed nothing, and stays in the joiner.
+ghost use Rattle.std.specs.Prelude.{vec_len, vec_capacity, ◌≡◌, ◌≤◌, ◌<◌, ◌+◌, ◌^◌, ◌++◌, ◌∷◌, [], ℕ, suc, List, None, Some, Err, true, length, is_some, OnOk, IfOk, OnErr, IfErr};
 ghost use Rattle.flow_base.specs.declared.limits.Full.{Full};
 ghost use Rattle.flow_base.specs.declared.limits.Limits.{Limits};
-ghost use Rattle.record_join.specs.Events.{Joining, enter, settled, count_keys};
+ghost use Rattle.record_join.specs.Events.{Joining, enter, settled, count_keys, ripe_key, next_event, next_left};
 ghost use Rattle.record_join.specs.History.{start, released_after, left_after};
-ghost use Rattle.record_join.specs.StandsFor.{event_seen};
+ghost use Rattle.record_join.specs.StandsFor.{WhereStands, event_seen};
 ghost use Rattle.record_join.specs.declared.event.Event.{Event as TheEvent};
 ghost use Rattle.reach_model.specs.Numbers.{IsLawfulWith};
-ghost use Rattle.acts.specs.Flows.{acts_of, flows, objects, latest, TimesNeverFall};
-ghost use Rattle.acts.specs.LookBack.{any_opens, opens};
-ghost use Rattle.flow_base.specs.declared.limits.Limit.TheVariants as limit;
-ghost use Rattle.ingest.specs.Counting.{counts_in};
-ghost use Rattle.ingest.specs.Events.{taken_at, taken_in};
-ghost use Rattle.ingest.specs.StandsFor.{JoinedStandsFor, NO_BOUND};
-ghost use Rattle.ingest.specs.Stops.{full_of, StopsAmong};
+ghost use Rattle.acts.specs.declared.act.Taken.{Taken};
+ghost use Rattle.acts.specs.Flows.{flows as flows_by};
+ghost use Rattle.acts.specs.LookBack.{full_at};
+ghost use Rattle.name_text.specs.Addresses.{text_of};
+ghost use Rattle.flow_events.specs.Standing.{StandsFor as TablesStandFor, HasLimits, IsReady, IsPlanOf};
+ghost use Rattle.ingest.specs.EventActs.{is_unmapped};
+ghost use Rattle.ingest.specs.Following.{HasTaken, turned_by};
+ghost use Rattle.ingest.specs.Owing.{IsOwed, NextPasses};
+ghost use Rattle.ingest.specs.StandsFor.{JoinedStandsFor};
+ghost use Rattle.ingest.specs.Stops.{full_of};
 ghost use Rattle.ingest.specs.declared.stop.StopWhy.TheVariants as why;
+ghost use Rattle.flow_events.specs.declared.fault.PrepareFault.TheVariants as fault;
 
-use crate::event_acts::acts_of;
 use crate::event_counts::EventCounts;
 use crate::stop::StopWhy;
-use acts::{Act, Plain, Refused, Taken, flows_of_acts_are_lawful};
+use acts::flows_of_acts_are_lawful;
 use audit_record::Record;
-use flow_base::{Flow, Full, Limit, Limits, List, NoMemory};
-use record_join::{Event, EventView, Join, Taken as Entered, releases_end};
+use call_acts::{acts_are_few, acts_of_events_are_admitted, event_acts_are_admitted};
+use flow_base::{Flow, Limits, NoMemory};
+use flow_events::{Plan, PrepareFault, Tables};
+use record_join::{EventView, Join, Taken as Entered, releases_end};
 use std::alloc::Global;
 use std::marker::Model;
+
+/// No log has so many acts: each takes a byte of it.
+const MOST_ACTS: u64 = 1 << 62;
+
+/// Nor has an event so many records.
+const MOST_RECORDS: usize = 1 << 60;
 
 /// Joins records into events, and follows their flows.
 #[derive(Drop)]
@@ -35,7 +46,8 @@ pub struct EventFlows {
     alloc: Global,
     limits: Limits,
     join: Join,
-    course: Plain,
+    tables: Tables,
+    flows: Vec<Flow>,
     counts: EventCounts,
     /// The records that were dropped.
     excess: u64,
@@ -47,9 +59,9 @@ impl Model for EventFlows {
 
     ghost Value = { Joined };
 
-    ghost view = { λ a. record { limits = a.limits; join = a.join; course = a.course; counts = a.counts; excess = a.excess } };
+    ghost view = { λ a. record { limits = a.limits; join = a.join; tables = a.tables; flows = a.flows.items; counts = a.counts; excess = a.excess } };
 
-    ghost invariant = { λ a. IsInTime a.limits a.join a.course };
+    ghost invariant = { λ a. IsInTime a.limits a.join a.tables a.flows.items };
 }
 
 impl EventFlows {
@@ -61,32 +73,57 @@ impl EventFlows {
             alloc,
             limits: *limits,
             join: Join::new(alloc, limits),
-            course: Plain::new(alloc, limits.entities, u64::MAX),
+            tables: Tables::new(alloc, limits),
+            flows: Vec::new(alloc),
             counts: EventCounts::new(),
             excess: 0,
         }
     }
 
-    /// A record came.
-    pub fn came(&mut self, item: Record) -> Result<(), StopWhy>
-        ensures ok { OnOk result ((limits : Limits) (s : Joining) (released : List TheEvent) → JoinedStandsFor limits self.old s released → length released + (length s.waiting + s.excess) < 2 ^ 61
-            → JoinedStandsFor limits self.new (left_after limits (enter limits s item)) (released ++ released_after limits (enter limits s item))) }
-        ensures full { (full : Full) → result ≡ Err (why.Full full) → (limits : Limits) (s : Joining) (released : List TheEvent) → JoinedStandsFor limits self.old s released → length released + (length s.waiting + s.excess) < 2 ^ 61
-            → StopsAmong limits released (released_after limits (enter limits s item)) full }
+    /// Gives a record to the joiner. Where no memory is found nothing has changed.
+    pub fn enter(&mut self, item: Record) -> Result<(), NoMemory>
+        ensures ok { OnOk result ((limits : Limits) (s : Joining) (released : List TheEvent) → JoinedStandsFor limits self.old s released → s.excess < 2 ^ 61
+            → JoinedStandsFor limits self.new (enter limits s item) released) }
+        ensures err { OnErr result (self.new ≡ self.old) }
     {
-        self.enter(item)?;
-        self.release()
+        let taken = self.join.take(item)?;
+        if taken == Entered::Excess {
+            self.excess = self.excess.saturating_add(1);
+        }
+        Ok(())
     }
 
-    /// The log settles.
-    pub fn settle(&mut self) -> Result<(), StopWhy>
-        ensures ok { OnOk result ((limits : Limits) (s : Joining) (released : List TheEvent) → JoinedStandsFor limits self.old s released → length released + (length s.waiting + s.excess) < 2 ^ 61
-            → JoinedStandsFor limits self.new (left_after limits (settled s)) (released ++ released_after limits (settled s))) }
-        ensures full { (full : Full) → result ≡ Err (why.Full full) → (limits : Limits) (s : Joining) (released : List TheEvent) → JoinedStandsFor limits self.old s released → length released + (length s.waiting + s.excess) < 2 ^ 61
-            → StopsAmong limits released (released_after limits (settled s)) full }
+    /// Closes all that waits.
+    pub fn close(&mut self)
+        ensures { (limits : Limits) (s : Joining) (released : List TheEvent) → JoinedStandsFor limits self.old s released → JoinedStandsFor limits self.new (settled s) released }
     {
         self.join.settle();
-        self.release()
+    }
+
+    /// Releases all that is ripe. It stops at an event that would pass a limit, or for which no memory is found: this one
+    /// and those behind it are owed.
+    pub fn release(&mut self) -> Result<(), StopWhy>
+        ensures ok { OnOk result ((limits : Limits) (s : Joining) (released : List TheEvent) → JoinedStandsFor limits self.old s released → length released + length s.waiting ≤ 2 ^ 61
+            → JoinedStandsFor limits self.new (left_after limits s) (released ++ released_after limits s)) }
+        ensures owed { IfErr result (λ cause. (limits : Limits) (s : Joining) (released : List TheEvent) → JoinedStandsFor limits self.old s released → length released + length s.waiting ≤ 2 ^ 61
+            → IsOwed limits self.new s released cause) }
+    {
+        releases_end();
+        while self.join.ripe() {
+            match self.follow() {
+                Ok(()) => {}
+                Err(why) => return Err(why),
+            }
+        }
+        Ok(())
+    }
+
+    /// Whether an event is ripe.
+    pub fn ripe(&self) -> bool
+        ensures { (limits : Limits) (s : Joining) (released : List TheEvent) → JoinedStandsFor limits self.now s released → result ≡ is_some (next_event limits s) }
+    {
+        let _ = &self.tables;
+        self.join.ripe()
     }
 
     /// The counts of events.
@@ -107,160 +144,121 @@ impl EventFlows {
     pub fn waiting(&self) -> u64
         ensures { (limits : Limits) (s : Joining) (released : List TheEvent) → JoinedStandsFor limits self.now s released → result ≡ count_keys s.waiting }
     {
-        let _ = &self.course;
+        let _ = &self.tables;
         self.join.waiting() as u64
     }
 
     /// How many objects are known.
     pub fn known(&self) -> u32
-        ensures { result ≡ length (objects (acts_of self.now.course.taken)) }
+        ensures { result ≡ length self.now.tables.entities.keys }
     {
-        self.course.known()
+        let _ = &self.join;
+        self.tables.entities().count()
     }
 
     /// The flows in their order.
     pub fn flows(&self) -> &[Flow]
-        ensures flows { result.now ≡ flows self.now.course.taken }
-        ensures lawful { IsLawfulWith (length (objects (acts_of self.now.course.taken))) result.now }
+        ensures flows { result.now ≡ self.now.flows }
+        ensures lawful { IsLawfulWith (length self.now.tables.entities.keys) result.now }
     {
         flows_of_acts_are_lawful();
-        self.course.flows()
+        self.flows.as_slice()
     }
 
-    // Gives a record to the joiner.
-    fn enter(&mut self, item: Record) -> Result<(), NoMemory>
-        ensures { OnOk result ((limits : Limits) (s : Joining) (released : List TheEvent) → JoinedStandsFor limits self.old s released → s.excess < 2 ^ 61
-            → JoinedStandsFor limits self.new (enter limits s item) released) }
+    // Follows the event that is released next. Where it is refused nothing has changed.
+    fn follow(&mut self) -> Result<(), StopWhy>
+        requires ripe { WhereStands self.old.join (λ limits s. is_some (ripe_key limits s) ≡ true) }
+        ensures next { OnOk result ((limits : Limits) (s : Joining) (released : List TheEvent) (event : TheEvent) → JoinedStandsFor limits self.old s released → length released < 2 ^ 62 → next_event limits s ≡ Some event
+            → JoinedStandsFor limits self.new (next_left limits s) (released ++ event ∷ [])) }
+        ensures less { OnOk result (length self.old.join.groups ≡ suc (length self.new.join.groups)) }
+        ensures refused { OnErr result ((limits : Limits) (s : Joining) (released : List TheEvent) → JoinedStandsFor limits self.old s released → JoinedStandsFor limits self.new s released) }
+        ensures full { (full : Full) → result ≡ Err (why.Full full) → (limits : Limits) (s : Joining) (released : List TheEvent) → JoinedStandsFor limits self.old s released → NextPasses limits s released full }
     {
-        let taken = self.join.take(item)?;
-        if taken == Entered::Excess {
-            self.excess = self.excess.saturating_add(1);
-        }
-        Ok(())
-    }
-
-    // Releases all that is ripe.
-    fn release(&mut self) -> Result<(), StopWhy>
-        ensures ok { OnOk result ((limits : Limits) (s : Joining) (released : List TheEvent) → JoinedStandsFor limits self.old s released → length released + length s.waiting ≤ 2 ^ 61
-            → JoinedStandsFor limits self.new (left_after limits s) (released ++ released_after limits s)) }
-        ensures full { (full : Full) → result ≡ Err (why.Full full) → (limits : Limits) (s : Joining) (released : List TheEvent) → JoinedStandsFor limits self.old s released → length released + length s.waiting ≤ 2 ^ 61
-            → StopsAmong limits released (released_after limits s) full }
-    {
-        releases_end();
-        while let Some(event) = self.join.next() {
-            let view = EventView {
-                key: event.key,
-                ms: event.ms,
-                late: event.late,
-                records: event.records.as_slice(),
-            };
-            match take_event(
-                self.alloc,
-                &self.limits,
-                &mut self.course,
-                &mut self.counts,
-                &view,
-            ) {
-                Ok(()) => {}
-                Err(why) => return Err(why),
-            }
-        }
+        event_acts_are_admitted();
+        acts_of_events_are_admitted();
+        let Some(event) = self.join.peek() else {
+            unreachable!()
+        };
+        let plan = match plan_event(
+            self.alloc,
+            &self.limits,
+            &mut self.tables,
+            &mut self.flows,
+            &event,
+        ) {
+            Ok(plan) => plan,
+            Err(why) => return Err(why),
+        };
+        self.counts.count(event.late, plan.unmapped());
+        follow_plan(&mut self.tables, &mut self.flows, plan);
+        let _ = self.join.next();
         Ok(())
     }
 }
 
-// Counts an event that was released, and takes its acts.
-fn take_event(
+// Works out what an event does, with all the memory for it. The tables and flows say the same as before.
+fn plan_event(
     alloc: Global,
     limits: &Limits,
-    course: &mut Plain,
-    counts: &mut EventCounts,
+    tables: &mut Tables,
+    flows: &mut Vec<Flow>,
     event: &EventView<'_>,
-) -> Result<(), StopWhy>
-    requires bound { course.old.most_flows ≡ NO_BOUND }
-    requires rise { TimesNeverFall course.old.taken }
-    requires later { latest course.old.taken ≤ event.now.ms }
-    ensures most { (course.new.most_objects ≡ course.old.most_objects) × (course.new.most_flows ≡ NO_BOUND) }
-    ensures rise { TimesNeverFall course.new.taken }
-    ensures later { latest course.new.taken ≤ event.now.ms }
-    ensures counts { (released : List TheEvent) → counts.old ≡ counts_in released → length released < 2 ^ 62 → counts.new ≡ counts_in (released ++ event_seen event.now ∷ []) }
-    ensures acts { OnOk result ((released : List TheEvent) → course.old.taken ≡ taken_in limits.now released → course.new.taken ≡ taken_in limits.now (released ++ event_seen event.now ∷ [])) }
-    ensures fits { OnOk result ((released : List TheEvent) → course.old.taken ≡ taken_in limits.now released → course.old.most_objects ≡ limits.now.entities → full_of limits.now released ≡ None → full_of limits.now (released ++ event_seen event.now ∷ []) ≡ None) }
-    ensures full { (full : Full) → result ≡ Err (why.Full full) → (released : List TheEvent) → course.old.taken ≡ taken_in limits.now released → course.old.most_objects ≡ limits.now.entities → full_of limits.now released ≡ None → full_of limits.now (released ++ event_seen event.now ∷ []) ≡ Some full }
+) -> Result<Plan, StopWhy>
+    requires taken { (taken : List Taken) × HasTaken tables.old taken }
+    requires limits { HasLimits limits.now tables.old }
+    ensures same { (taken : List Taken) → HasTaken tables.old taken → HasTaken tables.new taken }
+    ensures limits { HasLimits limits.now tables.new }
+    ensures flows { flows.new.items ≡ flows.old.items }
+    ensures ready { IfOk result (λ plan. IsReady tables.new plan) }
+    ensures room { IfOk result (λ plan. vec_len flows.new + length plan.flows ≤ vec_capacity flows.new) }
+    ensures unmapped { IfOk result (λ plan. plan.unmapped ≡ is_unmapped (event_seen event.now)) }
+    ensures plan { IfOk result (λ plan. (taken : List Taken) → HasTaken tables.old taken → IsPlanOf text_of plan taken (turned_by limits.now (event_seen event.now))) }
+    ensures fits { IfOk result (λ plan. (taken : List Taken) → HasTaken tables.old taken → full_at limits.now.entities limits.now.flows (turned_by limits.now (event_seen event.now) ++ taken) ≡ None) }
+    ensures full { (full : Full) → result ≡ Err (why.Full full) → (taken : List Taken) → HasTaken tables.old taken → full_at limits.now.entities limits.now.flows (turned_by limits.now (event_seen event.now) ++ taken) ≡ Some full }
 {
-    counts.count(event);
-    let acts = acts_of(alloc, event, limits)?;
-    let turned = turn(alloc, acts)?;
-    match take_acts(course, turned, event.ms, event.key.serial) {
-        Ok(()) => look_at_flows(limits, course),
-        Err(why) => Err(why),
+    acts_are_few();
+    if tables.acts() >= MOST_ACTS || event.records.len() >= MOST_RECORDS {
+        return Err(StopWhy::NoMemory);
+    }
+    let plan = match tables.prepare(alloc, event, limits) {
+        Ok(plan) => plan,
+        Err(fault) => return Err(why_of(fault)),
+    };
+    if flows.reserve(plan.flows().len()).is_err() {
+        return Err(StopWhy::NoMemory);
+    }
+    Ok(plan)
+}
+
+// Does what was planned, for which there is room.
+fn follow_plan(tables: &mut Tables, flows: &mut Vec<Flow>, plan: Plan)
+    requires ready { IsReady tables.old plan }
+    requires room { vec_len flows.old + length plan.flows ≤ vec_capacity flows.old }
+    requires plan { (before now : List Taken) × (TablesStandFor text_of tables.old before × IsPlanOf text_of plan before now) }
+    ensures next { (before now : List Taken) → TablesStandFor text_of tables.old before → IsPlanOf text_of plan before now → TablesStandFor text_of tables.new (now ++ before) }
+    ensures flows { (before now : List Taken) → IsPlanOf text_of plan before now → flows.old.items ≡ flows_by before → flows.new.items ≡ flows_by (now ++ before) }
+    ensures limits { (limits : Limits) → HasLimits limits tables.old → HasLimits limits tables.new }
+{
+    let made = tables.apply(plan);
+    put_flows(flows, made.as_slice());
+}
+
+// Puts flows last, for which there is room.
+fn put_flows(flows: &mut Vec<Flow>, made: &[Flow])
+    requires room { vec_len flows.old + length made.now ≤ vec_capacity flows.old }
+    ensures { flows.new.items ≡ flows.old.items ++ made.now }
+{
+    for flow in made {
+        flows.push_reserved(*flow);
     }
 }
 
-// The same acts, turned round.
-fn turn(alloc: Global, acts: List<Act>) -> Result<List<Act>, NoMemory>
-    ensures { IfOk result (λ turned. turned ≡ reverse acts) }
+// Why an event was refused.
+fn why_of(refused: PrepareFault) -> StopWhy
+    ensures full { (full : Full) → result ≡ why.Full full → refused ≡ fault.Full full }
 {
-    let mut rest = acts;
-    let mut turned = List::new(alloc);
-    while let Some(act) = rest.pop() {
-        turned.push(act)?;
+    match refused {
+        PrepareFault::NoMemory => StopWhy::NoMemory,
+        PrepareFault::Full(full) => StopWhy::Full(full),
     }
-    Ok(turned)
-}
-
-// Takes the acts of an event, of which the last one is the oldest. They pass no limit but that of objects, which stay
-// once they are known.
-fn take_acts(course: &mut Plain, acts: List<Act>, ms: u64, serial: u32) -> Result<(), StopWhy>
-    requires none_opens { any_opens acts ≡ false }
-    requires bound { course.old.most_flows ≡ NO_BOUND }
-    requires rise { TimesNeverFall course.old.taken }
-    requires later { latest course.old.taken ≤ ms }
-    ensures most { (course.new.most_objects ≡ course.old.most_objects) × (course.new.most_flows ≡ NO_BOUND) }
-    ensures rise { TimesNeverFall course.new.taken }
-    ensures later { latest course.new.taken ≤ ms }
-    ensures acts { OnOk result (course.new.taken ≡ map (taken_at ms serial) acts ++ course.old.taken) }
-    ensures fits { OnOk result (length (objects (acts_of course.old.taken)) ≤ course.old.most_objects → length (objects (acts_of course.new.taken)) ≤ course.old.most_objects) }
-    ensures full { (full : Full) → result ≡ Err (why.Full full) → (course.old.most_objects < length (objects (acts_of (map (taken_at ms serial) acts ++ course.old.taken)))) × (full ≡ record { limit = limit.Entities; number = course.old.most_objects }) }
-{
-    let mut rest = acts;
-    while let Some(act) = rest.pop() {
-        match take_act(course, Taken { act, ms, serial }) {
-            Ok(()) => {}
-            Err(why) => return Err(why),
-        }
-    }
-    Ok(())
-}
-
-// Takes an act. It passes no limit but that of objects.
-fn take_act(course: &mut Plain, taken: Taken) -> Result<(), StopWhy>
-    requires none_opens { opens taken.act ≡ false }
-    requires bound { course.old.most_flows ≡ NO_BOUND }
-    ensures acts { OnOk result (course.new ≡ record course.old { taken = taken ∷ course.old.taken }) }
-    ensures fits { OnOk result (length (objects (acts_of course.new.taken)) ≤ course.old.most_objects) }
-    ensures full { (full : Full) → result ≡ Err (why.Full full) → (course.old.most_objects < length (objects (acts_of (taken ∷ course.old.taken)))) × (full ≡ record { limit = limit.Entities; number = course.old.most_objects }) }
-    ensures err { OnErr result (course.new ≡ course.old) }
-{
-    // There are fewer flows than memory has bytes.
-    let _few = course.flows().len();
-    match course.act(taken) {
-        Ok(()) => Ok(()),
-        Err(Refused::NoMemory) => Err(StopWhy::NoMemory),
-        Err(Refused::Full(full)) => Err(StopWhy::Full(full)),
-    }
-}
-
-// Stops where there are more flows than there may be.
-fn look_at_flows(limits: &Limits, course: &Plain) -> Result<(), StopWhy>
-    ensures fits { OnOk result (length (flows course.now.taken) ≤ limits.now.flows) }
-    ensures full { IfErr result (λ e. (limits.now.flows < length (flows course.now.taken)) × (e ≡ why.Full (record { limit = limit.Flows; number = limits.now.flows }))) }
-{
-    if course.flows().len() as u64 > limits.flows {
-        return Err(StopWhy::Full(Full {
-            limit: Limit::Flows,
-            number: limits.flows,
-        }));
-    }
-    Ok(())
 }

@@ -1,5 +1,5 @@
 //! What the definitions promise.
-ghost use Rattle.std.specs.Prelude.{◌≡◌, ◌↔◌, ◌≤◌, ◌++◌, ℕ, List, Some, length};
+ghost use Rattle.std.specs.Prelude.{◌≡◌, ◌↔◌, ◌≤◌, ◌++◌, ℕ, List, Some, None, length};
 ghost use Rattle.flow_base.specs.declared.limits.Full.{Full};
 ghost use Rattle.flow_base.specs.declared.limits.Limits.{Limits};
 ghost use Rattle.audit_lex.specs.History.{History};
@@ -7,6 +7,12 @@ ghost use Rattle.audit_record.specs.Records.{Spells};
 ghost use Rattle.audit_record.specs.declared.types.Record.{Record};
 ghost use Rattle.ingest.specs.LineRecords.{record_of};
 ghost use Rattle.ingest.specs.Stops.{Fits, Stops};
+ghost use Rattle.ingest.specs.Parts.{Engine};
+ghost use Rattle.ingest.specs.StandsFor.{StandsFor};
+ghost use Rattle.ingest.specs.Owing.{MayOwe};
+ghost use Rattle.record_join.specs.Events.{next_event};
+
+use record_join::releases_end;
 
 /// What has stopped stays stopped at that limit, whatever comes later.
 pub fn stops_stay()
@@ -26,4 +32,16 @@ pub fn fronts_fit()
 /// The record of a line is the one that it spells, where it isn't too long.
 pub fn lines_spell_records()
     ensures { (limit : ℕ) (line : List ℕ) (made : Record) → (record_of limit line ≡ Some made) ↔ ((length line ≤ limit) × Spells line made) }
+{}
+
+/// An engine that stands for a history owes nothing of it.
+pub fn what_stands_owes_nothing()
+    ensures { (limits : Limits) (engine : Engine) (h : History) → StandsFor limits engine h → (w : MayOwe limits engine h) × (next_event limits w.rest ≡ None) }
+{
+    releases_end();
+}
+
+/// An engine that owes nothing of a history stands for it.
+pub fn what_owes_nothing_stands()
+    ensures { (limits : Limits) (engine : Engine) (h : History) (w : MayOwe limits engine h) → next_event limits w.rest ≡ None → StandsFor limits engine h }
 {}

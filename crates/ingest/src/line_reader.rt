@@ -1,23 +1,22 @@
 //! The lines of a log: cut, counted and read.
-ghost use Rattle.std.specs.Prelude.{◌≡◌, ◌≤◌, ◌<◌, ◌+◌, ◌-◌, ◌^◌, ◌++◌, ◌∷◌, [], ℕ, List, map, length, take, IfOk, OnErr, option_map};
-ghost use Rattle.std.specs.Option.{option_to_list};
+//!
+//! A line that came whole is read where it stands. Only a line that began in an earlier piece is held.
+ghost use Rattle.std.specs.Prelude.{◌≡◌, ◌≤◌, ◌<◌, ◌+◌, ◌⊎◌, ◌^◌, ◌++◌, ◌∷◌, [], ℕ, List, None, Some, true, false, length, IfOk, OnOk, OnErr};
+ghost use Rattle.std.specs.List.{position_or_len};
+ghost use Rattle.memchr.specs.Find.{is_byte};
 ghost use Rattle.flow_base.specs.declared.limits.Limits.{Limits};
-ghost use Rattle.audit_lex.specs.History.{History, Byte, Settle, with_bytes};
+ghost use Rattle.audit_record.specs.declared.types.Record.{Record as TheRecord};
+ghost use Rattle.audit_lex.specs.History.{History, Settle, with_bytes, lines_of, tail_of};
 ghost use Rattle.audit_lex.specs.Lexing.{class_seen, LendsLine};
-ghost use Rattle.audit_lex.specs.LineClass.{class_of};
-ghost use Rattle.audit_lex.specs.LineCut.{line_of};
-ghost use Rattle.record_join.specs.History.{Came};
+ghost use Rattle.audit_lex.specs.LineClass.{Blank, class_of};
+ghost use Rattle.audit_lex.specs.LineCut.{StandsFor as CutStandsFor};
 ghost use Rattle.ingest.specs.Counting.{tally_of_lines, total};
-ghost use Rattle.ingest.specs.Events.{line_tells, lines_tell, lines_since, tells_after};
 ghost use Rattle.ingest.specs.LineRecords.{record_of};
-ghost use Rattle.ingest.specs.StandsFor.{ReaderStandsFor};
+ghost use Rattle.ingest.specs.StandsFor.{ReaderStandsFor, HasNoTail};
 
-use audit_lex::{
-    Lexed, Line, LineCut, LineFault, Tally, lex, line_feeds_end_lines, lines_are_counted,
-    lines_stay,
-};
+use audit_lex::{Lexed, LineCut, LineFault, Tally, lex};
 use audit_record::{Record, one_record_a_line, read_record};
-use flow_base::{Limits, NoMemory};
+use flow_base::{Bytes, Limits, NoMemory};
 use std::alloc::Global;
 use std::marker::Model;
 
@@ -86,93 +85,147 @@ impl LineReader {
         &self.tally
     }
 
-    /// Takes bytes of the piece up to and with a line feed, and gives the record of the line that they end. It says how
-    /// many bytes it took.
-    pub fn take(&mut self, piece: &[u8]) -> Result<(usize, Option<Record>), NoMemory>
-        requires room { self.old.bytes + length piece.now ≤ self.old.limits.input }
-        ensures within { IfOk result (λ r. r.0 ≤ length piece.now) }
-        ensures some { IfOk result (λ r. 0 < length piece.now → 0 < r.0) }
-        ensures bytes { IfOk result (λ r. self.new.bytes ≡ self.old.bytes + r.0) }
-        ensures limits { IfOk result (λ _. self.new.limits ≡ self.old.limits) }
-        ensures stands { IfOk result (λ r. (limits : Limits) (h : History) → ReaderStandsFor limits self.old h → ReaderStandsFor limits self.new (with_bytes h (take r.0 piece.now))) }
-        ensures tells { IfOk result (λ r. (limits : Limits) (h : History) → ReaderStandsFor limits self.old h → tells_after limits h (map Byte (take r.0 piece.now)) ≡ map Came (option_to_list r.1)) }
-        ensures quiet { IfOk result (λ r. (limits : Limits) (h : History) → tells_after limits h (map Byte (take (r.0 - 1) piece.now)) ≡ []) }
+    /// Whether no byte of a line has come.
+    pub fn is_between_lines(&self) -> bool
+        ensures yes { result ≡ true → HasNoTail self.now }
+        ensures no { result ≡ false → HasNoTail self.now → ⊥ }
     {
-        let (count, line) = self.cut.next(piece)?;
+        self.cut.tail().is_empty() && !self.cut.long()
+    }
+
+    /// Takes bytes without a line feed. Where no memory is found nothing has changed.
+    pub fn hold(&mut self, part: &[u8]) -> Result<(), NoMemory>
+        requires room { self.old.bytes + length part.now ≤ self.old.limits.input }
+        requires no_feed { position_or_len (is_byte 10) part.now ≡ length part.now }
+        ensures limits { self.new.limits ≡ self.old.limits }
+        ensures bytes { OnOk result (self.new.bytes ≡ self.old.bytes + length part.now) }
+        ensures stands { OnOk result ((limits : Limits) (h : History) → ReaderStandsFor limits self.old h → ReaderStandsFor limits self.new (with_bytes h part.now)) }
+        ensures err { OnErr result (self.new ≡ self.old) }
+    {
+        let (count, _) = self.cut.next(part)?;
         self.bytes += count as u64;
-        match line {
-            None => Ok((count, None)),
-            Some(line) => {
-                let item = read_line(self.alloc, &self.limits, &mut self.tally, &line)?;
-                Ok((count, item))
-            }
-        }
+        Ok(())
     }
 
-    /// Ends the tail as a line, where it has a byte, and gives its record.
-    pub fn end(&mut self) -> Result<Option<Record>, NoMemory>
-        ensures limits { IfOk result (λ _. self.new.limits ≡ self.old.limits) }
-        ensures stands { IfOk result (λ _. (limits : Limits) (h : History) → ReaderStandsFor limits self.old h → ReaderStandsFor limits self.new (h ++ Settle ∷ [])) }
-        ensures tells { IfOk result (λ r. (limits : Limits) (h : History) → ReaderStandsFor limits self.old h → lines_tell limits (lines_since h (h ++ Settle ∷ [])) ≡ map Came (option_to_list r)) }
+    /// The record of the line that ends with these bytes, where it is a used one. A line that has begun was held whole.
+    pub fn read(&self, part: &[u8]) -> Result<Option<Record>, NoMemory>
+        requires no_feed { position_or_len (is_byte 10) part.now ≡ length part.now }
+        requires whole { HasNoTail self.now ⊎ (part.now ≡ []) }
+        ensures reads { IfOk result (λ r. (limits : Limits) (h : History) → ReaderStandsFor limits self.now h → r ≡ record_of limits.line (tail_of h ++ part.now)) }
+        ensures nothing { HasNoTail self.now → part.now ≡ [] → IfOk result (λ r. r ≡ None) }
     {
-        match self.cut.finish() {
-            None => Ok(None),
-            Some(line) => {
-                let item = read_line(self.alloc, &self.limits, &mut self.tally, &line)?;
-                Ok(item)
-            }
+        let class = class_of_line(&self.cut, part, self.limits.line);
+        record_by(self.alloc, &class)
+    }
+
+    /// Ends a used line with these bytes and a line feed.
+    pub fn end_used(&mut self, part: &[u8])
+        requires room { self.old.bytes + (length part.now + 1) ≤ self.old.limits.input }
+        requires no_feed { position_or_len (is_byte 10) part.now ≡ length part.now }
+        requires whole { HasNoTail self.old ⊎ (part.now ≡ []) }
+        ensures limits { self.new.limits ≡ self.old.limits }
+        ensures bytes { self.new.bytes ≡ self.old.bytes + (length part.now + 1) }
+        ensures stands { (limits : Limits) (h : History) (item : TheRecord) → ReaderStandsFor limits self.old h → record_of limits.line (tail_of h ++ part.now) ≡ Some item
+            → ReaderStandsFor limits self.new (with_bytes h (part.now ++ 10 ∷ [])) }
+    {
+        self.tally.used += 1;
+        self.bytes += part.len() as u64 + 1;
+        self.cut = after_line(self.alloc, &self.cut, self.limits.line);
+    }
+
+    /// Ends a line that isn't used with these bytes and a line feed. Where no memory is found nothing has changed.
+    pub fn end_other(&mut self, part: &[u8]) -> Result<(), NoMemory>
+        requires room { self.old.bytes + (length part.now + 1) ≤ self.old.limits.input }
+        requires no_feed { position_or_len (is_byte 10) part.now ≡ length part.now }
+        requires whole { HasNoTail self.old ⊎ (part.now ≡ []) }
+        ensures limits { self.new.limits ≡ self.old.limits }
+        ensures bytes { OnOk result (self.new.bytes ≡ self.old.bytes + (length part.now + 1)) }
+        ensures stands { OnOk result ((limits : Limits) (h : History) → ReaderStandsFor limits self.old h → record_of limits.line (tail_of h ++ part.now) ≡ None
+            → ReaderStandsFor limits self.new (with_bytes h (part.now ++ 10 ∷ []))) }
+        ensures err { OnErr result (self.new ≡ self.old) }
+    {
+        count_line(&self.limits, &self.cut, part, &mut self.tally)?;
+        self.bytes += part.len() as u64 + 1;
+        self.cut = after_line(self.alloc, &self.cut, self.limits.line);
+        Ok(())
+    }
+
+    /// Ends a used last line, which has no line feed.
+    pub fn settle_used(&mut self)
+        requires begun { HasNoTail self.old → ⊥ }
+        ensures limits { self.new.limits ≡ self.old.limits }
+        ensures bytes { self.new.bytes ≡ self.old.bytes }
+        ensures stands { (limits : Limits) (h : History) (item : TheRecord) → ReaderStandsFor limits self.old h → record_of limits.line (tail_of h) ≡ Some item
+            → ReaderStandsFor limits self.new (h ++ Settle ∷ []) }
+    {
+        self.tally.used += 1;
+        self.cut = after_line(self.alloc, &self.cut, self.limits.line);
+    }
+
+    /// Ends another last line, where it has a byte. Where no memory is found nothing has changed.
+    pub fn settle_other(&mut self) -> Result<(), NoMemory>
+        ensures limits { self.new.limits ≡ self.old.limits }
+        ensures bytes { self.new.bytes ≡ self.old.bytes }
+        ensures stands { OnOk result ((limits : Limits) (h : History) → ReaderStandsFor limits self.old h → record_of limits.line (tail_of h) ≡ None
+            → ReaderStandsFor limits self.new (h ++ Settle ∷ [])) }
+        ensures err { OnErr result (self.new ≡ self.old) }
+    {
+        if self.is_between_lines() {
+            return Ok(());
         }
+        count_line(&self.limits, &self.cut, &[], &mut self.tally)?;
+        self.cut = after_line(self.alloc, &self.cut, self.limits.line);
+        Ok(())
     }
 }
 
-// Counts a line that has ended, and reads its record where it is used.
-fn read_line(
-    alloc: Global,
-    limits: &Limits,
-    tally: &mut Tally,
-    line: &Line,
-) -> Result<Option<Record>, NoMemory>
-    requires { total tally.old < 2 ^ 60 }
-    ensures total { total tally.new ≤ total tally.old + 1 }
-    ensures counted { (before : List (List ℕ)) (text : List ℕ) → tally.old ≡ tally_of_lines limits.now before → line.now ≡ line_of limits.now.line (length before + 1) text
-        → IfOk result (λ _. tally.new ≡ tally_of_lines limits.now (before ++ text ∷ [])) }
-    ensures reads { (number : ℕ) (text : List ℕ) → line.now ≡ line_of limits.now.line number text → IfOk result (λ r. r ≡ record_of limits.now.line text) }
+// A cutter that has given one more line, and holds nothing.
+fn after_line(alloc: Global, cut: &LineCut, limit: usize) -> LineCut
+    requires { cut.now.lines < 2 ^ 61 }
+    ensures { result ≡ record { limit = limit; lines = cut.now.lines + 1; tail = []; long = false } }
 {
-    let class = class_of_line(line, limits.line);
-    count_line(limits, tally, line.number, &class)?;
-    record_by(alloc, &class)
+    LineCut::resume(limit, cut.lines() + 1, Bytes::new(alloc), false)
 }
 
-// The class of a line. One that is too long came without its text.
-fn class_of_line(line: &Line, limit: usize) -> Lexed<'_>
-    ensures class { (number : ℕ) (text : List ℕ) → line.now ≡ line_of limit number text → class_seen result ≡ class_of limit text }
-    ensures lends { (number : ℕ) (text : List ℕ) → line.now ≡ line_of limit number text → LendsLine result text }
-{
-    if line.long {
-        return Lexed::Malformed(LineFault::TooLong);
-    }
-    lex(line.text.as_slice(), limit)
-}
-
-// Counts a line of this class.
+// Counts the line that ends with these bytes. Where no memory is found nothing has changed.
 fn count_line(
     limits: &Limits,
+    cut: &LineCut,
+    part: &[u8],
     tally: &mut Tally,
-    number: u64,
-    class: &Lexed<'_>,
 ) -> Result<(), NoMemory>
-    requires { total tally.old < 2 ^ 60 }
-    ensures total { total tally.new ≤ total tally.old + 1 }
-    ensures counted { (before : List (List ℕ)) (text : List ℕ) → tally.old ≡ tally_of_lines limits.now before → number ≡ length before + 1 → class_seen class.now ≡ class_of limits.now.line text
-        → IfOk result (λ _. tally.new ≡ tally_of_lines limits.now (before ++ text ∷ [])) }
+    requires whole { ((cut.now.tail ≡ []) × (cut.now.long ≡ false)) ⊎ (part.now ≡ []) }
+    requires lines { cut.now.lines < 2 ^ 60 }
+    requires room { total tally.old < 2 ^ 60 }
+    ensures one { OnOk result (total tally.new ≡ total tally.old + 1) }
+    ensures counted { OnOk result ((h : History) → CutStandsFor cut.now h → cut.now.limit ≡ limits.now.line → tally.old ≡ tally_of_lines limits.now (lines_of h)
+        → tally.new ≡ tally_of_lines limits.now (lines_of h ++ (tail_of h ++ part.now) ∷ [])) }
+    ensures err { OnErr result (tally.new ≡ tally.old) }
 {
-    lines_are_counted();
-    tally.count(number, class, limits.shown)
+    let class = class_of_line(cut, part, limits.line);
+    tally.count(cut.lines() + 1, &class, limits.shown)
+}
+
+// The class of the line that ends with these bytes. One that is too long is held without its text.
+fn class_of_line<'a>(cut: &'a LineCut, part: &'a [u8], limit: usize) -> Lexed<'a>
+    requires whole { ((cut.now.tail ≡ []) × (cut.now.long ≡ false)) ⊎ (part.now ≡ []) }
+    ensures class { (h : History) → CutStandsFor cut.now h → cut.now.limit ≡ limit → class_seen result ≡ class_of limit (tail_of h ++ part.now) }
+    ensures lends { (h : History) → CutStandsFor cut.now h → cut.now.limit ≡ limit → LendsLine result (tail_of h ++ part.now) }
+    ensures nothing { cut.now.tail ≡ [] → cut.now.long ≡ false → part.now ≡ [] → class_seen result ≡ Blank }
+{
+    if cut.long() {
+        return Lexed::Malformed(LineFault::TooLong);
+    }
+    if cut.tail().is_empty() {
+        return lex(part, limit);
+    }
+    lex(cut.tail(), limit)
 }
 
 // The record of a used line.
 fn record_by(alloc: Global, class: &Lexed<'_>) -> Result<Option<Record>, NoMemory>
-    ensures { (limit : ℕ) (text : List ℕ) → class_seen class.now ≡ class_of limit text → LendsLine class.now text → IfOk result (λ r. r ≡ record_of limit text) }
+    ensures reads { (limit : ℕ) (text : List ℕ) → class_seen class.now ≡ class_of limit text → LendsLine class.now text → IfOk result (λ r. r ≡ record_of limit text) }
+    ensures nothing { class_seen class.now ≡ Blank → IfOk result (λ r. r ≡ None) }
 {
     one_record_a_line();
     match class {

@@ -3,7 +3,6 @@ ghost use Rattle.std.specs.Prelude.{◌≡◌, ◌<◌, ℕ, List, length, IfOk}
 ghost use Rattle.flow_base.specs.declared.limits.Limits.{Limits};
 ghost use Rattle.audit_lex.specs.History.{History};
 ghost use Rattle.record_join.specs.Events.{Joining, count_keys};
-ghost use Rattle.acts.specs.Flows.{acts_of, flows, objects};
 ghost use Rattle.report_json.specs.declared.reply.Reply.TheVariants as reply;
 ghost use Rattle.ingest.specs.Replies.{AnswersBack, counts_of};
 ghost use Rattle.ingest.specs.StandsFor.{ReaderStandsFor, JoinedStandsFor};
@@ -23,7 +22,7 @@ pub fn answer_back(
     of: EntityId,
     until: Option<u64>,
 ) -> Result<Reply, NoMemory>
-    ensures { IfOk result (AnswersBack (length (objects (acts_of joined.now.course.taken))) (flows joined.now.course.taken) of until) }
+    ensures { IfOk result (AnswersBack (length joined.now.tables.entities.keys) joined.now.flows of until) }
 {
     let known = joined.known();
     if of.0 >= known {

@@ -1,23 +1,44 @@
-use Rattle.std.proofs.Common.{◌≡◌, ◌≤◌, ◌<◌, ◌+◌, ◌-◌, ◌∙◌, sym, ap, subst, arith, length, take, ℕ}
-use Rattle.flow_base.specs.declared.limits.Limits.{Limits}
-use Rattle.ingest.specs.Counting.{bytes_in}
-use Rattle.ingest.proofs.EngineSteps.{engine_own}
-use Rattle.ingest.proofs.StopLemmas.{stop_front, stop_full}
+use Rattle.std.proofs.Common.{◌≡◌}
+use Rattle.ingest.proofs.Answered.{on_ok_so, if_err_so, by_err}
+use Rattle.ingest.proofs.EngineSteps.{owes_own, at_rest, all_released, still_owes, engine_of, Takes, StopsIn, HaltsIn}
+use Rattle.ingest.proofs.StopLemmas.{stop_before, halts_before}
 use Rattle.ingest.proofs.engine.Ingest.feed.Goals as goal
-use Rattle.ingest.proofs.engine.Ingest.feed.Goals.{in-Ok, in-Err}
 
-pub returns-clause-stop : goal.returns-clause-stop
-returns-clause-stop c =
-    elim c.match-feed_within.branch [
-      | in-Ok w ↦ rw w.result-is (λ limits h stands.
-          let own = engine_own limits _ _ h c.self.view_is stands in
-          let after = w.in-Ok.ensures.ok limits h stands in
-          let late = engine_own limits _ _ _ c.self-2.view_is after in
-          let most : c.most.result ≡ limits.input = c.most.ensures.most ∙ ap (λ (l : Limits). l.input) own.reader.limits_are in
-          let bytes : c.bytes.result ≡ bytes_in h = c.bytes.ensures ∙ own.reader.bytes in
-          let again : w.most-in-Ok.result ≡ limits.input = w.most-in-Ok.ensures.most ∙ ap (λ (l : Limits). l.input) late.reader.limits_are in
-          let fits = own.fits.input in
-          stop_full limits h c.args.piece.now (c.most.result - c.bytes.result) w.most-in-Ok.result c.if-piece-room.false (omega (arith, most, bytes, fits)) again after.fits)
-      | in-Err w ↦ rw w.result-is (λ limits h stands.
-          stop_front limits h c.args.piece.now (c.most.result - c.bytes.result) w.in-Err.stop (omega (arith, c.if-piece-room.false)) (w.in-Err.ensures.stop limits h stands))
-    ]
+pub returns-in-Ok-clause-ok : goal.returns-in-Ok-clause-ok
+returns-in-Ok-clause-ok c =
+    on_ok_so c.feed_bounded.result (Takes (engine_of c.self.inside.reader c.release.new.self) c.feed_bounded.new.self c.args.piece.now) _ (λ takes limits h stands.
+        takes limits h (all_released limits _ _ _ h (owes_own limits _ _ h c.self.view_is (at_rest limits _ h stands)) (c.in-Ok.ensures.ok limits)))
+    c.feed_bounded.ensures.ok
+
+pub returns-in-Ok-clause-again : goal.returns-in-Ok-clause-again
+returns-in-Ok-clause-again c =
+    on_ok_so c.feed_bounded.result (Takes (engine_of c.self.inside.reader c.release.new.self) c.feed_bounded.new.self c.args.piece.now) _ (λ takes limits h w.
+        takes limits h (all_released limits _ _ _ h (owes_own limits _ _ h c.self.view_is w) (c.in-Ok.ensures.ok limits)))
+    c.feed_bounded.ensures.ok
+
+pub returns-in-Ok-clause-stop : goal.returns-in-Ok-clause-stop
+returns-in-Ok-clause-stop c =
+    if_err_so c.feed_bounded.result (StopsIn (engine_of c.self.inside.reader c.release.new.self) c.args.piece.now) _ (λ stop stops limits h stands.
+        stops limits h (all_released limits _ _ _ h (owes_own limits _ _ h c.self.view_is (at_rest limits _ h stands)) (c.in-Ok.ensures.ok limits)))
+    c.feed_bounded.ensures.stop
+
+pub returns-in-Ok-clause-halts : goal.returns-in-Ok-clause-halts
+returns-in-Ok-clause-halts c =
+    if_err_so c.feed_bounded.result (HaltsIn (engine_of c.self.inside.reader c.release.new.self) c.feed_bounded.new.self c.args.piece.now) _ (λ stop halts limits h w.
+        halts limits h (all_released limits _ _ _ h (owes_own limits _ _ h c.self.view_is w) (c.in-Ok.ensures.ok limits)))
+    c.feed_bounded.ensures.halts
+
+pub returns-in-Ok-clause-owed_first : goal.returns-in-Ok-clause-owed_first
+returns-in-Ok-clause-owed_first c =
+    by_err c.feed_bounded.result _ (λ stop limits h w some.
+        (all_released limits _ _ _ h (owes_own limits _ _ h c.self.view_is w) (c.in-Ok.ensures.ok limits)).fits)
+
+pub returns-in-Err-clause-stop : goal.returns-in-Err-clause-stop
+returns-in-Err-clause-stop c = λ limits h stands.
+    let owes = owes_own limits _ _ h c.self.view_is (at_rest limits _ h stands) in
+    stop_before limits _ h c.args.piece.now c.in-Err.why stands.fits (still_owes limits _ _ _ h c.in-Err.why owes (c.in-Err.ensures.owed limits))
+
+pub returns-in-Err-clause-halts : goal.returns-in-Err-clause-halts
+returns-in-Err-clause-halts c = λ limits h w.
+    let owes = owes_own limits _ _ h c.self.view_is w in
+    halts_before limits _ h c.args.piece.now c.in-Err.why (still_owes limits _ _ _ h c.in-Err.why owes (c.in-Err.ensures.owed limits))

@@ -1,31 +1,70 @@
-use Rattle.std.proofs.Common.{◌≡◌, ◌∙◌, sym, refl, ap, Err}
-use Rattle.ingest.proofs.EngineSteps.{engine_own, room_so, line_none, line_some, few_now, tells_item}
-use Rattle.ingest.proofs.StopLemmas.{stop_line}
+use Rattle.std.proofs.Common.{◌≡◌, ◌≤◌, ◌<◌, ◌+◌, sym, subst, arith, List, ℕ, take, length}
+use Rattle.std.proofs.lemmas.Result.{err_from_is_err_and}
+use Rattle.audit_lex.specs.History.{History, with_bytes}
+use Rattle.audit_lex.proofs.HistoryLemmas.{none_before, with_feed}
+use Rattle.ingest.specs.Owing.{Halts}
+use Rattle.ingest.specs.StandsFor.{StandsFor}
+use Rattle.ingest.specs.Stops.{StopsFor}
+use Rattle.ingest.specs.declared.stop.Stop.{Stop}
+use Rattle.ingest.proofs.EngineSteps.{engine_own, at_rest}
+use Rattle.ingest.proofs.StopLemmas.{feed_taken, stop_whole, halts_whole, stop_feed, halts_feed, halts_memory}
 use Rattle.ingest.proofs.engine.Ingest.feed_line.Goals as goal
-use Rattle.ingest.proofs.engine.Ingest.feed_line.Goals.{in-Ok, in-Err-came}
 
-pub returns-in-Ok-default-None-clause-ok : goal.returns-in-Ok-default-None-clause-ok
-returns-in-Ok-default-None-clause-ok c = λ limits h stands.
-    let r = c.in-Ok-default-None.ensures in
-    line_none limits _ _ _ h c.args.piece.now c.in-Ok-default-None.count c.in-Ok-default-None.field-0-1 c.self.view_is c.in-Ok-default-None.field-0-1-is r.within c.requires.room refl (r.stands limits h) (r.tells limits h) stands
+pub hold-requires-clause-no_feed : goal.hold-requires-clause-no_feed
+hold-requires-clause-no_feed c = none_before c.args.piece.now c.end_of_line-end.result c.end_of_line-end.ensures.place
 
-pub returns-after-came-clause-ok : goal.returns-after-came-clause-ok
-returns-after-came-clause-ok c =
-    elim c.match-came.branch [
-      | in-Ok w ↦ rw w.result-is (λ limits h stands.
-          let r = c.in-Ok-default-Some.ensures in
-          line_some limits _ _ _ h c.args.piece.now c.in-Ok-default-Some.count c.in-Ok-default-Some.field-0-1 c.in-Ok-default-Some.item c.self.view_is c.in-Ok-default-Some.field-0-1-is r.within c.requires.room (r.stands limits h) (r.tells limits h) w.in-Ok.ensures.ok stands)
-      | in-Err-came w ↦ rw w.result-is tt
-    ]
+pub returns-in_err-hold-clause-halts : goal.returns-in_err-hold-clause-halts
+returns-in_err-hold-clause-halts c =
+    let p = err_from_is_err_and c.from_residual.result c.from_residual.ensures.1 in
+    rw (p.1, p.2, c.in_err-hold.ensures.none) (λ limits h stands.
+        halts_memory limits _ h c.args.piece.now (at_rest limits _ h (engine_own limits _ _ h c.in_err-hold.ensures.err stands)))
 
-pub returns-after-came-clause-stop : goal.returns-after-came-clause-stop
-returns-after-came-clause-stop c =
-    elim c.match-came.branch [
-      | in-Ok w ↦ rw w.result-is tt
-      | in-Err-came w ↦ rw w.result-is (λ limits h stands.
-          let r = c.in-Ok-default-Some.ensures in
-          let own = engine_own limits _ _ h c.self.view_is stands in
-          stop_line limits h c.args.piece.now c.in-Ok-default-Some.count c.in-Ok-default-Some.item w.in-Err-came.why r.within own.fits (room_so limits _ h _ stands.reader c.requires.room)
-          (r.quiet limits h) (tells_item c.in-Ok-default-Some.field-0-1 c.in-Ok-default-Some.item _ c.in-Ok-default-Some.field-0-1-is (r.tells limits h own.reader))
-          (λ full is. w.in-Err-came.ensures.full full (ap Err is) limits _ _ own.joined (few_now limits h own.fits.input)))
-    ]
+pub returns-in-Ok-clause-ok : goal.returns-in-Ok-clause-ok
+returns-in-Ok-clause-ok c = λ limits h stands.
+    let end = c.end_of_line-end.result in
+    let piece = c.args.piece.now in
+    let below : end < length piece = omega (arith, c.end_of_line-end.ensures.within, c.if-end-piece-2.false) in
+    subst (λ (g : History). StandsFor limits c.end_line.new.self g) (feed_taken limits h piece end c.end_of_line-end.ensures.place below)
+    (c.in-Ok.ensures.ok limits (with_bytes h (take end piece)) (c.in_ok-hold.ensures.ok limits h stands))
+
+pub returns-in-Err-clause-stop : goal.returns-in-Err-clause-stop
+returns-in-Err-clause-stop c = λ limits h stands.
+    let end = c.end_of_line-end.result in
+    let piece = c.args.piece.now in
+    let below : end < length piece = omega (arith, c.end_of_line-end.ensures.within, c.if-end-piece-2.false) in
+    subst (λ (s : Stop). StopsFor limits h piece s) (sym c.later.ensures)
+    (stop_feed limits h piece end c.in-Err.stop c.end_of_line-end.ensures.place below (c.in-Err.ensures.stop limits (with_bytes h (take end piece)) (c.in_ok-hold.ensures.ok limits h stands)))
+
+pub returns-in-Err-clause-halts : goal.returns-in-Err-clause-halts
+returns-in-Err-clause-halts c = λ limits h stands.
+    let end = c.end_of_line-end.result in
+    let piece = c.args.piece.now in
+    let below : end < length piece = omega (arith, c.end_of_line-end.ensures.within, c.if-end-piece-2.false) in
+    subst (λ (s : Stop). Halts limits c.end_line.new.self h piece s) (sym c.later.ensures)
+    (halts_feed limits c.end_line.new.self h piece end c.in-Err.stop c.end_of_line-end.ensures.place below (c.in-Err.ensures.halts limits (with_bytes h (take end piece)) (c.in_ok-hold.ensures.ok limits h stands)))
+
+pub end_line-requires-2-clause-no_feed : goal.end_line-requires-2-clause-no_feed
+end_line-requires-2-clause-no_feed c = none_before c.args.piece.now c.end_of_line-end.result c.end_of_line-end.ensures.place
+
+pub returns-in_err-end_line-clause-stop : goal.returns-in_err-end_line-clause-stop
+returns-in_err-end_line-clause-stop c =
+    let end = c.end_of_line-end.result in
+    let below : end < length c.args.piece.now = omega (arith, c.end_of_line-end.ensures.within, c.if-end-piece.false) in
+    let p = err_from_is_err_and c.from_residual-in_err-end_line.result c.from_residual-in_err-end_line.ensures.1 in
+    rw (p.1, p.2) (λ limits h stands.
+        stop_whole limits h c.args.piece.now end _ c.end_of_line-end.ensures.place below (c.in_err-end_line.ensures.stop limits h stands))
+
+pub returns-in_err-end_line-clause-halts : goal.returns-in_err-end_line-clause-halts
+returns-in_err-end_line-clause-halts c =
+    let end = c.end_of_line-end.result in
+    let below : end < length c.args.piece.now = omega (arith, c.end_of_line-end.ensures.within, c.if-end-piece.false) in
+    let p = err_from_is_err_and c.from_residual-in_err-end_line.result c.from_residual-in_err-end_line.ensures.1 in
+    rw (p.1, p.2) (λ limits h stands.
+        halts_whole limits _ h c.args.piece.now end _ c.end_of_line-end.ensures.place below (c.in_err-end_line.ensures.halts limits h stands))
+
+pub returns-clause-ok : goal.returns-clause-ok
+returns-clause-ok c = λ limits h stands.
+    let end = c.end_of_line-end.result in
+    let below : end < length c.args.piece.now = omega (arith, c.end_of_line-end.ensures.within, c.if-end-piece.false) in
+    subst (λ (l : List ℕ). StandsFor limits c.end_line-2.new.self (with_bytes h l)) (sym (with_feed c.args.piece.now end c.end_of_line-end.ensures.place below))
+    (c.in_ok-end_line.ensures.ok limits h stands)

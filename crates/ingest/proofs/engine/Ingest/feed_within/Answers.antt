@@ -1,10 +1,11 @@
 use Rattle.std.proofs.Common.{◌≡◌, ◌≤◌, ◌+◌, ◌∙◌, sym, ap, subst, arith, length, take, drop}
 use Rattle.std.proofs.lemmas.List.{take_rest, length-drop}
 use Rattle.audit_lex.specs.History.{History, with_bytes}
+use Rattle.ingest.specs.Owing.{Halts}
 use Rattle.ingest.specs.StandsFor.{StandsFor}
 use Rattle.ingest.specs.Stops.{StopsFor}
 use Rattle.ingest.specs.declared.stop.Stop.{Stop}
-use Rattle.ingest.proofs.StopLemmas.{more_taken, stop_later}
+use Rattle.ingest.proofs.StopLemmas.{more_taken, stop_later, halts_later}
 use Rattle.ingest.proofs.engine.Ingest.feed_within.Goals as goal
 
 pub loop-done-preserved : goal.loop-done-preserved
@@ -27,3 +28,11 @@ returns-in-Err-clause-stop c = λ limits h stands.
     let before = with_bytes h (take c.loop-done.done piece) in
     let here = rw (take_rest piece c.loop-done.done) at (c.in-Err.ensures.stop limits before (w.taken limits h stands)) in
     subst (λ (s : Stop). StopsFor limits h piece s) (sym c.later.ensures) (stop_later limits h piece c.loop-done.done c.in-Err.stop w.within here)
+
+pub returns-in-Err-clause-halts : goal.returns-in-Err-clause-halts
+returns-in-Err-clause-halts c = λ limits h stands.
+    let piece = c.args.piece.now in
+    let w = c.loop-done.invariant in
+    let before = with_bytes h (take c.loop-done.done piece) in
+    let here = rw (take_rest piece c.loop-done.done) at (c.in-Err.ensures.halts limits before (w.taken limits h stands)) in
+    subst (λ (s : Stop). Halts limits c.feed_line.new.self h piece s) (sym c.later.ensures) (halts_later limits c.feed_line.new.self h piece c.loop-done.done c.in-Err.stop w.within here)

@@ -1,21 +1,52 @@
-use Rattle.std.proofs.Common.{◌≡◌}
-use Rattle.ingest.proofs.EngineSteps.{settle_none_ok, settle_some_ok, settle_none_full, settle_first_full, settle_then_full}
+use Rattle.std.proofs.Common.{◌≡◌, ◌++◌, ◌∷◌, [], inl, inr}
+use Rattle.audit_lex.specs.History.{Settle}
+use Rattle.ingest.proofs.Answered.{on_ok_so, if_err_so, if_err, one_why}
+use Rattle.ingest.proofs.EngineSteps.{engine_own, owes_own, ends_own, at_rest, all_released, still_owes, closed_owes, never_full, settle_full, Releases, OwesSome}
 use Rattle.ingest.proofs.engine.Ingest.settle.Goals as goal
-
-pub returns-in-None-clause-ok : goal.returns-in-None-clause-ok
-returns-in-None-clause-ok c = settle_none_ok _ _ _ c.in_ok-end.field-0 c.self.view_is c.in_ok-end.ensures.stands c.in_ok-end.ensures.tells _ c.in-None.is c.settle.ensures.ok
-
-pub returns-in-None-clause-full : goal.returns-in-None-clause-full
-returns-in-None-clause-full c = λ full is limits h stands.
-    settle_none_full _ _ c.in_ok-end.field-0 c.self.view_is c.in_ok-end.ensures.tells limits h full c.in-None.is stands (c.settle.ensures.full full is limits)
-
-pub returns-in-Ok-clause-ok : goal.returns-in-Ok-clause-ok
-returns-in-Ok-clause-ok c = settle_some_ok _ _ _ c.in_ok-end.field-0 c.self.view_is c.in_ok-end.ensures.stands c.in_ok-end.ensures.tells _ _ c.in-Some.item c.in-Some.is c.in-Ok.ensures.ok c.settle-in-Ok.ensures.ok
-
-pub returns-in-Ok-clause-full : goal.returns-in-Ok-clause-full
-returns-in-Ok-clause-full c = λ full is limits h stands.
-    settle_then_full _ _ c.in_ok-end.field-0 c.self.view_is c.in_ok-end.ensures.tells limits h full _ c.in-Some.item c.in-Some.is c.in-Ok.ensures.ok stands (c.settle-in-Ok.ensures.full full is limits)
 
 pub returns-in-Err-clause-full : goal.returns-in-Err-clause-full
 returns-in-Err-clause-full c = λ full is limits h stands.
-    settle_first_full _ _ c.in_ok-end.field-0 c.self.view_is c.in_ok-end.ensures.tells limits h full c.in-Some.item c.in-Some.is stands (c.in-Err.ensures.full full is limits)
+    let owes = owes_own limits _ _ h c.self.view_is (at_rest limits _ h stands) in
+    absurd (never_full limits _ h c.in-Err.why full (one_why _ _ is) stands.fits (still_owes limits _ _ _ h c.in-Err.why owes (c.in-Err.ensures.owed limits)))
+
+pub returns-in-Err-clause-halts : goal.returns-in-Err-clause-halts
+returns-in-Err-clause-halts c = λ limits h w.
+    inl (still_owes limits _ _ _ h c.in-Err.why (owes_own limits _ _ h c.self.view_is w) (c.in-Err.ensures.owed limits))
+
+pub returns-in-Err-end_last-clause-halts : goal.returns-in-Err-end_last-clause-halts
+returns-in-Err-end_last-clause-halts c = λ limits h w.
+    let released = all_released limits _ _ _ h (owes_own limits _ _ h c.self.view_is w) (c.in-Ok.ensures.ok limits) in
+    inl (record { stands = at_rest limits _ h (engine_own limits _ _ h c.in-Err-end_last.ensures.err released); by = tt })
+
+pub returns-clause-ok : goal.returns-clause-ok
+returns-clause-ok c =
+    on_ok_so c.release-2.result (Releases c.close.new.self c.release-2.new.self) _ (λ releases limits h stands.
+        let released = all_released limits _ _ _ h (owes_own limits _ _ h c.self.view_is (at_rest limits _ h stands)) (c.in-Ok.ensures.ok limits) in
+        let last = ends_own limits _ _ h c.self-2.view_is (c.in-Ok-end_last.ensures.ok limits h released) in
+        all_released limits _ _ _ (h ++ Settle ∷ []) (closed_owes limits _ _ _ h released.fits.input last (c.close.ensures limits)) (releases limits))
+    c.release-2.ensures.ok
+
+pub returns-clause-again : goal.returns-clause-again
+returns-clause-again c =
+    on_ok_so c.release-2.result (Releases c.close.new.self c.release-2.new.self) _ (λ releases limits h w.
+        let released = all_released limits _ _ _ h (owes_own limits _ _ h c.self.view_is w) (c.in-Ok.ensures.ok limits) in
+        let last = ends_own limits _ _ h c.self-2.view_is (c.in-Ok-end_last.ensures.ok limits h released) in
+        all_released limits _ _ _ (h ++ Settle ∷ []) (closed_owes limits _ _ _ h released.fits.input last (c.close.ensures limits)) (releases limits))
+    c.release-2.ensures.ok
+
+pub returns-clause-full : goal.returns-clause-full
+returns-clause-full c = λ full is limits h stands.
+    let released = all_released limits _ _ _ h (owes_own limits _ _ h c.self.view_is (at_rest limits _ h stands)) (c.in-Ok.ensures.ok limits) in
+    let last = ends_own limits _ _ h c.self-2.view_is (c.in-Ok-end_last.ensures.ok limits h released) in
+    let owes = closed_owes limits _ _ _ h released.fits.input last (c.close.ensures limits) in
+    let owed = if_err c.release-2.result _ (OwesSome c.close.new.self c.release-2.new.self) is c.release-2.ensures.owed in
+    settle_full limits _ h full released.fits (still_owes limits _ _ c.release-2.new.self (h ++ Settle ∷ []) _ owes (owed limits))
+
+pub returns-clause-halts : goal.returns-clause-halts
+returns-clause-halts c =
+    if_err_so c.release-2.result (OwesSome c.close.new.self c.release-2.new.self) _ (λ cause owed limits h w.
+        let released = all_released limits _ _ _ h (owes_own limits _ _ h c.self.view_is w) (c.in-Ok.ensures.ok limits) in
+        let last = ends_own limits _ _ h c.self-2.view_is (c.in-Ok-end_last.ensures.ok limits h released) in
+        let owes = closed_owes limits _ _ _ h released.fits.input last (c.close.ensures limits) in
+        inr (released.fits, still_owes limits _ _ _ (h ++ Settle ∷ []) cause owes (owed limits)))
+    c.release-2.ensures.owed

@@ -1,0 +1,199 @@
+-- One more event is followed.
+use Rattle.std.proofs.Common.{◌≡◌, ◌≤◌, ◌<◌, ◌+◌, ◌*◌, ◌-◌, ◌^◌, ◌++◌, ◌∙◌, sym, refl, ap, subst, ℕ, suc, true, false, List, [], ◌∷◌, length, map, arith, append_assoc, append-nil, Option, None, Some}
+use Rattle.std.specs.Prelude.{is_some, reverse, OnSome, Result, Ok, Err}
+use Rattle.std.specs.List.{flat_map}
+use Rattle.std.proofs.lemmas.List.{map-append, reverse-append}
+use Rattle.name_text.specs.Addresses.{text_of}
+use Rattle.flow_base.specs.declared.limits.Limits.{Limits}
+use Rattle.flow_base.specs.declared.limits.Full.{Full}
+use Rattle.flow_base.specs.declared.types.Flow.{Flow}
+use Rattle.record_join.specs.Events.{Joining, ripe_key, next_event, next_left}
+use Rattle.record_join.specs.StandsFor.{Joiner, StandsFor as JoinStandsFor}
+use Rattle.record_join.specs.declared.clock.JoinClock.{JoinClock}
+use Rattle.record_join.specs.declared.event.Event.{Event}
+use Rattle.audit_record.specs.declared.types.Record.{Record}
+use Rattle.acts.specs.declared.act.Act.{Act}
+use Rattle.acts.specs.declared.act.Taken.{Taken}
+use Rattle.acts.specs.Admitted.{Admitted}
+use Rattle.acts.specs.Flows.{acts_of, flows, latest, TimesNeverFall}
+use Rattle.acts.specs.LookBack.{full_at}
+use Rattle.call_acts.specs.Acts.{event_acts, acts_of_events}
+use Rattle.flow_events.specs.declared.tables.Tables.{Tables}
+use Rattle.flow_events.specs.Drafts.{turned}
+use Rattle.flow_events.specs.Following.{MayFollow}
+use Rattle.flow_events.specs.Standing.{StandsFor as TablesStandFor, HasLimits}
+use Rattle.ingest.specs.Counting.{counts_in}
+use Rattle.ingest.specs.EventActs.{acts_of_event}
+use Rattle.ingest.specs.Events.{taken_at, taken_by, taken_in, flows_in}
+use Rattle.ingest.specs.Following.{HasTaken, turned_by}
+use Rattle.ingest.specs.Parts.{Joined}
+use Rattle.ingest.specs.StandsFor.{IsInTime, JoinedStandsFor}
+use Rattle.ingest.specs.Stops.{full_of}
+use Rattle.ingest.proofs.Fewer.{released_so}
+use Rattle.ingest.proofs.Growing.{taken_more, map_turned}
+use Rattle.ingest.proofs.Releasing.{ripe_event}
+
+pub same_err : {T E : Type 0} (a b : E) → ◌≡◌ {A = Result T E} (Err a) (Err b) → a ≡ b
+same_err a b e = cc e
+
+-- ---- acts of events
+
+pub acts_of_append : (xs ys : List Taken) → acts_of (xs ++ ys) ≡ acts_of xs ++ acts_of ys
+acts_of_append xs ys = map-append (λ (t : Taken). t.act) xs ys
+
+acts_at : (ms serial : ℕ) (acts : List Act) → acts_of (map (taken_at ms serial) acts) ≡ acts
+acts_at ms serial [] = refl
+acts_at ms serial (act ∷ acts) = ap (λ (l : List Act). act ∷ l) (acts_at ms serial acts)
+
+-- the acts of one event, turned
+pub acts_turned : (ms serial : ℕ) (acts : List Act) → acts_of (turned ms serial acts) ≡ reverse acts
+acts_turned ms serial acts = sym (map_turned (λ (t : Taken). t.act) (map (taken_at ms serial) acts)) ∙ ap reverse (acts_at ms serial acts)
+
+module _ (limits : Limits) where
+  acts_by : (events : List Event) → acts_of (flat_map (taken_by limits) events) ≡ acts_of_events limits.path events
+  acts_by [] = refl
+  acts_by (event ∷ events) =
+      acts_of_append (taken_by limits event) (flat_map (taken_by limits) events)
+      ∙ ap (λ (l : List Act). l ++ acts_of (flat_map (taken_by limits) events)) (acts_at event.ms event.key.serial (acts_of_event limits event))
+      ∙ ap (λ (l : List Act). acts_of_event limits event ++ l) (acts_by events)
+
+  pub acts_in : (events : List Event) → acts_of (taken_in limits events) ≡ reverse (acts_of_events limits.path events)
+  acts_in events = sym (map_turned (λ (t : Taken). t.act) (flat_map (taken_by limits) events)) ∙ ap reverse (acts_by events)
+
+  -- the acts of one more event
+  pub taken_then : (released : List Event) (event : Event) → taken_in limits (released ++ event ∷ []) ≡ turned_by limits event ++ taken_in limits released
+  taken_then released event = taken_more limits released (event ∷ []) ∙ ap (λ l. reverse l ++ taken_in limits released) (append-nil (taken_by limits event))
+
+-- the acts of events are admitted
+abbrev pub EventsAdmitted : Type 0
+EventsAdmitted = (limit : ℕ) (events : List Event) (before : List Act) → Admitted before → Admitted (reverse (acts_of_events limit events) ++ before)
+
+-- so are those of one event after others
+abbrev pub EventAdmitted : Type 0
+EventAdmitted = (limit : ℕ) (records : List Record) (before : List Act) → Admitted before → Admitted (reverse (event_acts limit records) ++ before)
+
+pub admitted_in : EventsAdmitted → (limits : Limits) (events : List Event) → Admitted (acts_of (taken_in limits events))
+admitted_in admitted limits events =
+    subst Admitted (append-nil (reverse (acts_of_events limits.path events)) ∙ sym (acts_in limits events)) (admitted limits.path events [] tt)
+
+admitted_then : EventAdmitted → (limits : Limits) (event : Event) (taken : List Taken) → Admitted (acts_of taken) → Admitted (acts_of (turned_by limits event ++ taken))
+admitted_then admitted limits event taken before =
+    subst Admitted
+    (ap (λ (l : List Act). l ++ acts_of taken) (sym (acts_turned event.ms event.key.serial (acts_of_event limits event))) ∙ sym (acts_of_append (turned_by limits event) taken))
+    (admitted limits.path event.records (acts_of taken) before)
+
+-- ---- times
+
+rise_at : (ms serial : ℕ) (acts : List Act) (taken : List Taken) → TimesNeverFall taken → latest taken ≤ ms
+    → TimesNeverFall (map (taken_at ms serial) acts ++ taken) × (latest (map (taken_at ms serial) acts ++ taken) ≤ ms)
+rise_at ms serial [] taken rise later = (rise, later)
+rise_at ms serial (act ∷ acts) taken rise later =
+    let before = rise_at ms serial acts taken rise later in
+    ((before.1, before.0), omega arith)
+
+pub rise_then : (limits : Limits) (event : Event) (taken : List Taken) → TimesNeverFall taken → latest taken ≤ event.ms
+    → TimesNeverFall (turned_by limits event ++ taken) × (latest (turned_by limits event ++ taken) ≤ event.ms)
+rise_then limits event taken rise later =
+    subst (λ (l : List Taken). TimesNeverFall (l ++ taken) × (latest (l ++ taken) ≤ event.ms))
+    (sym (map_turned (taken_at event.ms event.key.serial) (acts_of_event limits event)))
+    (rise_at event.ms event.key.serial (reverse (acts_of_event limits event)) taken rise later)
+
+-- ---- what is asked before an event
+
+pub may_follow : (tables : Tables) (taken : List Taken) (acts records count : ℕ) → HasTaken tables taken → count ≡ length taken → count < 2 ^ 62 → acts ≤ 4 + 2 * records → records < 2 ^ 60 → MayFollow tables taken acts
+may_follow tables taken acts records count has count_is few acts_few records_few = record {
+  stands = has.tables_are;
+  admitted = has.admitted;
+  few = omega (arith, count_is, few, acts_few, records_few);
+}
+
+pub ripe_so : (limits : Limits) (joined seen : Joined) (s : Joining) → seen ≡ joined → ((l : Limits) (s : Joining) → JoinStandsFor l joined.join s → is_some (ripe_key l s) ≡ true) → JoinStandsFor limits seen.join s
+    → is_some (ripe_key limits s) ≡ true
+ripe_so limits joined seen s is ripe stands = ripe limits s (subst (λ (j : Joined). JoinStandsFor limits j.join s) is stands)
+
+pub same_some : {A : Type 0} (a b : A) → Some a ≡ Some b → a ≡ b
+same_some a b e = cc e
+
+none_some : {A : Type 0} (a : A) → None ≡ Some a → ⊥
+none_some a e = cc e
+
+pub never_none : (limits : Limits) (s : Joining) → is_some (ripe_key limits s) ≡ true → None ≡ next_event limits s → ⊥
+never_none limits s ripe none = let e = ripe_event limits s ripe in none_some e.0 (none ∙ e.1)
+
+pub on_some : {A : Type 0} (r : Option A) (P : Type 0) (a : A) → r ≡ Some a → OnSome r P → P
+on_some {A} r P a is on = subst (λ (o : Option A). OnSome o P) is on
+
+pub has_taken : EventsAdmitted → (limits : Limits) (joined : Joined) (s : Joining) (released : List Event) → JoinedStandsFor limits joined s released → HasTaken joined.tables (taken_in limits released)
+has_taken admitted limits joined s released stands = record { tables_are = stands.tables; admitted = admitted_in admitted limits released }
+
+-- ---- after an event
+
+abbrev pub joined_of : Limits → Joiner → Tables → List Flow → Joined → Joined
+joined_of limits join tables flows joined = record { limits = limits; join = join; tables = tables; flows = flows; counts = joined.counts; excess = joined.excess }
+
+-- tables and flows that say the same as before
+pub stands_still : (limits : Limits) (joined after : Joined) (s : Joining) (released : List Event) → JoinedStandsFor limits joined s released
+    → after.limits ≡ joined.limits → after.join ≡ joined.join → after.excess ≡ joined.excess → after.counts ≡ joined.counts → HasTaken after.tables (taken_in limits released) → after.flows ≡ joined.flows
+    → JoinedStandsFor limits after s released
+stands_still limits joined after s released stands own join excess counts has flows_are = record {
+  limits_are = own ∙ stands.limits_are;
+  join = subst (λ (j : Joiner). JoinStandsFor limits j s) (sym join) stands.join;
+  excess = excess ∙ stands.excess;
+  counts = counts ∙ stands.counts;
+  tables = has.tables_are;
+  flows_are = flows_are ∙ stands.flows_are;
+  fits = stands.fits;
+}
+
+-- the limits that the acts of one more event pass
+pub full_then : (limits own : Limits) (released : List Event) (event : Event) (answer : Option Full) → own ≡ limits
+    → full_at own.entities own.flows (turned_by own event ++ taken_in limits released) ≡ answer → full_of limits (released ++ event ∷ []) ≡ answer
+full_then limits own released event answer is full =
+    ap (full_at limits.entities limits.flows) (taken_then limits released event)
+    ∙ ap (λ (l : Limits). full_at l.entities l.flows (turned_by l event ++ taken_in limits released)) (sym is)
+    ∙ full
+
+pub stands_next : (limits : Limits) (joined after : Joined) (s : Joining) (released : List Event) (event : Event) → JoinedStandsFor limits joined s released → Some event ≡ next_event limits s
+    → after.limits ≡ joined.limits → JoinStandsFor limits after.join (next_left limits s) → after.excess ≡ joined.excess
+    → after.counts ≡ counts_in (released ++ event ∷ [])
+    → TablesStandFor text_of after.tables (turned_by joined.limits event ++ taken_in limits released)
+    → after.flows ≡ flows (turned_by joined.limits event ++ taken_in limits released)
+    → full_at joined.limits.entities joined.limits.flows (turned_by joined.limits event ++ taken_in limits released) ≡ None
+    → JoinedStandsFor limits after (next_left limits s) (released ++ event ∷ [])
+stands_next limits joined after s released event stands next own join excess counts tables flows_are fits =
+    let acts : turned_by joined.limits event ++ taken_in limits released ≡ taken_in limits (released ++ event ∷ []) =
+    ap (λ (l : Limits). turned_by l event ++ taken_in limits released) stands.limits_are ∙ sym (taken_then limits released event) in
+    record {
+      limits_are = own ∙ stands.limits_are;
+      join = join;
+      excess = excess ∙ stands.excess ∙ sym (released_so limits s event next).excess;
+      counts = counts;
+      tables = subst (λ (l : List Taken). TablesStandFor text_of after.tables l) acts tables;
+      flows_are = flows_are ∙ ap flows acts;
+      fits = full_then limits joined.limits released event None stands.limits_are fits;
+    }
+
+pub same_event : (limits : Limits) (after : Joined) (t : Joining) (released : List Event) (seen event : Event) → seen ≡ event → JoinedStandsFor limits after t (released ++ seen ∷ []) → JoinedStandsFor limits after t (released ++ event ∷ [])
+same_event limits after t released seen event is stands = subst (λ (e : Event). JoinedStandsFor limits after t (released ++ e ∷ [])) is stands
+
+pub in_time_next : EventAdmitted → (limits : Limits) (join after : Joiner) (tables more : Tables) (kept all : List Flow) (event : Event) (w : IsInTime limits join tables kept) → Some event ≡ next_event limits w.s
+    → JoinStandsFor limits after (next_left limits w.s) → TablesStandFor text_of more (turned_by limits event ++ w.taken) → HasLimits limits more → all ≡ flows (turned_by limits event ++ w.taken)
+    → IsInTime limits after more all
+in_time_next admitted limits join after tables more kept all event w next stands tables_are bounds flows_are =
+    let so = released_so limits w.s event next in
+    let later : latest w.taken ≤ event.ms = omega (arith, w.later, ap (λ (c : JoinClock). c.effective) w.join_is.clock, so.no_less) in
+    let then = rise_then limits event w.taken w.rise later in
+    record {
+      s = next_left limits w.s;
+      join_is = stands;
+      taken = turned_by limits event ++ w.taken;
+      tables_are = tables_are;
+      admitted = admitted_then admitted limits event w.taken w.admitted;
+      bounds = bounds;
+      flows_are = flows_are;
+      rise = then.0;
+      later = omega (arith, then.1, ap (λ (c : JoinClock). c.effective) stands.clock, so.time);
+    }
+
+pub length_seen : (joined seen : Joined) (n : ℕ) → seen ≡ joined → length seen.join.groups ≡ suc n → length joined.join.groups ≡ suc n
+length_seen joined seen n is e = subst (λ (j : Joined). length j.join.groups ≡ suc n) is e

@@ -1,0 +1,29 @@
+use Rattle.std.proofs.Common.{◌≡◌, refl, arith, []}
+use Rattle.name_text.specs.Addresses.{text_of}
+use Rattle.record_join.specs.History.{start}
+use Rattle.ingest.proofs.Limiting.{full_none}
+use Rattle.ingest.proofs.event_flows.EventFlows.new.Goals as goal
+
+pub invariant_of-result : goal.invariant_of-result
+invariant_of-result c = record {
+  s = start;
+  join_is = c.new.ensures;
+  taken = [];
+  tables_are = c.new-2.ensures.stands text_of;
+  admitted = tt;
+  bounds = c.new-2.ensures.limits;
+  flows_are = c.new-3.ensures.items;
+  rise = tt;
+  later = omega arith;
+}
+
+pub returns : goal.returns
+returns c = record {
+  limits_are = refl;
+  join = c.new.ensures;
+  excess = refl;
+  counts = c.new-4.ensures;
+  tables = c.new-2.ensures.stands text_of;
+  flows_are = c.new-3.ensures.items;
+  fits = full_none c.args.limits.now.entities c.args.limits.now.flows 0 0 (omega arith) (omega arith);
+}

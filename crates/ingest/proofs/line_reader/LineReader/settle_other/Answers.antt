@@ -1,0 +1,33 @@
+use Rattle.std.proofs.Common.{◌++◌, ◌∷◌, [], ◌∙◌, ap, refl, arith, ℕ, List, append-nil}
+use Rattle.audit_lex.specs.History.{lines_of, tail_of}
+use Rattle.ingest.specs.Counting.{tally_of_lines}
+use Rattle.ingest.proofs.ReaderSteps.{reader_at, begun_so, room_settled, within_settled, stands_settled, own_tally, own_line}
+use Rattle.ingest.proofs.line_reader.LineReader.settle_other.Goals as goal
+
+pub count_line-requires-clause-lines : goal.count_line-requires-clause-lines
+count_line-requires-clause-lines c =
+    let w = c.self.invariant in
+    (room_settled _ _ _ _ w (begun_so _ _ w.h c.self.view_is (c.if-is_between_lines.ensures.no refl) w.cut_is)).lines
+
+pub count_line-requires-clause-room : goal.count_line-requires-clause-room
+count_line-requires-clause-room c =
+    let w = c.self.invariant in
+    (room_settled _ _ _ _ w (begun_so _ _ w.h c.self.view_is (c.if-is_between_lines.ensures.no refl) w.cut_is)).counted
+
+pub after_line-requires : goal.after_line-requires
+after_line-requires c =
+    let w = c.self.invariant in
+    omega (arith, (room_settled _ _ _ _ w (begun_so _ _ w.h c.self.view_is (c.if-is_between_lines.ensures.no refl) w.cut_is)).lines)
+
+pub invariant_of-self-2 : goal.invariant_of-self-2
+invariant_of-self-2 c =
+    let w = c.self.invariant in
+    within_settled _ _ _ _ _ _ _ w (begun_so _ _ w.h c.self.view_is (c.if-is_between_lines.ensures.no refl) w.cut_is) c.after_line.ensures c.in_ok-count_line.ensures.one
+
+pub returns-clause-stands : goal.returns-clause-stands
+returns-clause-stands c = λ limits h stands reads.
+    let own = reader_at limits _ _ h c.self.view_is stands in
+    stands_settled limits _ _ h own (begun_so _ _ h c.self.view_is (c.if-is_between_lines.ensures.no refl) own.cut) refl c.after_line.ensures
+    (c.in_ok-count_line.ensures.counted h own.cut (own_line limits _ h own) (own_tally limits _ h own)
+    ∙ ap (λ (text : List ℕ). tally_of_lines c.self.inside.limits (lines_of h ++ text ∷ [])) (append-nil (tail_of h)))
+    refl

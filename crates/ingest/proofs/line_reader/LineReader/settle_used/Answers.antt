@@ -1,0 +1,29 @@
+use Rattle.std.proofs.Common.{refl, arith}
+use Rattle.audit_lex.specs.History.{tail_of, lines_of}
+use Rattle.ingest.proofs.Reading.{used_class}
+use Rattle.ingest.proofs.ReaderSteps.{reader_at, begun_so, room_settled, within_settled, stands_settled, own_tally, own_reads}
+use Rattle.ingest.proofs.Tallying.{used_more}
+use Rattle.ingest.proofs.line_reader.LineReader.settle_used.Goals as goal
+
+pub overflow_add-self : goal.overflow_add-self
+overflow_add-self c =
+    let w = c.self.invariant in
+    omega (arith, (room_settled _ _ _ _ w (begun_so _ _ w.h c.self.view_is c.requires.begun w.cut_is)).counted)
+
+pub after_line-requires : goal.after_line-requires
+after_line-requires c =
+    let w = c.self.invariant in
+    omega (arith, (room_settled _ _ _ _ w (begun_so _ _ w.h c.self.view_is c.requires.begun w.cut_is)).lines)
+
+pub invariant_of-self : goal.invariant_of-self
+invariant_of-self c =
+    let w = c.self.invariant in
+    within_settled _ _ _ _ _ _ _ w (begun_so _ _ w.h c.self.view_is c.requires.begun w.cut_is) c.after_line.ensures (omega arith)
+
+pub returns-clause-stands : goal.returns-clause-stands
+returns-clause-stands c = λ limits h item stands reads.
+    let own = reader_at limits _ _ h c.self.view_is stands in
+    let used = used_class c.self.inside.limits.line (tail_of h) item (own_reads limits _ h own _ (tail_of h) reads) in
+    stands_settled limits _ _ h own (begun_so _ _ h c.self.view_is c.requires.begun own.cut) refl c.after_line.ensures
+    (used_more c.self.inside.limits c.self.inside.tally (lines_of h) (tail_of h) item.key used.0 (own_tally limits _ h own) used.1)
+    refl

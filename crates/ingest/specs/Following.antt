@@ -1,0 +1,21 @@
+-- What the tables have taken, and what one more event adds.
+use Rattle.std.specs.Prelude.{◌++◌, List}
+use Rattle.name_text.specs.Addresses.{text_of}
+use Rattle.flow_base.specs.declared.limits.Limits.{Limits}
+use Rattle.record_join.specs.declared.event.Event.{Event}
+use Rattle.acts.specs.declared.act.Taken.{Taken}
+use Rattle.acts.specs.Admitted.{Admitted}
+use Rattle.acts.specs.Flows.{acts_of}
+use Rattle.flow_events.specs.declared.tables.Tables.{Tables}
+use Rattle.flow_events.specs.Drafts.{turned}
+use Rattle.flow_events.specs.Standing.{StandsFor as TablesStandFor}
+use Rattle.ingest.specs.EventActs.{acts_of_event}
+
+-- the tables stand for these acts, each of which but a see and a birth names a live pid
+pub record HasTaken (tables : Tables) (taken : List Taken) : Type 0 where
+  pub tables_are : TablesStandFor text_of tables taken
+  pub admitted : Admitted (acts_of taken)
+
+-- the acts of an event, the newest first
+abbrev pub turned_by : Limits → Event → List Taken
+turned_by limits event = turned event.ms event.key.serial (acts_of_event limits event)

@@ -1,0 +1,74 @@
+-- What an engine stands for that may owe events: where one was refused, it and all that is ripe behind it stay in the
+-- joiner.
+use Rattle.std.specs.Prelude.{◌≡◌, ◌≤◌, ◌<◌, ◌⊎◌, ◌+◌, ◌++◌, ◌∷◌, [], ⊤, ℕ, List, length, take, Some}
+use Rattle.flow_base.specs.declared.limits.Limits.{Limits}
+use Rattle.flow_base.specs.declared.limits.Full.{Full}
+use Rattle.audit_lex.specs.History.{History, Settle, with_bytes}
+use Rattle.record_join.specs.Events.{Joining, next_event}
+use Rattle.record_join.specs.History.{released_after, left_after}
+use Rattle.record_join.specs.declared.event.Event.{Event}
+use Rattle.ingest.specs.Counting.{bytes_in}
+use Rattle.ingest.specs.Events.{state_of, events_of}
+use Rattle.ingest.specs.Parts.{Joined, Engine}
+use Rattle.ingest.specs.StandsFor.{ReaderStandsFor, JoinedStandsFor}
+use Rattle.ingest.specs.Stops.{Fits, full_of, input_full}
+use Rattle.ingest.specs.declared.stop.Stop.{Stop}
+use Rattle.ingest.specs.declared.stop.StopWhy.{StopWhy}
+use Rattle.ingest.specs.declared.stop.StopWhy.TheVariants as why
+
+-- the events that were followed are the first of the history's, and the joiner releases the others next, before all that
+-- waits
+pub record MayOwe (limits : Limits) (engine : Engine) (h : History) : Type 0 where
+  pub reader : ReaderStandsFor limits engine.reader h
+  pub rest : Joining
+  pub done : List Event
+  pub joined : JoinedStandsFor limits engine.joined rest done
+  pub events_are : events_of limits h ≡ done ++ released_after limits rest
+  pub left_is : state_of limits h ≡ left_after limits rest
+  pub within : bytes_in h ≤ limits.input
+
+-- after the events that were followed, the next one would pass this limit
+abbrev pub NextPasses : Limits → Joining → List Event → Full → Type 0
+NextPasses limits rest done full = (event : Event) × (next_event limits rest ≡ Some event) × (full_of limits (done ++ event ∷ []) ≡ Some full)
+
+-- why no more events were released: want of memory is free, and a limit is the one that the next event would pass
+abbrev pub OwesBy : Limits → Joining → List Event → StopWhy → Type 0
+OwesBy limits rest done why.NoMemory = ⊤
+OwesBy limits rest done (why.Full full) = NextPasses limits rest done full
+
+-- of what was ripe some events were followed, and the rest is owed for this cause
+pub record IsOwed (limits : Limits) (joined : Joined) (s : Joining) (released : List Event) (cause : StopWhy) : Type 0 where
+  pub rest : Joining
+  pub done : List Event
+  pub stands : JoinedStandsFor limits joined rest (released ++ done)
+  pub done_is : released_after limits s ≡ done ++ released_after limits rest
+  pub left_is : left_after limits s ≡ left_after limits rest
+  pub by : OwesBy limits rest (released ++ done) cause
+
+-- the engine stands for the history, and owes for this cause
+pub record OwesFor (limits : Limits) (engine : Engine) (h : History) (cause : StopWhy) : Type 0 where
+  pub stands : MayOwe limits engine h
+  pub by : OwesBy limits stands.rest stands.done cause
+
+-- the byte behind those that were done would pass the limit of bytes
+pub record InputPasses (limits : Limits) (h : History) (piece : List ℕ) (done : ℕ) (full : Full) : Type 0 where
+  pub more : done < length piece
+  pub all : bytes_in h + done ≡ limits.input
+  pub fits : Fits limits (with_bytes h (take done piece))
+  pub full_is : full ≡ input_full limits
+
+-- why a piece was not taken to its end
+abbrev pub HaltsBy : Limits → History → List ℕ → ℕ → Joining → List Event → StopWhy → Type 0
+HaltsBy limits h piece done rest events why.NoMemory = ⊤
+HaltsBy limits h piece done rest events (why.Full full) = InputPasses limits h piece done full ⊎ NextPasses limits rest events full
+
+-- after a stop the engine stands for the history with the bytes of the piece that were done
+pub record Halts (limits : Limits) (engine : Engine) (h : History) (piece : List ℕ) (stop : Stop) : Type 0 where
+  pub within : stop.done ≤ length piece
+  pub stands : MayOwe limits engine (with_bytes h (take stop.done piece))
+  pub by : HaltsBy limits h piece stop.done stands.rest stands.done stop.why
+
+-- after a settle that was refused the engine stands for the history as it was, where an event that was owed before or the
+-- last line was refused, and else for the history with the settle
+abbrev pub HaltsSettling : Limits → Engine → History → StopWhy → Type 0
+HaltsSettling limits engine h cause = OwesFor limits engine h cause ⊎ (Fits limits h × OwesFor limits engine (h ++ Settle ∷ []) cause)
