@@ -17,7 +17,7 @@ use crate::tokens::token_from;
 #[derive(Clone, Copy)]
 pub(crate) struct FieldValues<'a> {
     pub(crate) raw: &'a [u8],
-    kind: Kind,
+    pub(crate) kind: Kind,
     slots: Slots,
     ghost found: { AreFound (rules_of kind) raw.now (held raw.now slots.spans) },
 }
@@ -43,6 +43,14 @@ impl<'a> FieldValues<'a> {
             Some(place) => value_at(self.raw, &self.slots, place),
             None => value_of_one(self.raw, name),
         }
+    }
+
+    /// The value that was found for the rule at this place of the kind's table.
+    pub(crate) fn value_of_rule(&self, place: usize) -> Option<&'a [u8]>
+        requires { place < length (rules_of self.now.kind) }
+        ensures { option_map (λ value. value.now) result ≡ field_of self.now.raw.now (slice_index_or (names_of (rules_of self.now.kind)) place []) }
+    {
+        value_at(self.raw, &self.slots, place)
     }
 }
 
