@@ -2,7 +2,7 @@
 //!
 //! The raw part is read once, from the front. What its kind's table asks for is kept on the way, so that the search
 //! for faults and the readers of a used line find it without reading the line again.
-ghost use Rattle.std.specs.Prelude.{◌≡◌, ◌<◌, ◌≤◌, [], length, option_map, IfSome};
+ghost use Rattle.std.specs.Prelude.{◌≡◌, ◌<◌, ◌≤◌, ℕ, List, [], None, length, option_map, IfSome};
 ghost use Rattle.std.specs.List.{slice_index_or};
 ghost use Rattle.audit_lex.specs.FieldTable.{rules_of, name_of};
 ghost use Rattle.audit_lex.specs.Slots.{held, names_of, AreFound};
@@ -28,11 +28,9 @@ impl<'a> FieldValues<'a> {
         ensures raw { result.raw.now ≡ raw.now }
         ensures kind { result.kind ≡ kind }
     {
-        FieldValues {
-            raw,
-            kind,
-            slots: first_values(raw, rules(kind)),
-        }
+        let mut slots = Slots::new();
+        fill_slots(raw, rules(kind), &mut slots);
+        FieldValues { raw, kind, slots }
     }
 
     /// The value of the first token of this name. A name that the table doesn't ask for is looked for anew.
@@ -74,7 +72,9 @@ fn value_of_one(raw: &[u8], name: Field) -> Option<&[u8]>
         value: ValueKind::Word,
         must: false,
     };
-    value_at(raw, &first_values(raw, &[rule]), 0)
+    let mut slots = Slots::new();
+    fill_slots(raw, &[rule], &mut slots);
+    value_at(raw, &slots, 0)
 }
 
 // Where a table asks for a field.
@@ -90,18 +90,18 @@ fn place_in(rules: &[Rule], name: Field) -> Option<usize>
     None
 }
 
-// The value of the first token of each name that a table asks for.
-fn first_values(raw: &[u8], rules: &[Rule]) -> Slots
-    requires { length rules.now ≤ 11 }
-    ensures { AreFound rules.now raw.now (held raw.now result.spans) }
+// Fills empty slots with the value of the first token of each name that a table asks for.
+fn fill_slots(raw: &[u8], rules: &[Rule], slots: &mut Slots)
+    requires table { length rules.now ≤ 11 }
+    requires empty { (text : List ℕ) (place : ℕ) → slice_index_or (held text slots.old.spans) place None ≡ None }
+    ensures { AreFound rules.now raw.now (held raw.now slots.new.spans) }
 {
-    let mut slots = Slots::new();
     let mut full = 0;
     let mut place = 0;
     while place < raw.len() {
         // A full slot keeps its value, so what is left of the line changes nothing.
         if full == rules.len() {
-            return slots;
+            return;
         }
         if raw[place] == b' ' {
             place += 1;
@@ -112,5 +112,4 @@ fn first_values(raw: &[u8], rules: &[Rule]) -> Slots
         full = slots.first_empty(full, rules.len());
         place = end;
     }
-    slots
 }

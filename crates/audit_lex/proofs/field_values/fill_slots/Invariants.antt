@@ -1,7 +1,7 @@
 use Rattle.std.proofs.Common.{◌≤◌, ◌-◌, length, drop}
 use Rattle.audit_lex.specs.Slots.{held}
 use Rattle.audit_lex.proofs.SlotLemmas.{Finding, Full}
-use Rattle.audit_lex.proofs.field_values.first_values.Given as goal
+use Rattle.audit_lex.proofs.field_values.fill_slots.Given as goal
 
 -- what the slots have, or else the bytes from the place on have, is what the raw part has
 abbrev pub invariant-loop-place : goal.invariant-loop-place

@@ -5,7 +5,7 @@ use Rattle.std.proofs.lemmas.List.{length-drop, drop-drop, get_or-drop}
 use Rattle.audit_lex.specs.Slots.{held, names_of}
 use Rattle.audit_lex.specs.Tokens.{token_len, field_of, value_in}
 use Rattle.audit_lex.proofs.SlotLemmas.{past_token, more_full, stays_full}
-use Rattle.audit_lex.proofs.field_values.first_values.Goals as goal
+use Rattle.audit_lex.proofs.field_values.fill_slots.Goals as goal
 
 pub loop-place-init : goal.loop-place-init
 loop-place-init c =
@@ -14,7 +14,7 @@ loop-place-init c =
       within = omega arith;
       table = omega arith;
       full = λ place below. absurd (omega (arith, below));
-      finding = λ place below. ap (λ slot. option_or slot (field_of raw (slice_index_or (names_of c.args.rules.now) place []))) (c.new-slots.ensures raw place);
+      finding = λ place below. ap (λ slot. option_or slot (field_of raw (slice_index_or (names_of c.args.rules.now) place []))) (c.requires.empty raw place);
     }
 
 pub loop-place-preserved : goal.loop-place-preserved
