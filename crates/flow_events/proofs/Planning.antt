@@ -23,7 +23,7 @@ use Rattle.flow_events.proofs.Drafting.{joined}
 use Rattle.flow_events.proofs.Following.{first_last}
 
 -- the acts of an event without their times and serials
-turned_acts : (ms serial : ℕ) (acts : List Act) → acts_of (turned ms serial acts) ≡ reverse acts
+pub turned_acts : (ms serial : ℕ) (acts : List Act) → acts_of (turned ms serial acts) ≡ reverse acts
 turned_acts ms serial [] = refl
 turned_acts ms serial (act ∷ acts) =
     ap acts_of (first_last ms serial act acts)

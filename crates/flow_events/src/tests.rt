@@ -19,7 +19,6 @@ use flow_base::{
 use record_join::EventView;
 use std::alloc::Global;
 use std::marker::Model;
-use std::test::Fail;
 
 // What a record beside that of the call says.
 #[derive(Clone, Copy)]
@@ -361,20 +360,6 @@ fn are_arrows(flows: &[Flow], arrows: &[(u32, u32, u32, How)]) -> bool {
     true
 }
 
-// All flows of these steps, in their order.
-fn take_steps(
-    alloc: Global,
-    course: &mut Course,
-    steps: &[Step],
-) -> Result<List<Flow>, PrepareFault> {
-    let mut flows = List::new(alloc);
-    for (number, step) in steps.iter().enumerate() {
-        let made = course.step(alloc, step, number as u32)?;
-        put_flows(&mut flows, made.as_slice())?;
-    }
-    Ok(flows)
-}
-
 fn put_flows(flows: &mut List<Flow>, made: &[Flow]) -> Result<(), NoMemory> {
     for flow in made {
         flows.push(*flow)?;
@@ -384,63 +369,96 @@ fn put_flows(flows: &mut List<Flow>, made: &[Flow]) -> Result<(), NoMemory> {
 
 fn has_objects(alloc: Global, course: &Course, keys: &[Known]) -> Result<bool, NoMemory> {
     for (id, known) in keys.iter().enumerate() {
-        if !course.has_object(id as u32, &key_of(alloc, *known)?) {
+        if !course.has_object(id.min(1_000_000) as u32, &key_of(alloc, *known)?) {
             return Ok(false);
         }
     }
     Ok(course.objects() as usize == keys.len())
 }
 
-#[test]
-fn events_make_these_objects_and_flows(rt: HostRuntime) -> Result<(), Fail> {
-    let alloc = rt.alloc();
-    for (steps, keys, arrows) in CASES {
-        let mut course = Course::new(alloc, Limits::standard());
-        let flows = take_steps(alloc, &mut course, steps).expect(&rt, "taken");
-        assert!(rt; are_arrows(flows.as_slice(), arrows));
-        assert!(rt; has_objects(alloc, &course, keys)?);
+// Whether the steps make these objects and flows.
+fn makes(
+    alloc: Global,
+    course: &mut Course,
+    flows: &mut List<Flow>,
+    case: &Case,
+) -> Result<bool, PrepareFault> {
+    for (number, step) in case.0.iter().enumerate() {
+        let made = course.step(alloc, step, number.min(1_000_000) as u32)?;
+        put_flows(flows, made.as_slice())?;
     }
-    Ok(())
+    Ok(are_arrows(flows.as_slice(), case.2) && has_objects(alloc, course, case.1)?)
+}
+
+fn case_holds(alloc: Global, case: &Case) -> bool {
+    let mut course = Course::new(alloc, Limits::standard());
+    let mut flows = List::new(alloc);
+    makes(alloc, &mut course, &mut flows, case) == Ok(true)
 }
 
 #[test]
-fn an_event_that_is_only_prepared_changes_nothing(rt: HostRuntime) -> Result<(), Fail> {
-    let alloc = rt.alloc();
+fn events_make_these_objects_and_flows(rt: HostRuntime) {
+    for case in CASES {
+        assert!(rt; case_holds(rt.alloc(), &case));
+    }
+}
+
+// Whether nothing was taken, although the event has a plan with these flows.
+fn only_looks(
+    alloc: Global,
+    course: &mut Course,
+    step: &Step,
+    wanted: &[(u32, u32, u32, How)],
+    unmapped: bool,
+) -> Result<bool, PrepareFault> {
+    let records = records(alloc, step)?;
+    let (flows, told) = course.look(alloc, &view(records.as_slice(), 0))?;
+    Ok(are_arrows(flows.as_slice(), wanted) && told == unmapped && is_empty(course))
+}
+
+fn is_empty(course: &Course) -> bool {
+    course.acts() == 0 && course.flows() == 0 && course.objects() == 0
+}
+
+fn looks(alloc: Global, step: &Step, wanted: &[(u32, u32, u32, How)], unmapped: bool) -> bool {
     let mut course = Course::new(alloc, Limits::standard());
+    only_looks(alloc, &mut course, step, wanted, unmapped) == Ok(true)
+}
+
+#[test]
+fn an_event_that_is_only_prepared_changes_nothing(rt: HostRuntime) {
     let fork: Step = (100, 1, 57, 101, [0, 0, 0], &[]);
     let unknown: Step = (100, 1, 39, 0, [0, 0, 0], &[]);
-    for (step, wanted, unmapped) in [
-        (fork, [flow_of((0, 0, 1, Fork), 0)].as_slice(), false),
-        (unknown, [].as_slice(), true),
-    ] {
-        let records = records(alloc, &step)?;
-        let event = view(records.as_slice(), 0);
-        let (flows, told) = course.look(alloc, &event).expect(&rt, "prepared");
-        assert!(rt; flows.as_slice() == wanted);
-        assert_eq!(rt; told, unmapped);
-        assert_eq!(rt; course.acts(), 0);
-        assert_eq!(rt; course.flows(), 0);
-        assert_eq!(rt; course.objects(), 0);
-    }
-    Ok(())
+    let arrows: [(u32, u32, u32, How); 1] = [(0, 0, 1, Fork)];
+    assert!(rt; looks(rt.alloc(), &fork, arrows.as_slice(), false));
+    assert!(rt; looks(rt.alloc(), &unknown, &arrows[..0], true));
+}
+
+fn has_name(course: &Course, name: &[u8], wanted: &[EntityId]) -> Result<bool, NoMemory> {
+    let found = course.found(name)?;
+    Ok(found.as_slice() == wanted)
+}
+
+// The file has no number when it is named, and has one from its first flow on.
+fn names_follow(alloc: Global, course: &mut Course) -> Result<bool, PrepareFault> {
+    let open: Step = (100, 1, 257, 3, [0, 0, 0], &[Path(Normal, 7, "/a")]);
+    let read: Step = (100, 1, 0, 5, [3, 0, 0], &[]);
+    course.step(alloc, &open, 0)?;
+    let none = has_name(course, b"/a".as_slice(), [].as_slice())?;
+    course.step(alloc, &read, 1)?;
+    let file = has_name(course, b"/a".as_slice(), [EntityId(0)].as_slice())?;
+    let process = has_name(course, b"/p".as_slice(), [EntityId(1)].as_slice())?;
+    Ok(none && file && process)
+}
+
+fn names_hold(alloc: Global) -> bool {
+    let mut course = Course::new(alloc, Limits::standard());
+    names_follow(alloc, &mut course) == Ok(true)
 }
 
 #[test]
-fn objects_have_the_names_that_acts_gave_them(rt: HostRuntime) -> Result<(), Fail> {
-    let alloc = rt.alloc();
-    let mut course = Course::new(alloc, Limits::standard());
-    // The file has no number when it is named, and has one from its first flow on.
-    let open: Step = (100, 1, 257, 3, [0, 0, 0], &[Path(Normal, 7, "/a")]);
-    let read: Step = (100, 1, 0, 5, [3, 0, 0], &[]);
-    course.step(alloc, &open, 0).expect(&rt, "taken");
-    let found = course.found(b"/a".as_slice())?;
-    assert!(rt; found.as_slice().is_empty());
-    course.step(alloc, &read, 1).expect(&rt, "taken");
-    let found = course.found(b"/a".as_slice())?;
-    assert!(rt; found.as_slice() == [EntityId(0)].as_slice());
-    let found = course.found(b"/p".as_slice())?;
-    assert!(rt; found.as_slice() == [EntityId(1)].as_slice());
-    Ok(())
+fn objects_have_the_names_that_acts_gave_them(rt: HostRuntime) {
+    assert!(rt; names_hold(rt.alloc()));
 }
 
 fn small(entities: u32, flows: u64) -> Limits {
@@ -457,34 +475,43 @@ fn is_full(taken: &Result<List<Flow>, PrepareFault>, limit: Limit, number: u64) 
     }
 }
 
-#[test]
-fn a_limit_refuses_the_event_that_would_pass_it(rt: HostRuntime) -> Result<(), Fail> {
-    let alloc = rt.alloc();
+// Whether the step is refused with this limit, and nothing of it was taken: an event without flows still goes.
+fn refuses(
+    alloc: Global,
+    course: &mut Course,
+    step: &Step,
+    limit: Limit,
+    number: u64,
+) -> Result<bool, PrepareFault> {
     let fork: Step = (100, 1, 57, 101, [0, 0, 0], &[]);
-    let another: Step = (100, 1, 57, 102, [0, 0, 0], &[]);
+    let exit: Step = (101, 100, 231, 0, [0, 0, 0], &[]);
+    course.step(alloc, &fork, 0)?;
+    let full = is_full(&course.step(alloc, step, 1), limit, number);
+    let same = course.acts() == 2 && course.flows() == 1;
+    let both = has_objects(alloc, course, &[Process(100, 0), Process(101, 0)])?;
+    course.step(alloc, &exit, 2)?;
+    Ok(full && same && both && course.acts() == 4)
+}
+
+fn limit_holds(alloc: Global, limits: Limits, step: &Step, limit: Limit, number: u64) -> bool {
+    let mut course = Course::new(alloc, limits);
+    refuses(alloc, &mut course, step, limit, number) == Ok(true)
+}
+
+#[test]
+fn a_limit_refuses_the_event_that_would_pass_it(rt: HostRuntime) {
+    let fork: Step = (100, 1, 57, 102, [0, 0, 0], &[]);
     // Its first flow has a third object, and its second flow a fourth.
     let pass: Step = (100, 1, 40, 5, [4, 3, 0], &[]);
-    let exit: Step = (101, 100, 231, 0, [0, 0, 0], &[]);
     for (entities, flows, step, limit, number) in [
-        (2, 10, another, Limit::Entities, 2),
-        (10, 1, another, Limit::Flows, 1),
-        (2, 1, another, Limit::Entities, 2),
+        (2, 10, fork, Limit::Entities, 2),
+        (10, 1, fork, Limit::Flows, 1),
+        (2, 1, fork, Limit::Entities, 2),
         (3, 10, pass, Limit::Entities, 3),
         (10, 2, pass, Limit::Flows, 2),
     ] {
-        let mut course = Course::new(alloc, small(entities, flows));
-        course.step(alloc, &fork, 0).expect(&rt, "taken");
-        assert!(rt; is_full(&course.step(alloc, &step, 1), limit, number));
-        // Nothing of the event was taken, and one that makes no flow still goes.
-        assert_eq!(rt; course.acts(), 2);
-        assert_eq!(rt; course.flows(), 1);
-        assert_eq!(rt; course.objects(), 2);
-        assert!(rt; course.has_object(0, &key_of(alloc, Process(100, 0))?));
-        assert!(rt; course.has_object(1, &key_of(alloc, Process(101, 0))?));
-        course.step(alloc, &exit, 2).expect(&rt, "taken");
-        assert_eq!(rt; course.acts(), 4);
+        assert!(rt; limit_holds(rt.alloc(), small(entities, flows), &step, limit, number));
     }
-    Ok(())
 }
 
 static RUN: [&[Said]; 3] = [
@@ -574,28 +601,44 @@ fn take_plainly_by(
 // Whether both have these flows, and the same objects.
 fn agree(course: &Course, plain: &Plain, flows: &[Flow]) -> bool {
     for (id, key) in plain.objects().iter().enumerate() {
-        if !course.has_object(id as u32, key) {
+        if !course.has_object(id.min(1_000_000) as u32, key) {
             return false;
         }
     }
     plain.flows() == flows && plain.known() == course.objects()
 }
 
-#[test]
-fn long_runs_make_the_flows_of_the_plain_program(rt: HostRuntime) -> Result<(), Fail> {
-    let alloc = rt.alloc();
-    for seed in [1, 2, 3] {
-        let mut state = seed;
-        let mut course = Course::new(alloc, Limits::standard());
-        let mut plain = Plain::new(alloc, 10_000, 10_000);
-        let mut flows = List::new(alloc);
-        for number in 0..250 {
-            let step = some_step(&mut state);
-            assert!(rt; take_plainly_by(alloc, &mut plain, &step, number)?);
-            let made = course.step(alloc, &step, number).expect(&rt, "taken");
-            put_flows(&mut flows, made.as_slice())?;
-            assert!(rt; agree(&course, &plain, flows.as_slice()));
+// Whether both make the same of a long run.
+fn run(
+    alloc: Global,
+    course: &mut Course,
+    plain: &mut Plain,
+    flows: &mut List<Flow>,
+    seed: u64,
+) -> Result<bool, PrepareFault> {
+    let mut state = seed;
+    for number in 0..250 {
+        let step = some_step(&mut state);
+        let taken = take_plainly_by(alloc, plain, &step, number)?;
+        let made = course.step(alloc, &step, number)?;
+        put_flows(flows, made.as_slice())?;
+        if !taken || !agree(course, plain, flows.as_slice()) {
+            return Ok(false);
         }
     }
-    Ok(())
+    Ok(true)
+}
+
+fn run_agrees(alloc: Global, seed: u64) -> bool {
+    let mut course = Course::new(alloc, Limits::standard());
+    let mut plain = Plain::new(alloc, 10_000, 10_000);
+    let mut flows = List::new(alloc);
+    run(alloc, &mut course, &mut plain, &mut flows, seed) == Ok(true)
+}
+
+#[test]
+fn long_runs_make_the_flows_of_the_plain_program(rt: HostRuntime) {
+    for seed in [1, 2, 3] {
+        assert!(rt; run_agrees(rt.alloc(), seed));
+    }
 }

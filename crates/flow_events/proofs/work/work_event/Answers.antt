@@ -1,4 +1,4 @@
-use Rattle.std.proofs.Common.{rules, ◌≡◌, ◌-◌, ◌++◌, ◌∙◌, [], ◌∷◌, length, List, take, drop, None, refl, subst, sym, arith}
+use Rattle.std.proofs.Common.{rules, ◌≡◌, ◌-◌, ◌++◌, [], ◌∷◌, length, List, take, drop, None, refl, subst, sym, arith}
 use Rattle.std.proofs.lemmas.Result.{IfErr-weaker}
 use Rattle.flow_events.specs.declared.change.Change.TheVariants.{Nothing}
 use Rattle.flow_events.specs.declared.work.Worked.{Worked}

@@ -1,0 +1,29 @@
+use Rattle.std.proofs.Common.{rules, ◌≡◌, ◌<◌, ◌+◌, ◌-◌, ◌^◌, ◌++◌, ◌∙◌, ap, subst, sym, length, reverse}
+use Rattle.name_text.specs.Addresses.{text_of}
+use Rattle.acts.specs.Admitted.{Admitted}
+use Rattle.acts.specs.Flows.{acts_of}
+use Rattle.call_acts.specs.Acts.{event_acts}
+use Rattle.flow_events.specs.Drafts.{turned}
+use Rattle.flow_events.specs.Following.{MayFollow}
+use Rattle.flow_events.proofs.Drafting.{joined}
+use Rattle.flow_events.proofs.Planning.{turned_acts}
+use Rattle.flow_events.proofs.tests.Course.take.Goals as goal
+
+pub invariant_of-self-2 : goal.invariant_of-self-2
+invariant_of-self-2 c =
+    let kept = c.self.invariant in
+    let before = kept.before in
+    let event = c.args.event.now in
+    let limits = c.self.inside.limits in
+    let acts = event_acts limits.path event.records.now in
+    let now = turned event.ms event.key.serial acts in
+    let few : length before + (length acts + 2) < 2 ^ 63 - 1 = search rules in
+    let may : MayFollow c.self.inside.tables before (length acts) = record { stands = kept.stands; admitted = kept.admitted; few = few } in
+    let order : acts_of (now ++ before) ≡ reverse acts ++ acts_of before =
+    joined now before ∙ ap (λ all. all ++ acts_of before) (turned_acts event.ms event.key.serial acts) in
+    record {
+      before = now ++ before;
+      stands = c.apply.ensures.next text_of before now (c.in_ok-plan.ensures.same text_of before kept.stands) (c.in_ok-plan.ensures.plan before may);
+      admitted = subst Admitted (sym order) (c.event_acts_are_admitted.ensures limits.path event.records.now (acts_of before) kept.admitted);
+      limited = c.apply.ensures.limits limits c.in_ok-plan.ensures.limits;
+    }
