@@ -1,17 +1,8 @@
 -- Facts on answers.
 use Rattle.std.proofs.Common.{◌≡◌, subst, refl, Option, None, Some, false}
-use Rattle.std.specs.Prelude.{Result, Ok, Err, IfOk, OnOk, IfErr, is_some}
-use Rattle.flow_base.specs.declared.limits.Full.{Full}
+use Rattle.std.specs.Prelude.{Result, Ok, Err, OnOk, IfErr, is_some}
 use Rattle.ingest.specs.declared.stop.StopWhy.{StopWhy}
 use Rattle.ingest.specs.declared.stop.StopWhy.TheVariants as why
-
-pub by_ok : {T E : Type 0} (r : Result T E) (P : Type 0) → P → IfOk r (λ _. P)
-by_ok (Ok value) P p = p
-by_ok (Err e) P p = tt
-
-pub on_ok : {T E : Type 0} (r : Result T E) (P : Type 0) → P → OnOk r P
-on_ok (Ok value) P p = p
-on_ok (Err e) P p = tt
 
 pub on_ok_so : {T E : Type 0} (r : Result T E) (P Q : Type 0) → (P → Q) → OnOk r P → OnOk r Q
 on_ok_so (Ok value) P Q f p = f p
@@ -19,13 +10,6 @@ on_ok_so (Err e) P Q f p = tt
 
 pub if_err : {T E : Type 0} (r : Result T E) (e : E) (P : E → Type 0) → r ≡ Err e → IfErr r P → P e
 if_err {T} {E} r e P is h = subst (λ (q : Result T E). IfErr q P) is h
-
-pub one_full : (a b : Full) → why.Full a ≡ why.Full b → a ≡ b
-one_full a b e = cc e
-
-pub if_ok_so : {T E : Type 0} (r : Result T E) (P Q : T → Type 0) → ((value : T) → P value → Q value) → IfOk r P → IfOk r Q
-if_ok_so (Ok value) P Q f p = f value p
-if_ok_so (Err e) P Q f p = tt
 
 pub none_where : {T : Type 0} (o : Option T) → is_some o ≡ false → o ≡ None
 none_where None is = refl

@@ -1,5 +1,5 @@
 -- To close what waits before the ripe groups are released changes nothing.
-use Rattle.std.proofs.Common.{◌≡◌, ◌++◌, ◌∙◌, sym, refl, ap, ℕ, zero, suc, Bool, true, false, not, List, [], ◌∷◌, length, map, filter, arith, append_assoc, Option, None, Some}
+use Rattle.std.proofs.Common.{◌≡◌, ◌++◌, ◌∙◌, sym, refl, ap, ℕ, zero, suc, Bool, true, false, not, List, [], ◌∷◌, length, map, filter, append_assoc, Option, None, Some}
 use Rattle.std.specs.Prelude.{◌||◌, if◌then◌else◌}
 use Rattle.std.specs.List.{list_any}
 use Rattle.std.specs.Option.{option_to_list}
@@ -8,7 +8,7 @@ use Rattle.flow_base.specs.declared.limits.Limits.{Limits}
 use Rattle.audit_lex.specs.declared.header.EventKey.{EventKey}
 use Rattle.audit_record.specs.declared.types.Record.{Record}
 use Rattle.record_join.specs.Keys.{is_key}
-use Rattle.record_join.specs.Events.{Joining, settled, waits, is_past, count_keys, text_of, least_key, only_ripe, is_ripe_at, ripe_key, without, event_of, event_at, left_at, next_event, next_left}
+use Rattle.record_join.specs.Events.{Joining, settled, waits, least_key, only_ripe, ripe_key, without, event_of, event_at, left_at, next_event, next_left}
 use Rattle.record_join.specs.History.{released, left, released_after, left_after}
 use Rattle.record_join.specs.declared.event.Event.{Event}
 use Rattle.ingest.proofs.Turns.{one_release, one_left}

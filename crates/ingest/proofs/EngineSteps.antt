@@ -1,36 +1,33 @@
 -- The engine after a line, after a release and after a settle, and where it stops.
-use Rattle.std.proofs.Common.{◌≡◌, ◌≤◌, ◌<◌, ◌+◌, ◌-◌, ◌^◌, ◌++◌, ◌∙◌, ◌⊎◌, inl, inr, sym, refl, ap, subst, ℕ, Bool, true, false, List, [], ◌∷◌, length, take, drop, map, arith, append_assoc, append-nil, length-append, Option, None, Some, if◌then◌else◌}
+use Rattle.std.proofs.Common.{◌≡◌, ◌≤◌, ◌<◌, ◌+◌, ◌-◌, ◌^◌, ◌++◌, ◌∙◌, ◌⊎◌, inl, inr, sym, refl, ap, subst, ℕ, Bool, true, false, List, [], ◌∷◌, length, map, arith, append_assoc, append-nil, length-append, Option, None, Some, if◌then◌else◌}
 use Rattle.std.specs.Option.{option_to_list}
 use Rattle.std.specs.List.{position_or_len}
-use Rattle.std.proofs.lemmas.List.{map-append}
 use Rattle.memchr.specs.Find.{is_byte}
 use Rattle.flow_base.specs.declared.limits.Limits.{Limits}
 use Rattle.flow_base.specs.declared.limits.Full.{Full}
-use Rattle.audit_lex.specs.History.{History, Step, Byte, Settle, Cuts, lines_of, tail_of, with_bytes, is_long, short_text, settled as settled_cuts}
+use Rattle.audit_lex.specs.History.{History, Step, Byte, Settle, Cuts, lines_of, tail_of, with_bytes, is_long, settled as settled_cuts}
 use Rattle.audit_lex.specs.LineClass.{text_class}
 use Rattle.audit_lex.proofs.HistoryLemmas.{more_tail, more_line}
 use Rattle.audit_lex.proofs.HistoryLaws.{after_settle}
-use Rattle.audit_lex.specs.declared.header.EventKey.{EventKey}
 use Rattle.audit_record.specs.declared.types.Record.{Record}
-use Rattle.record_join.specs.Events.{Joining, enter, settled, ripe_key, event_at, next_event, next_left}
-use Rattle.record_join.specs.History.{Step as Told, Came, Settle as Settles, start, told, events, state, released_after, left_after}
+use Rattle.record_join.specs.Events.{Joining, enter, settled, next_left}
+use Rattle.record_join.specs.History.{Step as Told, Came, Settle as Settles, events, state, released_after, left_after}
 use Rattle.record_join.specs.declared.event.Event.{Event}
 use Rattle.ingest.proofs.Quiet.{quiet, quiet_released, quiet_left}
 use Rattle.ingest.proofs.Turns.{ends, one_release}
 use Rattle.ingest.specs.Counting.{bytes_in}
 use Rattle.ingest.specs.Ending.{EndsLast}
-use Rattle.ingest.specs.Events.{lines_since, line_tells, lines_tell, tells_at, tells_after, told_of, state_of, events_of, released_at}
+use Rattle.ingest.specs.Events.{lines_since, line_tells, lines_tell, tells_at, tells_after, state_of, events_of, released_at}
 use Rattle.ingest.specs.LineRecords.{record_by, record_of}
-use Rattle.ingest.specs.Owing.{MayOwe, NextPasses, OwesBy, IsOwed, OwesFor, Halts}
+use Rattle.ingest.specs.Owing.{MayOwe, NextPasses, IsOwed, OwesFor, Halts}
 use Rattle.ingest.specs.Parts.{Reader, Joined, Engine}
 use Rattle.ingest.specs.StandsFor.{ReaderStandsFor, JoinedStandsFor, StandsFor}
 use Rattle.ingest.specs.Stops.{Fits, Stops, StopsAmong, StopsFor, full_of}
 use Rattle.ingest.specs.declared.stop.Stop.{Stop}
 use Rattle.ingest.specs.declared.stop.StopWhy.{StopWhy}
 use Rattle.ingest.specs.declared.stop.StopWhy.TheVariants as why
-use Rattle.ingest.proofs.Bytes.{bytes_more, bytes_append, bytes_settled}
+use Rattle.ingest.proofs.Bytes.{bytes_more, bytes_settled}
 use Rattle.ingest.proofs.Closing.{released_closed, left_when_closed}
-use Rattle.ingest.proofs.Fewer.{size}
 use Rattle.ingest.proofs.FewEvents.{few_events, few_records, records_in, records_append, releases_hold}
 use Rattle.ingest.proofs.Limiting.{fit_so, fewer_fit, events_fit}
 use Rattle.ingest.proofs.Telling.{since_is, since_none, bytes_tell, events_more, events_step, state_more, same_events, same_state}

@@ -1,13 +1,13 @@
 -- There are no more events than lines, and no more lines than bytes.
-use Rattle.std.proofs.Common.{◌≡◌, ◌≤◌, ◌<◌, ◌+◌, ◌^◌, ◌++◌, ◌∙◌, sym, refl, ap, ℕ, zero, suc, Bool, true, false, not, List, [], ◌∷◌, length, map, filter, arith, append_assoc, length-append, Option, None, Some}
+use Rattle.std.proofs.Common.{◌≡◌, ◌≤◌, ◌+◌, ◌++◌, ◌∙◌, sym, refl, ap, ℕ, zero, suc, Bool, true, false, not, List, [], ◌∷◌, length, map, filter, arith, append_assoc, length-append, Option, None, Some}
 use Rattle.std.specs.Prelude.{if◌then◌else◌}
 use Rattle.std.specs.Option.{option_to_list}
 use Rattle.flow_base.specs.declared.limits.Limits.{Limits}
-use Rattle.audit_lex.specs.History.{History, Step, Byte, Settle, lines_of}
+use Rattle.audit_lex.specs.History.{History, Step, Byte, Settle}
 use Rattle.audit_lex.specs.declared.header.EventKey.{EventKey}
 use Rattle.audit_record.specs.declared.types.Record.{Record}
 use Rattle.record_join.specs.Keys.{is_key}
-use Rattle.record_join.specs.Events.{Joining, enter, settled, ripe_key, event_at, left_at, next_event, next_left}
+use Rattle.record_join.specs.Events.{Joining, ripe_key, event_at, left_at, next_event, next_left}
 use Rattle.record_join.specs.History.{Step as Told, Came, Settle as Settles, start, told, events, state, released, left, released_after, left_after}
 use Rattle.record_join.specs.declared.event.Event.{Event}
 use Rattle.ingest.specs.LineRecords.{record_of}

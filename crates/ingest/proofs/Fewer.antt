@@ -1,5 +1,5 @@
 -- A release takes a record, and tells the time.
-use Rattle.std.proofs.Common.{◌≡◌, ◌≤◌, ◌<◌, ◌+◌, ◌++◌, ◌∙◌, sym, refl, ap, subst, ℕ, suc, Bool, true, false, not, cond, List, [], ◌∷◌, length, filter, arith, length-append, Option, None, Some, max}
+use Rattle.std.proofs.Common.{◌≡◌, ◌≤◌, ◌<◌, ◌+◌, ◌++◌, ◌∙◌, sym, refl, ap, subst, ℕ, suc, Bool, true, false, not, List, [], ◌∷◌, length, filter, arith, length-append, Option, None, Some}
 use Rattle.std.specs.Prelude.{◌||◌, if◌then◌else◌}
 use Rattle.std.specs.List.{list_any}
 use Rattle.std.specs.Ordering.{is_eq}

@@ -1,7 +1,6 @@
 -- The reader after some bytes, after a line feed, and after a settle.
-use Rattle.std.proofs.Common.{◌≡◌, ◌≤◌, ◌<◌, ◌+◌, ◌^◌, ◌++◌, ◌∙◌, sym, refl, ap, subst, ℕ, Bool, false, List, [], ◌∷◌, length, take, map, arith, append-nil, length-append, Option}
+use Rattle.std.proofs.Common.{◌≡◌, ◌≤◌, ◌<◌, ◌+◌, ◌^◌, ◌++◌, ◌∙◌, sym, refl, ap, subst, ℕ, false, List, [], ◌∷◌, length, take, arith, length-append, Option}
 use Rattle.std.specs.List.{position_or_len}
-use Rattle.std.specs.Option.{option_to_list}
 use Rattle.std.proofs.lemmas.Grind.{common_steps}
 use Rattle.std.proofs.lemmas.List.{length-take-le}
 use Rattle.memchr.specs.Find.{is_byte}
@@ -12,14 +11,11 @@ use Rattle.audit_lex.specs.declared.tally.Tally.{Tally}
 use Rattle.audit_lex.proofs.HistoryLaws.{after_settle}
 use Rattle.audit_lex.proofs.HistoryLemmas.{more_line}
 use Rattle.audit_record.specs.declared.types.Record.{Record}
-use Rattle.record_join.specs.History.{Came}
 use Rattle.ingest.specs.Counting.{bytes_in, tally_of_lines, total}
-use Rattle.ingest.specs.Events.{lines_since, line_tells, lines_tell}
 use Rattle.ingest.specs.LineRecords.{record_of}
 use Rattle.ingest.specs.Parts.{Reader}
 use Rattle.ingest.specs.StandsFor.{IsWithin, ReaderStandsFor, HasNoTail}
 use Rattle.ingest.proofs.Bytes.{few_lines, bytes_more, bytes_settled}
-use Rattle.ingest.proofs.Telling.{since_is, since_none}
 
 pub reader_at : (limits : Limits) (reader seen : Reader) (h : History) → seen ≡ reader → ReaderStandsFor limits reader h → ReaderStandsFor limits seen h
 reader_at limits reader seen h is stands = subst (λ (r : Reader). ReaderStandsFor limits r h) (sym is) stands
@@ -30,17 +26,10 @@ fits_so inside seen room is fits = subst (λ (r : Reader). r.bytes + room ≤ r.
 -- ---- a tail
 
 -- nothing is held where nothing has come
-pub held_none : (cut : Cutter) (h : History) → CutStandsFor cut h → tail_of h ≡ [] → (cut.tail ≡ []) × (cut.long ≡ false)
+held_none : (cut : Cutter) (h : History) → CutStandsFor cut h → tail_of h ≡ [] → (cut.tail ≡ []) × (cut.long ≡ false)
 held_none cut h stands none =
     let long : is_long cut.limit (tail_of h) ≡ false = rw none (grind (arith, common_steps)) in
     (stands.rest ∙ ap (short_text cut.limit) none ∙ grind (arith, common_steps), stands.over ∙ long)
-
-came_none : (limit : ℕ) (tail : List ℕ) (long : Bool) → is_long limit tail ≡ long → long ≡ false → short_text limit tail ≡ [] → tail ≡ []
-came_none limit tail long is short none = grind (arith, common_steps)
-
--- and nothing has come where nothing is held
-pub tail_none : (cut : Cutter) (h : History) → CutStandsFor cut h → cut.tail ≡ [] → cut.long ≡ false → tail_of h ≡ []
-tail_none cut h stands none short = came_none cut.limit (tail_of h) cut.long (sym stands.over) short (sym stands.rest ∙ none)
 
 pub begun_so : (inside seen : Reader) (h : History) → inside ≡ seen → (HasNoTail seen → ⊥) → CutStandsFor inside.cut h → tail_of h ≡ [] → ⊥
 begun_so inside seen h is begun stands none =
@@ -54,7 +43,7 @@ pub record Ends (h g : History) (text : List ℕ) : Type 0 where
   pub lines : lines_of g ≡ lines_of h ++ text ∷ []
   pub tail : tail_of g ≡ []
 
-pub ends_by_feed : (h : History) (part : List ℕ) → position_or_len (is_byte 10) part ≡ length part → Ends h (with_bytes h (part ++ 10 ∷ [])) (tail_of h ++ part)
+ends_by_feed : (h : History) (part : List ℕ) → position_or_len (is_byte 10) part ≡ length part → Ends h (with_bytes h (part ++ 10 ∷ [])) (tail_of h ++ part)
 ends_by_feed h part none =
     let cuts = more_line h part none in
     record { lines = ap (λ (c : Cuts). c.lines) cuts; tail = ap (λ (c : Cuts). c.tail) cuts }
@@ -63,7 +52,7 @@ settled_line : (lines : List (List ℕ)) (tail : List ℕ) → (tail ≡ [] → 
 settled_line lines [] some = absurd (some refl)
 settled_line lines (b ∷ tail) some = refl
 
-pub ends_by_settle : (h : History) → (tail_of h ≡ [] → ⊥) → Ends h (h ++ Settle ∷ []) (tail_of h)
+ends_by_settle : (h : History) → (tail_of h ≡ [] → ⊥) → Ends h (h ++ Settle ∷ []) (tail_of h)
 ends_by_settle h some =
     let cuts = after_settle h ∙ settled_line (lines_of h) (tail_of h) some in
     record { lines = ap (λ (c : Cuts). c.lines) cuts; tail = ap (λ (c : Cuts). c.tail) cuts }
@@ -155,7 +144,7 @@ within_settled limits cut after tally more bytes limit w some is one =
 
 -- ---- standing
 
-pub stands_line : (limits : Limits) (reader after : Reader) (h g : History) (text : List ℕ) → ReaderStandsFor limits reader h → Ends h g text
+stands_line : (limits : Limits) (reader after : Reader) (h g : History) (text : List ℕ) → ReaderStandsFor limits reader h → Ends h g text
     → after.limits ≡ reader.limits → after.cut ≡ next_cut reader.limits.line reader.cut.lines
     → after.tally ≡ tally_of_lines reader.limits (lines_of h ++ text ∷ []) → after.bytes ≡ bytes_in g
     → ReaderStandsFor limits after g
@@ -195,20 +184,6 @@ stands_none limits reader after h g stands own cut line tally lines bytes = reco
   bytes = bytes;
 }
 
--- a settle without a tail changes nothing
-pub stands_idle : (limits : Limits) (reader : Reader) (h : History) → ReaderStandsFor limits reader h → reader.cut.tail ≡ [] → reader.cut.long ≡ false → ReaderStandsFor limits reader (h ++ Settle ∷ [])
-stands_idle limits reader h stands none short =
-    let tail = tail_none reader.cut h stands.cut none short in
-    let cuts = after_settle h ∙ ap (settled (lines_of h)) tail in
-    let lines = ap (λ (c : Cuts). c.lines) cuts in
-    let same : tail_of (h ++ Settle ∷ []) ≡ tail_of h = ap (λ (c : Cuts). c.tail) cuts ∙ sym tail in
-    let cut : CutStandsFor reader.cut (h ++ Settle ∷ []) = record {
-      count = stands.cut.count ∙ ap length (sym lines);
-      rest = stands.cut.rest ∙ ap (short_text reader.cut.limit) (sym same);
-      over = stands.cut.over ∙ ap (is_long reader.cut.limit) (sym same);
-    } in
-    stands_none limits reader reader h (h ++ Settle ∷ []) stands refl cut refl refl lines (stands.bytes ∙ sym (bytes_settled h))
-
 -- ---- the reader's own counts
 
 pub own_tally : (limits : Limits) (reader : Reader) (h : History) → ReaderStandsFor limits reader h → reader.tally ≡ tally_of_lines reader.limits (lines_of h)
@@ -221,15 +196,3 @@ own_reads limits reader h stands item text is = ap (λ (l : Limits). record_of l
 -- the cutter's limit is the reader's own
 pub own_line : (limits : Limits) (reader : Reader) (h : History) → ReaderStandsFor limits reader h → reader.cut.limit ≡ reader.limits.line
 own_line limits reader h stands = stands.line ∙ ap (λ (l : Limits). l.line) (sym stands.limits_are)
-
--- ---- telling
-
-pub line_told : (limits : Limits) (h g : History) (text : List ℕ) (item : Option Record) → lines_of g ≡ lines_of h ++ text ∷ [] → item ≡ record_of limits.line text
-    → lines_tell limits (lines_since h g) ≡ map Came (option_to_list item)
-line_told limits h g text item lines reads =
-    ap (lines_tell limits) (since_is h g (text ∷ []) lines)
-    ∙ append-nil (line_tells limits text)
-    ∙ ap (λ (r : Option Record). map Came (option_to_list r)) (sym reads)
-
-pub none_told : (limits : Limits) (h g : History) → lines_of g ≡ lines_of h → lines_tell limits (lines_since h g) ≡ []
-none_told limits h g lines = ap (lines_tell limits) (since_none h g lines)

@@ -1,5 +1,5 @@
 -- The record of a line is the one that it spells.
-use Rattle.std.proofs.Common.{◌≡◌, ◌≤◌, ◌∙◌, sym, refl, ap, subst, ℕ, Bool, true, false, List, [], length, arith, Option, None, Some, if◌then◌else◌}
+use Rattle.std.proofs.Common.{◌≡◌, ◌≤◌, ◌∙◌, sym, refl, ap, subst, ℕ, Bool, true, false, List, [], length, arith, Option, Some, if◌then◌else◌}
 use Rattle.std.proofs.lemmas.Grind.{common_steps}
 use Rattle.audit_lex.specs.History.{is_long}
 use Rattle.audit_lex.specs.LineClass.{Class, Used, Other, Blank, Malformed, text_class, class_of}
@@ -23,12 +23,6 @@ some_by line (Used key kind) is made spelled =
 some_by line Other is made spelled = absurd (not_used line Other made is (λ key kind e. cc e) spelled)
 some_by line Blank is made spelled = absurd (not_used line Blank made is (λ key kind e. cc e) spelled)
 some_by line (Malformed f) is made spelled = absurd (not_used line (Malformed f) made is (λ key kind e. cc e) spelled)
-
-none_by : (line : List ℕ) (class : Class) (is : text_class line ≡ class) → ((key : EventKey) (kind : Kind) → class ≡ Used key kind → ⊥) → record_by line class is ≡ None
-none_by line (Used key kind) is none = absurd (none key kind refl)
-none_by line Other is none = refl
-none_by line Blank is none = refl
-none_by line (Malformed f) is none = refl
 
 inner : {A : Type 0} (a b : A) → Some a ≡ Some b → a ≡ b
 inner a b e = cc e
@@ -56,19 +50,12 @@ module _ (line : List ℕ) where
   used_if true key kind e = absurd (cc e)
   used_if false key kind e = refl
 
-  none_if : (long : Bool) → ((key : EventKey) (kind : Kind) → class_if long ≡ Used key kind → ⊥) → if_short long ≡ None
-  none_if true none = refl
-  none_if false none = none_by line (text_class line) refl none
-
   spelled_if : (long : Bool) (made : Record) → if_short long ≡ Some made → (long ≡ false) × Spells line made
   spelled_if true made e = absurd (cc e)
   spelled_if false made e = (refl, spelled_by line (text_class line) refl made e)
 
 pub reads_used : (limit : ℕ) (line : List ℕ) (key : EventKey) (kind : Kind) (made : Record) → class_of limit line ≡ Used key kind → Spells line made → record_of limit line ≡ Some made
 reads_used limit line key kind made class spelled = some_if line (is_long limit line) made (used_if line (is_long limit line) key kind class) spelled
-
-pub reads_none : (limit : ℕ) (line : List ℕ) (class : Class) → class ≡ class_of limit line → ((key : EventKey) (kind : Kind) → class ≡ Used key kind → ⊥) → record_of limit line ≡ None
-reads_none limit line class is none = none_if line (is_long limit line) (λ key kind e. none key kind (is ∙ e))
 
 short_so : (limit : ℕ) (line : List ℕ) → is_long limit line ≡ false → length line ≤ limit
 short_so limit line e = grind (arith, common_steps, e)

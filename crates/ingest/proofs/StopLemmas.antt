@@ -1,5 +1,5 @@
 -- Stops within a piece.
-use Rattle.std.proofs.Common.{◌≡◌, ◌≤◌, ◌<◌, ◌+◌, ◌-◌, ◌++◌, ◌∙◌, ◌⊎◌, inl, inr, sym, refl, ap, subst, ℕ, zero, suc, List, [], ◌∷◌, length, take, drop, map, get_or, min, arith, append_assoc, append-nil, length-append}
+use Rattle.std.proofs.Common.{◌≡◌, ◌≤◌, ◌<◌, ◌+◌, ◌-◌, ◌++◌, ◌∙◌, inl, inr, sym, refl, ap, subst, ℕ, List, [], ◌∷◌, length, take, drop, map, get_or, arith, append_assoc, append-nil, length-append}
 use Rattle.std.specs.List.{position_or_len}
 use Rattle.memchr.specs.Find.{is_byte}
 use Rattle.std.proofs.Math.Seq.{take-add, take-append-add, take-append_seam, drop-append_seam}
@@ -7,7 +7,7 @@ use Rattle.std.proofs.lemmas.List.{map-append, take_more, length-take-le, length
 use Rattle.flow_base.specs.declared.limits.Limits.{Limits}
 use Rattle.flow_base.specs.declared.limits.Full.{Full}
 use Rattle.flow_base.specs.declared.limits.Limit.TheVariants as limit
-use Rattle.audit_lex.specs.History.{History, Step, Byte, Settle, with_bytes}
+use Rattle.audit_lex.specs.History.{History, Step, Byte, with_bytes}
 use Rattle.record_join.specs.Events.{Joining}
 use Rattle.record_join.specs.declared.event.Event.{Event}
 use Rattle.audit_lex.proofs.HistoryLaws.{joined as bytes_joined}
@@ -164,8 +164,7 @@ module _ (limits : Limits) where
       let fits_front = front_fits_too limits h part fits room none in
       let owed = owes_at engine (with_bytes h piece) (front ++ Byte 10 ∷ []) (sym split) owes.stands in
       let stops = subst (λ (g : History). Stops limits g full) (sym split) (owes_stops limits engine front (Byte 10) full fits_front owed owes.by) in
-      let same : (length part + 1) - 1 ≡ length part = omega arith in
-      (
+      let same : (length part + 1) - 1 ≡ length part = omega arith in (
         stops,
         inr (
           omega arith,
@@ -181,10 +180,6 @@ module _ (limits : Limits) where
     within = omega (arith, length-append part (10 ∷ []));
     by = ended_by engine h part cause fits room none owes;
   }
-
-  -- want of memory before the first byte
-  pub stop_memory : (h : History) (piece : List ℕ) → StopsFor limits h piece (record { done = 0; why = why.NoMemory })
-  stop_memory h piece = record { within = omega arith; by = tt }
 
   -- ---- what the engine stands for after a stop
 

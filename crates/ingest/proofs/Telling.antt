@@ -1,15 +1,14 @@
 -- What joining is told as a history goes on, and the events of it.
-use Rattle.std.proofs.Common.{◌≡◌, ◌≤◌, ◌+◌, ◌++◌, ◌∙◌, sym, refl, ap, ℕ, List, [], ◌∷◌, length, drop, map, arith, append_assoc, append-nil, length-append}
-use Rattle.std.specs.List.{flat_map}
+use Rattle.std.proofs.Common.{◌≡◌, ◌+◌, ◌++◌, ◌∙◌, sym, refl, ap, ℕ, List, [], ◌∷◌, length, drop, map, append_assoc, append-nil}
 use Rattle.std.proofs.Math.Seq.{drop-append_seam}
 use Rattle.std.proofs.lemmas.Grind.{flat_map-append}
 use Rattle.flow_base.specs.declared.limits.Limits.{Limits}
-use Rattle.audit_lex.specs.History.{History, Step, Byte, Settle, lines_of, with_bytes}
+use Rattle.audit_lex.specs.History.{History, Step, Byte, lines_of, with_bytes}
 use Rattle.audit_lex.proofs.HistoryLaws.{stay}
 use Rattle.record_join.specs.Events.{Joining}
 use Rattle.record_join.specs.History.{Step as Told, start, told, events, state, released_after, left_after}
 use Rattle.record_join.specs.declared.event.Event.{Event}
-use Rattle.ingest.specs.Events.{lines_since, line_tells, lines_tell, settle_tells, tells_at, tells_after, told_of, state_of, events_of, released_at}
+use Rattle.ingest.specs.Events.{lines_since, line_tells, lines_tell, tells_at, tells_after, told_of, state_of, events_of, released_at}
 
 pub since_is : (before after : History) (later : List (List ℕ)) → lines_of after ≡ lines_of before ++ later → lines_since before after ≡ later
 since_is before after later is = ap (drop (length (lines_of before))) is ∙ drop-append_seam (lines_of before) later

@@ -2,7 +2,7 @@
 use Rattle.std.proofs.Common.{◌≡◌, ◌<◌, ◌≤◌, List, [], ◌∷◌, ◌++◌, length, refl, sym, ◌∙◌, ap, subst, Option, Some, None, arith, ℕ, zero, suc}
 use Rattle.std.specs.Option.{option_to_list}
 use Rattle.record_join.specs.Keys.{is_key}
-use Rattle.record_join.specs.Events.{Joining, least_key, only_ripe, ripe_key, without, event_at, left_at, next_event, next_left}
+use Rattle.record_join.specs.Events.{Joining, least_key, only_ripe, ripe_key, without, left_at, next_event, next_left}
 use Rattle.record_join.specs.History.{released, left, released_after, left_after}
 use Rattle.audit_lex.specs.declared.header.EventKey.{EventKey}
 use Rattle.audit_record.specs.declared.types.Record.{Record}

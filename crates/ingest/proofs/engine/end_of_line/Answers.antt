@@ -1,4 +1,4 @@
-use Rattle.std.proofs.Common.{◌≡◌, sym, None, Some}
+use Rattle.std.proofs.Common.{sym, None, Some}
 use Rattle.memchr.specs.Find.{is_byte}
 use Rattle.audit_lex.proofs.PlaceLemmas.{found_at}
 use Rattle.ingest.proofs.engine.end_of_line.Goals as goal

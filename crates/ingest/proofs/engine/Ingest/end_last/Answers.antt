@@ -1,4 +1,4 @@
-use Rattle.std.proofs.Common.{◌≡◌, ◌∙◌, sym, ap, append-nil}
+use Rattle.std.proofs.Common.{◌∙◌, sym, ap, append-nil}
 use Rattle.audit_lex.specs.History.{tail_of}
 use Rattle.ingest.specs.LineRecords.{record_of}
 use Rattle.ingest.proofs.Answered.{on_ok_so}
@@ -16,7 +16,7 @@ returns-in_ok-enter-in-Some-clause-ok c = λ limits h stands.
 pub returns-in-None-clause-ok : goal.returns-in-None-clause-ok
 returns-in-None-clause-ok c =
     on_ok_so _ (SettlesOther c.self.inside.reader c.settle_other.new.self) _ (λ reads limits h stands.
-        let own = engine_own limits _ _ h c.self.view_is stands in
-        let is = sym c.in-None.is ∙ c.in_ok-item.ensures.reads limits h own.reader ∙ ap (record_of limits.line) (append-nil (tail_of h)) in
-        last_passed limits _ h is (reads limits h own.reader (sym is)) own.joined)
+    let own = engine_own limits _ _ h c.self.view_is stands in
+    let is = sym c.in-None.is ∙ c.in_ok-item.ensures.reads limits h own.reader ∙ ap (record_of limits.line) (append-nil (tail_of h)) in
+    last_passed limits _ h is (reads limits h own.reader (sym is)) own.joined)
     c.settle_other.ensures.stands

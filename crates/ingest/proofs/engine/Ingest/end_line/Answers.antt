@@ -1,4 +1,4 @@
-use Rattle.std.proofs.Common.{◌≡◌, ◌++◌, ◌∷◌, []}
+use Rattle.std.proofs.Common.{◌++◌, ◌∷◌, []}
 use Rattle.audit_lex.specs.History.{with_bytes}
 use Rattle.ingest.proofs.EngineSteps.{engine_own, owes_own, room_so, at_rest, all_released, still_owes}
 use Rattle.ingest.proofs.StopLemmas.{stop_ended, halts_ended, halts_memory}

@@ -1,6 +1,5 @@
-use Rattle.std.proofs.Common.{◌≡◌, ◌≤◌, ◌<◌, ◌+◌, ◌-◌, ◌∙◌, sym, ap, subst, arith, length, take, ℕ}
+use Rattle.std.proofs.Common.{◌≡◌, ◌-◌, ◌∙◌, ap, arith}
 use Rattle.flow_base.specs.declared.limits.Limits.{Limits}
-use Rattle.audit_lex.specs.History.{History}
 use Rattle.ingest.specs.Counting.{bytes_in}
 use Rattle.ingest.proofs.EngineSteps.{engine_own}
 use Rattle.ingest.proofs.StopLemmas.{stop_front, stop_full, halts_front, halts_full}

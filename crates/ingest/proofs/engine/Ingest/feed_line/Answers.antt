@@ -1,4 +1,4 @@
-use Rattle.std.proofs.Common.{◌≡◌, ◌≤◌, ◌<◌, ◌+◌, sym, subst, arith, List, ℕ, take, length}
+use Rattle.std.proofs.Common.{◌<◌, sym, subst, arith, List, ℕ, take, length}
 use Rattle.std.proofs.lemmas.Result.{err_from_is_err_and}
 use Rattle.audit_lex.specs.History.{History, with_bytes}
 use Rattle.audit_lex.proofs.HistoryLemmas.{none_before, with_feed}
@@ -17,7 +17,7 @@ pub returns-in_err-hold-clause-halts : goal.returns-in_err-hold-clause-halts
 returns-in_err-hold-clause-halts c =
     let p = err_from_is_err_and c.from_residual.result c.from_residual.ensures.1 in
     rw (p.1, p.2, c.in_err-hold.ensures.none) (λ limits h stands.
-        halts_memory limits _ h c.args.piece.now (at_rest limits _ h (engine_own limits _ _ h c.in_err-hold.ensures.err stands)))
+    halts_memory limits _ h c.args.piece.now (at_rest limits _ h (engine_own limits _ _ h c.in_err-hold.ensures.err stands)))
 
 pub returns-in-Ok-clause-ok : goal.returns-in-Ok-clause-ok
 returns-in-Ok-clause-ok c = λ limits h stands.
@@ -52,7 +52,7 @@ returns-in_err-end_line-clause-stop c =
     let below : end < length c.args.piece.now = omega (arith, c.end_of_line-end.ensures.within, c.if-end-piece.false) in
     let p = err_from_is_err_and c.from_residual-in_err-end_line.result c.from_residual-in_err-end_line.ensures.1 in
     rw (p.1, p.2) (λ limits h stands.
-        stop_whole limits h c.args.piece.now end _ c.end_of_line-end.ensures.place below (c.in_err-end_line.ensures.stop limits h stands))
+    stop_whole limits h c.args.piece.now end _ c.end_of_line-end.ensures.place below (c.in_err-end_line.ensures.stop limits h stands))
 
 pub returns-in_err-end_line-clause-halts : goal.returns-in_err-end_line-clause-halts
 returns-in_err-end_line-clause-halts c =
@@ -60,7 +60,7 @@ returns-in_err-end_line-clause-halts c =
     let below : end < length c.args.piece.now = omega (arith, c.end_of_line-end.ensures.within, c.if-end-piece.false) in
     let p = err_from_is_err_and c.from_residual-in_err-end_line.result c.from_residual-in_err-end_line.ensures.1 in
     rw (p.1, p.2) (λ limits h stands.
-        halts_whole limits _ h c.args.piece.now end _ c.end_of_line-end.ensures.place below (c.in_err-end_line.ensures.halts limits h stands))
+    halts_whole limits _ h c.args.piece.now end _ c.end_of_line-end.ensures.place below (c.in_err-end_line.ensures.halts limits h stands))
 
 pub returns-clause-ok : goal.returns-clause-ok
 returns-clause-ok c = λ limits h stands.

@@ -1,8 +1,7 @@
-use Rattle.std.proofs.Common.{◌≡◌, ◌≤◌, ◌+◌, ◌∙◌, sym, ap, subst, arith, length, take, drop}
+use Rattle.std.proofs.Common.{◌∙◌, sym, subst, arith, take}
 use Rattle.std.proofs.lemmas.List.{take_rest, length-drop}
-use Rattle.audit_lex.specs.History.{History, with_bytes}
+use Rattle.audit_lex.specs.History.{with_bytes}
 use Rattle.ingest.specs.Owing.{Halts}
-use Rattle.ingest.specs.StandsFor.{StandsFor}
 use Rattle.ingest.specs.Stops.{StopsFor}
 use Rattle.ingest.specs.declared.stop.Stop.{Stop}
 use Rattle.ingest.proofs.StopLemmas.{more_taken, stop_later, halts_later}

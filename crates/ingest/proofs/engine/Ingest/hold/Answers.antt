@@ -1,4 +1,3 @@
-use Rattle.std.proofs.Common.{◌≡◌}
 use Rattle.ingest.proofs.EngineSteps.{engine_own, room_so, part_held}
 use Rattle.ingest.proofs.engine.Ingest.hold.Goals as goal
 use Rattle.ingest.proofs.engine.Ingest.hold.Goals.{in-Ok, in-Err}

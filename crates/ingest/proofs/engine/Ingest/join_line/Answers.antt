@@ -1,4 +1,4 @@
-use Rattle.std.proofs.Common.{◌≡◌, ◌∙◌, sym}
+use Rattle.std.proofs.Common.{◌∙◌, sym}
 use Rattle.ingest.proofs.Answered.{on_ok_so}
 use Rattle.ingest.proofs.EngineSteps.{engine_own, room_so, few_excess, line_came, line_passed, EndsOther}
 use Rattle.ingest.proofs.engine.Ingest.join_line.Goals as goal
@@ -14,7 +14,7 @@ returns-in_ok-enter-in-Some-clause-ok c = λ limits h stands.
 pub returns-in-None-clause-ok : goal.returns-in-None-clause-ok
 returns-in-None-clause-ok c =
     on_ok_so _ (EndsOther c.self.inside.reader c.end_other.new.self c.args.part.now) _ (λ reads limits h stands.
-        let own = engine_own limits _ _ h c.self.view_is stands in
-        let is = sym c.in-None.is ∙ c.in_ok-item.ensures.reads limits h own.reader in
-        line_passed limits _ h c.args.part.now c.requires.no_feed (room_so limits _ h _ stands.reader c.requires.room) is (reads limits h own.reader (sym is)) own.joined)
+    let own = engine_own limits _ _ h c.self.view_is stands in
+    let is = sym c.in-None.is ∙ c.in_ok-item.ensures.reads limits h own.reader in
+    line_passed limits _ h c.args.part.now c.requires.no_feed (room_so limits _ h _ stands.reader c.requires.room) is (reads limits h own.reader (sym is)) own.joined)
     c.end_other.ensures.stands

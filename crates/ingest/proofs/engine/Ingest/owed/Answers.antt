@@ -1,4 +1,4 @@
-use Rattle.std.proofs.Common.{◌≡◌, ◌∙◌, sym}
+use Rattle.std.proofs.Common.{◌∙◌, sym}
 use Rattle.ingest.proofs.Answered.{none_where}
 use Rattle.ingest.proofs.EngineSteps.{engine_own, owes_own}
 use Rattle.ingest.proofs.Quiet.{owes_stands}

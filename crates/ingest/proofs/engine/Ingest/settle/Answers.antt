@@ -1,4 +1,4 @@
-use Rattle.std.proofs.Common.{◌≡◌, ◌++◌, ◌∷◌, [], inl, inr}
+use Rattle.std.proofs.Common.{◌++◌, ◌∷◌, [], inl, inr}
 use Rattle.audit_lex.specs.History.{Settle}
 use Rattle.ingest.proofs.Answered.{on_ok_so, if_err_so, if_err, one_why}
 use Rattle.ingest.proofs.EngineSteps.{engine_own, owes_own, ends_own, at_rest, all_released, still_owes, closed_owes, never_full, settle_full, Releases, OwesSome}
@@ -21,17 +21,17 @@ returns-in-Err-end_last-clause-halts c = λ limits h w.
 pub returns-clause-ok : goal.returns-clause-ok
 returns-clause-ok c =
     on_ok_so c.release-2.result (Releases c.close.new.self c.release-2.new.self) _ (λ releases limits h stands.
-        let released = all_released limits _ _ _ h (owes_own limits _ _ h c.self.view_is (at_rest limits _ h stands)) (c.in-Ok.ensures.ok limits) in
-        let last = ends_own limits _ _ h c.self-2.view_is (c.in-Ok-end_last.ensures.ok limits h released) in
-        all_released limits _ _ _ (h ++ Settle ∷ []) (closed_owes limits _ _ _ h released.fits.input last (c.close.ensures limits)) (releases limits))
+    let released = all_released limits _ _ _ h (owes_own limits _ _ h c.self.view_is (at_rest limits _ h stands)) (c.in-Ok.ensures.ok limits) in
+    let last = ends_own limits _ _ h c.self-2.view_is (c.in-Ok-end_last.ensures.ok limits h released) in
+    all_released limits _ _ _ (h ++ Settle ∷ []) (closed_owes limits _ _ _ h released.fits.input last (c.close.ensures limits)) (releases limits))
     c.release-2.ensures.ok
 
 pub returns-clause-again : goal.returns-clause-again
 returns-clause-again c =
     on_ok_so c.release-2.result (Releases c.close.new.self c.release-2.new.self) _ (λ releases limits h w.
-        let released = all_released limits _ _ _ h (owes_own limits _ _ h c.self.view_is w) (c.in-Ok.ensures.ok limits) in
-        let last = ends_own limits _ _ h c.self-2.view_is (c.in-Ok-end_last.ensures.ok limits h released) in
-        all_released limits _ _ _ (h ++ Settle ∷ []) (closed_owes limits _ _ _ h released.fits.input last (c.close.ensures limits)) (releases limits))
+    let released = all_released limits _ _ _ h (owes_own limits _ _ h c.self.view_is w) (c.in-Ok.ensures.ok limits) in
+    let last = ends_own limits _ _ h c.self-2.view_is (c.in-Ok-end_last.ensures.ok limits h released) in
+    all_released limits _ _ _ (h ++ Settle ∷ []) (closed_owes limits _ _ _ h released.fits.input last (c.close.ensures limits)) (releases limits))
     c.release-2.ensures.ok
 
 pub returns-clause-full : goal.returns-clause-full
@@ -45,8 +45,8 @@ returns-clause-full c = λ full is limits h stands.
 pub returns-clause-halts : goal.returns-clause-halts
 returns-clause-halts c =
     if_err_so c.release-2.result (OwesSome c.close.new.self c.release-2.new.self) _ (λ cause owed limits h w.
-        let released = all_released limits _ _ _ h (owes_own limits _ _ h c.self.view_is w) (c.in-Ok.ensures.ok limits) in
-        let last = ends_own limits _ _ h c.self-2.view_is (c.in-Ok-end_last.ensures.ok limits h released) in
-        let owes = closed_owes limits _ _ _ h released.fits.input last (c.close.ensures limits) in
-        inr (released.fits, still_owes limits _ _ _ (h ++ Settle ∷ []) cause owes (owed limits)))
+    let released = all_released limits _ _ _ h (owes_own limits _ _ h c.self.view_is w) (c.in-Ok.ensures.ok limits) in
+    let last = ends_own limits _ _ h c.self-2.view_is (c.in-Ok-end_last.ensures.ok limits h released) in
+    let owes = closed_owes limits _ _ _ h released.fits.input last (c.close.ensures limits) in
+    inr (released.fits, still_owes limits _ _ _ (h ++ Settle ∷ []) cause owes (owed limits)))
     c.release-2.ensures.owed
