@@ -205,3 +205,59 @@ fn a_byte_past_the_limit_stops(rt: HostRuntime) -> Result<(), Fail> {
     );
     Ok(())
 }
+
+/// Three changes of file 7, of 250 bytes each: by 100, by 200 and by 100 again. The second one makes a third object.
+const CHANGES: &[u8] =
+    b"type=SYSCALL msg=audit(1.000:1): arch=c000003e syscall=90 success=yes exit=0 a0=0 a1=0 a2=0 a3=0 items=0 ppid=1 pid=100 comm=\"p\" exe=\"/p\"\ntype=PATH msg=audit(1.000:1): item=0 name=\"/f7\" inode=7 dev=08:01 nametype=NORMAL\ntype=EOE msg=audit(1.000:1): \ntype=SYSCALL msg=audit(2.000:2): arch=c000003e syscall=90 success=yes exit=0 a0=0 a1=0 a2=0 a3=0 items=0 ppid=1 pid=200 comm=\"p\" exe=\"/p\"\ntype=PATH msg=audit(2.000:2): item=0 name=\"/f7\" inode=7 dev=08:01 nametype=NORMAL\ntype=EOE msg=audit(2.000:2): \ntype=SYSCALL msg=audit(3.000:3): arch=c000003e syscall=90 success=yes exit=0 a0=0 a1=0 a2=0 a3=0 items=0 ppid=1 pid=100 comm=\"p\" exe=\"/p\"\ntype=PATH msg=audit(3.000:3): item=0 name=\"/f7\" inode=7 dev=08:01 nametype=NORMAL\ntype=EOE msg=audit(3.000:3): \n";
+
+#[test]
+fn a_refused_event_is_owed_and_tried_again(rt: HostRuntime) -> Result<(), Fail> {
+    let alloc = rt.alloc();
+    let mut limits = Limits::standard();
+    limits.entities = 2;
+    let mut engine = Ingest::new(alloc, &limits);
+    let full = StopWhy::Full(Full {
+        limit: Limit::Entities,
+        number: 2,
+    });
+    assert_eq!(rt;
+        engine.feed(CHANGES),
+        Err(Stop {
+            done: 500,
+            why: full,
+        })
+    );
+    assert!(rt; engine.owed());
+    assert_eq!(rt; engine.events(), 1);
+    assert_eq!(rt;
+        engine.feed(b"".as_slice()),
+        Err(Stop {
+            done: 0,
+            why: full,
+        })
+    );
+    assert_eq!(rt; engine.settle(), Err(full));
+    assert!(rt; engine.owed());
+    assert_eq!(rt; engine.events(), 1);
+    Ok(())
+}
+
+#[test]
+fn a_settle_that_is_refused_closes_what_waits(rt: HostRuntime) -> Result<(), Fail> {
+    let alloc = rt.alloc();
+    let mut limits = Limits::standard();
+    limits.entities = 2;
+    let mut engine = Ingest::new(alloc, &limits);
+    // The first event is released by its end, and the second waits for a settle.
+    assert_eq!(rt; engine.feed(&CHANGES[..470]), Ok(()));
+    assert!(rt; !engine.owed());
+    assert_eq!(rt; engine.events(), 1);
+    let full = StopWhy::Full(Full {
+        limit: Limit::Entities,
+        number: 2,
+    });
+    assert_eq!(rt; engine.settle(), Err(full));
+    assert!(rt; engine.owed());
+    assert_eq!(rt; engine.events(), 1);
+    Ok(())
+}
