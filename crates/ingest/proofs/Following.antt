@@ -128,9 +128,6 @@ has_taken admitted limits joined s released stands = record { tables_are = stand
 
 -- ---- after an event
 
-abbrev pub joined_of : Limits → Joiner → Tables → List Flow → Joined → Joined
-joined_of limits join tables flows joined = record { limits = limits; join = join; tables = tables; flows = flows; counts = joined.counts; excess = joined.excess }
-
 -- tables and flows that say the same as before
 pub stands_still : (limits : Limits) (joined after : Joined) (s : Joining) (released : List Event) → JoinedStandsFor limits joined s released
     → after.limits ≡ joined.limits → after.join ≡ joined.join → after.excess ≡ joined.excess → after.counts ≡ joined.counts → HasTaken after.tables (taken_in limits released) → after.flows ≡ joined.flows

@@ -23,12 +23,6 @@ full_parts most_objects most_flows objects flows none = (grind (arith, common_st
 pub full_none : (most_objects most_flows objects flows : ℕ) → objects ≤ most_objects → flows ≤ most_flows → full_by most_objects most_flows objects flows ≡ None
 full_none most_objects most_flows objects flows few short = grind (arith, common_steps)
 
-pub full_flows : (most_objects most_flows objects flows : ℕ) → objects ≤ most_objects → most_flows < flows → full_by most_objects most_flows objects flows ≡ Some (record { limit = limit.Flows; number = most_flows })
-full_flows most_objects most_flows objects flows few many = grind (arith, common_steps)
-
-pub full_objects : (most_objects most_flows objects flows : ℕ) → most_objects < objects → full_by most_objects most_flows objects flows ≡ Some (record { limit = limit.Entities; number = most_objects })
-full_objects most_objects most_flows objects flows many = grind (arith, common_steps)
-
 split_in : {X : Type 0} (done before after : List X) (x : X) → done ++ (before ++ x ∷ after) ≡ ((done ++ before) ++ x ∷ []) ++ after
 split_in done before after x = simp append_assoc
 
@@ -86,41 +80,3 @@ module _ (limits : Limits) where
     fits = stops.fits;
     passes = stops.passes;
   }
-
-  -- one more event
-
-  pub next_fits : (released : List Event) (event : Event) (old new : List Taken) (most : ℕ) → old ≡ taken_in limits released → new ≡ taken_in limits (released ++ event ∷ []) → most ≡ limits.entities
-      → (length (objects (acts_of old)) ≤ most → length (objects (acts_of new)) ≤ most) → full_of limits released ≡ None → length (flows new) ≤ limits.flows
-      → full_of limits (released ++ event ∷ []) ≡ None
-  next_fits released event old new most old_is new_is most_is fits none short =
-      let all = released ++ event ∷ [] in
-      let before = full_parts limits.entities limits.flows (length (objects_in limits released)) (length (flows_in limits released)) none in
-      let was : length (objects (acts_of old)) ≡ length (objects_in limits released) = ap (λ l. length (objects (acts_of l))) old_is in
-      let now : length (objects (acts_of new)) ≡ length (objects_in limits all) = ap (λ l. length (objects (acts_of l))) new_is in
-      let long : length (flows new) ≡ length (flows_in limits all) = ap (λ l. length (flows l)) new_is in
-      let few : length (objects (acts_of new)) ≤ most = fits (omega (arith, was, before.0, most_is)) in
-      full_none limits.entities limits.flows (length (objects_in limits all)) (length (flows_in limits all)) (omega (arith, now, few, most_is)) (omega (arith, long, short))
-
-  pub next_long : (released : List Event) (event : Event) (old new : List Taken) (most : ℕ) → old ≡ taken_in limits released → new ≡ taken_in limits (released ++ event ∷ []) → most ≡ limits.entities
-      → (length (objects (acts_of old)) ≤ most → length (objects (acts_of new)) ≤ most) → full_of limits released ≡ None → limits.flows < length (flows new)
-      → full_of limits (released ++ event ∷ []) ≡ Some (record { limit = limit.Flows; number = limits.flows })
-  next_long released event old new most old_is new_is most_is fits none long =
-      let all = released ++ event ∷ [] in
-      let before = full_parts limits.entities limits.flows (length (objects_in limits released)) (length (flows_in limits released)) none in
-      let was : length (objects (acts_of old)) ≡ length (objects_in limits released) = ap (λ l. length (objects (acts_of l))) old_is in
-      let now : length (objects (acts_of new)) ≡ length (objects_in limits all) = ap (λ l. length (objects (acts_of l))) new_is in
-      let same : length (flows new) ≡ length (flows_in limits all) = ap (λ l. length (flows l)) new_is in
-      let few : length (objects (acts_of new)) ≤ most = fits (omega (arith, was, before.0, most_is)) in
-      full_flows limits.entities limits.flows (length (objects_in limits all)) (length (flows_in limits all)) (omega (arith, now, few, most_is)) (omega (arith, same, long))
-
-  pub next_many : (released : List Event) (event : Event) (new : List Taken) (most : ℕ) → new ≡ taken_in limits (released ++ event ∷ []) → most ≡ limits.entities
-      → most < length (objects (acts_of new)) → full_of limits (released ++ event ∷ []) ≡ Some (record { limit = limit.Entities; number = most })
-  next_many released event new most new_is most_is many =
-      let all = released ++ event ∷ [] in
-      let now : length (objects (acts_of new)) ≡ length (objects_in limits all) = ap (λ l. length (objects (acts_of l))) new_is in
-      full_objects limits.entities limits.flows (length (objects_in limits all)) (length (flows_in limits all)) (omega (arith, now, many, most_is))
-      ∙ ap (λ n. Some (record { limit = limit.Entities; number = n })) (sym most_is)
-
--- the refusal of an object past the limit
-abbrev pub entities_full : ℕ → Full
-entities_full most = record { limit = limit.Entities; number = most }

@@ -37,19 +37,6 @@ pub record IsUnderWay (limits : Limits) (s : Joining) (before : List Event) (joi
   pub left_is : left_after limits rest ≡ left_after limits s
   pub few : length (before ++ done) + length rest.waiting ≤ 2 ^ 61
 
-pub begins : (limits : Limits) (s : Joining) (before : List Event) (joined : Joined) → JoinedStandsFor limits joined s before → length before + length s.waiting ≤ 2 ^ 61 → IsUnderWay limits s before joined
-begins limits s before joined stands few = record {
-  rest = s;
-  done = [];
-  stands = subst (λ (l : List Event). JoinedStandsFor limits joined s l) (sym (append-nil before)) stands;
-  done_is = refl;
-  left_is = refl;
-  few = subst (λ (l : List Event). length l + length s.waiting ≤ 2 ^ 61) (sym (append-nil before)) few;
-}
-
-no_some : (b : Bool) → b ≡ false → b ≡ true → ⊥
-no_some b e f = true≢false (sym f ∙ e)
-
 module _ (limits : Limits) where
   -- the event that is ripe
   pub ripe_event : (s : Joining) → is_some (ripe_key limits s) ≡ true → (event : Event) × (next_event limits s ≡ Some event)
@@ -156,6 +143,3 @@ module _ (limits : Limits) (join after : Joiner) (tables : Tables) (kept : List 
 
   pub in_time_entered : (item : Record) → JoinStandsFor limits after (enter limits w.s item) → IsInTime limits after tables kept
   in_time_entered item stands = in_time_at (enter limits w.s item) stands (enter_time limits w.s item)
-
-  pub in_time_settled : JoinStandsFor limits after (settled w.s) → IsInTime limits after tables kept
-  in_time_settled stands = in_time_at (settled w.s) stands refl

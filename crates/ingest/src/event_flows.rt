@@ -187,7 +187,7 @@ impl EventFlows {
             &event,
         ) {
             Ok(plan) => plan,
-            Err(why) => return Err(why),
+            Err(cause) => return Err(cause),
         };
         self.counts.count(event.late, plan.unmapped());
         follow_plan(&mut self.tables, &mut self.flows, plan);
