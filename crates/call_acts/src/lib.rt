@@ -23,6 +23,6 @@ pub use acts::{Act, FileRef, Opens, Thing};
 pub use calls::{Call, call_of};
 pub use event::{acts, event_call, is_unmapped};
 pub use laws::{
-    acts_are_few, acts_are_of_one_event, acts_are_of_the_caller, acts_of_events_are_admitted, event_acts_are_admitted,
-    opens_descriptors, other_calls_open_nothing,
+    acts_are_few, acts_are_of_one_event, acts_are_of_the_caller, acts_of_events_are_admitted,
+    event_acts_are_admitted, opens_descriptors, other_calls_open_nothing,
 };
