@@ -32,6 +32,14 @@ pub watch_talked : (limits : Limits) (mode : Mode) (name log asked : List ℕ) (
 watch_talked limits mode name log asked e left old new (Ok done) x = record { to = x.to; bytes = x.bytes; wrote = x.wrote; course = record { said = x.course.0; dialogue = x.course.2; bytes_are = x.course.1 }; ends = record { within = x.at.stands.fits; told = x.at.told } }
 watch_talked limits mode name log asked e left old new (Err why) x = record { to = x.to; bytes = x.bytes; wrote = x.wrote; course = x.course; ends = tt }
 
+-- a cause among more causes of a read fault
+pub causes_too : (r : Result Unit Halt) (one other write : Type 0) → IfErr r (HasCauses one write) → IfErr r (HasCauses (one ⊎ other) write)
+causes_too (Ok done) one other write causes = tt
+causes_too (Err halt.NoMemory) one other write causes = tt
+causes_too (Err halt.ReadFault) one other write causes = inl causes
+causes_too (Err halt.WriteFault) one other write causes = causes
+causes_too (Err (halt.Full full)) one other write causes = tt
+
 -- what was written whole is a front
 whole_front : (limits : Limits) (done : Job) (log asked bytes : List ℕ) (to : Moment) → Writes limits done log asked bytes to → WritesFront limits done log asked bytes
 whole_front limits (job.Back of) log asked bytes to x = inr (record { to = to; more = []; last = record { said = x.said; last = x.last; dialogue = x.dialogue; bytes_are = append-nil bytes ∙ x.bytes_are } })

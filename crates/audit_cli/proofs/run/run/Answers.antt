@@ -2,6 +2,7 @@ use Rattle.std.proofs.Common.{◌≡◌, ◌<◌, ◌-◌, ◌^◌, ◌∙◌, s
 use Rattle.audit_cli.specs.Dialogue.{begin}
 use Rattle.audit_cli.proofs.JobLemmas.{back_talked, watch_talked}
 use Rattle.audit_cli.proofs.HearLemmas.{on_ok}
+use Rattle.audit_cli.proofs.JobLemmas.{causes_too}
 use Rattle.audit_cli.proofs.run.run.Goals as goal
 
 pub returns-in-Back-clause-talked : goal.returns-in-Back-clause-talked
@@ -38,3 +39,6 @@ pub returns-clause-left : goal.returns-clause-left
 returns-clause-left g c = λ bytes asked told tells.
     let heard = rw c.in-Watch.is at tells in
     rw c.in-Watch.is (c.watch.ensures.left (begin bytes) asked (record { stands = c.new-engine.ensures; told = told }) heard)
+
+pub returns-in-Back-clause-causes : goal.returns-in-Back-clause-causes
+returns-in-Back-clause-causes g c = causes_too c.back.result _ _ _ c.back.ensures.causes
