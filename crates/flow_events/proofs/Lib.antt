@@ -1,6 +1,7 @@
 pub mod Applying
 pub mod Beginning
 pub mod CalmActs
+pub mod CountedBirths
 pub mod Drafting
 pub mod Fewness
 pub mod Following
