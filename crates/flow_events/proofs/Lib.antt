@@ -14,3 +14,4 @@ pub mod Rooming
 pub mod Rooms
 pub mod Sockets
 pub mod UnderWays
+pub mod Unmapped
