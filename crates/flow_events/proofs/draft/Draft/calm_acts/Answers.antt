@@ -27,7 +27,7 @@ loop-act-preserved c =
           let b = kept.room in
           let more = births_more c.loop-act.act-index c.args.acts.now c.act-item.result c.loop-act-test.true c.act-item.is in
           omega (arith, a, b, more)
-      );
+          );
     }
 
 pub act-requires-clause-room : goal.act-requires-clause-room
