@@ -1,6 +1,7 @@
 pub mod Applying
 pub mod Beginning
 pub mod CalmActs
+pub mod CountedBirths
 pub mod Drafting
 pub mod Fewness
 pub mod Following
@@ -13,3 +14,4 @@ pub mod Rooming
 pub mod Rooms
 pub mod Sockets
 pub mod UnderWays
+pub mod Unmapped

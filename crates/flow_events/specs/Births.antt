@@ -1,9 +1,11 @@
 -- The table of births, and what it stands for. Every list of acts has the newest first.
 use Rattle.std.specs.Prelude.{◌≡◌, ◌<◌, ℕ, List, unwrap_or}
+use Rattle.std.specs.List.{sum_by}
 use Rattle.std.specs.Map.{lookup}
 use Rattle.flow_base.specs.declared.types.FileId.{FileId}
 use Rattle.flow_base.specs.contracts.types.FileIdPartialEq.TheImpl.{ghosts}
 use Rattle.acts.specs.declared.act.Act.{Act}
+use Rattle.acts.specs.declared.act.Act.TheVariants.{Birth}
 use Rattle.acts.specs.Births.{born}
 
 -- how often each file number was born, and the room for more numbers
@@ -22,3 +24,12 @@ pub record BornAs (table : Table) (acts : List Act) : Type 0 where
 -- no number has so many births
 abbrev pub BornBelow : Table → ℕ → Type 0
 BornBelow table most = (id : FileId) → born_at table id < most
+
+-- how many births an act is
+abbrev pub births_of : Act → ℕ
+births_of (Birth file) = 1
+births_of other = 0
+
+-- how many of these acts are births
+abbrev pub births_in : List Act → ℕ
+births_in acts = sum_by births_of acts

@@ -3,7 +3,7 @@ ghost use Rattle.std.specs.Prelude.{◌≡◌, ◌≤◌, ◌<◌, ◌+◌, ◌-
 ghost use Rattle.flow_base.specs.declared.types.FileId.{FileId};
 ghost use Rattle.acts.specs.declared.act.Act.{Act};
 ghost use Rattle.acts.specs.Births.{same_file};
-ghost use Rattle.flow_events.specs.Births.{BornAs, born_at, BornBelow};
+ghost use Rattle.flow_events.specs.Births.{BornAs, born_at, BornBelow, births_of, births_in};
 
 use acts::Act;
 use flow_base::{FileId, NoMemory, equal_files_are_one};
@@ -83,5 +83,39 @@ impl Births {
                 self.add(id);
             }
         }
+    }
+}
+
+// How many births an act is.
+fn births_of(act: &Act) -> usize
+    ensures births { result ≡ births_of act.now }
+    ensures few { result ≤ 1 }
+{
+    match act {
+        Act::Birth { .. } => 1,
+        _ => 0,
+    }
+}
+
+/// How many of these acts are births.
+pub fn births_in(acts: &[Act]) -> usize
+    ensures { result ≡ births_in acts.now }
+{
+    let mut births = 0;
+    for act in acts {
+        births += births_of(act);
+    }
+    births
+}
+
+/// What an act does to births, with room where it is one. It takes no memory.
+pub fn bear(births: &mut Births, act: &Act)
+    requires room { births_of act.now ≤ births.old.spare }
+    requires few { BornBelow births.old (2 ^ 64 - 1) }
+    ensures next { (acts : List Act) → BornAs births.old acts → BornAs births.new (act.now ∷ acts) }
+    ensures spare { births.old.spare ≤ births.new.spare + births_of act.now }
+{
+    if let Act::Birth { .. } = act {
+        births.act(act);
     }
 }

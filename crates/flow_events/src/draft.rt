@@ -11,7 +11,7 @@ ghost use Rattle.entity_names.specs.Known.{full_at};
 ghost use Rattle.flow_events.specs.declared.fault.PrepareFault.TheVariants as fault;
 ghost use Rattle.call_acts.specs.Events.{IsCalmOf, IsOf};
 ghost use Rattle.flow_events.specs.Acting.{IsActing, pair_if};
-ghost use Rattle.flow_events.specs.Births.{BornAs};
+ghost use Rattle.flow_events.specs.Births.{BornAs, births_of, births_in};
 ghost use Rattle.std.specs.Prelude.{IfOk};
 ghost use Rattle.flow_events.specs.Drafts.{Drafted, UnderWay, turned};
 ghost use Rattle.flow_events.specs.Lives.{LivesBelow};
@@ -20,7 +20,7 @@ ghost use Rattle.flow_events.specs.Entering.{pair_of};
 
 use crate::acting::{Acting, see_link};
 use crate::added::Added;
-use crate::births::Births;
+use crate::births::{Births, bear};
 use crate::effects::see_name;
 use crate::fault::PrepareFault;
 use crate::given::Given;
@@ -156,14 +156,14 @@ impl Draft {
         requires of { IsOf acting.now.pid act.now }
         requires limit { ground.now.most ≡ ground.now.entities.now.limit }
         requires fits { length (ground.now.entities.now.keys ++ self.old.added.keys) ≤ ground.now.most }
-        requires room { 1 ≤ self.old.births.spare }
+        requires room { births_of act.now ≤ self.old.births.spare }
         requires flows { ground.now.flows + length self.old.added.flows < 2 ^ 64 }
         ensures next { OnOk result ((before now : List Taken) → ground.now.flows ≡ length (flows before) → IsActing ground.now.procs.now ground.now.fds.now acting.now (acts_of now ++ acts_of before) → Drafted ground.now.births.now ground.now.entities.now self.old before now → Drafted ground.now.births.now ground.now.entities.now self.new before (record { act = act.now; ms = ground.now.ms; serial = ground.now.serial } ∷ now)) }
         ensures new { OnOk result (AreNew ground.now.entities.now.keys self.old.added.keys → AreNew ground.now.entities.now.keys self.new.added.keys) }
         ensures fits { OnOk result (length (ground.now.entities.now.keys ++ self.new.added.keys) ≤ ground.now.most) }
         ensures more { OnOk result (length self.new.added.flows ≤ length self.old.added.flows + 1) }
         ensures full { (full : Full) → result ≡ Err (fault.Full full) → (before now : List Taken) → IsActing ground.now.procs.now ground.now.fds.now acting.now (acts_of now ++ acts_of before) → Drafted ground.now.births.now ground.now.entities.now self.old before now → IsPast ground.now.most full (objects (act.now ∷ (acts_of now ++ acts_of before))) }
-        ensures room { self.old.births.spare ≤ self.new.births.spare + 1 }
+        ensures room { self.old.births.spare ≤ self.new.births.spare + births_of act.now }
     {
         let link = link_of(
             ground.alloc,
@@ -188,7 +188,7 @@ impl Draft {
             at,
             ground.serial,
         )?;
-        self.births.act(act);
+        bear(&mut self.births, act);
         Ok(())
     }
 
@@ -204,14 +204,14 @@ impl Draft {
         requires calm { All (IsCalmOf acting.now.pid) acts.now }
         requires limit { ground.now.most ≡ ground.now.entities.now.limit }
         requires fits { length (ground.now.entities.now.keys ++ self.old.added.keys) ≤ ground.now.most }
-        requires room { length acts.now ≤ self.old.births.spare }
+        requires room { births_in acts.now ≤ self.old.births.spare }
         requires flows { ground.now.flows + (length self.old.added.flows + length acts.now) < 2 ^ 64 }
         ensures next { OnOk result ((before now : List Taken) → UnderWay ground.now acting.now self.old before now → UnderWay ground.now acting.now self.new before (turned ground.now.ms ground.now.serial acts.now ++ now)) }
         ensures new { OnOk result (AreNew ground.now.entities.now.keys self.old.added.keys → AreNew ground.now.entities.now.keys self.new.added.keys) }
         ensures fits { OnOk result (length (ground.now.entities.now.keys ++ self.new.added.keys) ≤ ground.now.most) }
         ensures more { OnOk result (length self.new.added.flows ≤ length self.old.added.flows + length acts.now) }
         ensures full { (full : Full) → result ≡ Err (fault.Full full) → (before now : List Taken) → UnderWay ground.now acting.now self.old before now → IsPast ground.now.most full (objects (acts_of (turned ground.now.ms ground.now.serial acts.now ++ now) ++ acts_of before)) }
-        ensures room { self.old.births.spare ≤ self.new.births.spare + length acts.now }
+        ensures room { self.old.births.spare ≤ self.new.births.spare + births_in acts.now }
     {
         for act in acts {
             self.act(ground, acting, act)?;

@@ -35,6 +35,18 @@ use proc_table::Procs;
 use record_join::EventView;
 use std::alloc::Global;
 
+// Whether an event with these acts has a call that is not in the table. One that does has its see alone, so the call
+// is looked up only where there is no second act.
+fn is_lone_unmapped(event: &EventView<'_>, acts: &[Act]) -> bool
+    requires acts { (limit : ℕ) × (acts.now ≡ event_acts limit event.now.records.now) }
+    ensures { result ≡ is_unmapped event.now.records.now }
+{
+    if acts.len() > 1 {
+        return false;
+    }
+    is_unmapped(event)
+}
+
 /// Lives, descriptors with addresses, births, and objects with names, after the acts so far.
 #[derive(Drop)]
 pub struct Tables {
@@ -107,7 +119,7 @@ impl Tables {
     {
         acts_are_of_one_event();
         let acts = call_acts::acts(alloc, event, limits)?;
-        let unmapped = is_unmapped(event);
+        let unmapped = is_lone_unmapped(event, acts.as_slice());
         self.prepare_acts(alloc, acts, event.ms, event.key.serial, unmapped)
     }
 

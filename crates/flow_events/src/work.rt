@@ -9,11 +9,13 @@ ghost use Rattle.call_acts.specs.Events.{AreRest, IsCalmOf, IsEvent, IsOf};
 ghost use Rattle.flow_events.specs.declared.fault.PrepareFault.TheVariants as fault;
 ghost use Rattle.flow_events.specs.Acting.{DoesAs};
 ghost use Rattle.flow_events.specs.Added.{AreNew, IsPast};
+ghost use Rattle.flow_events.specs.Births.{births_in, births_of};
 ghost use Rattle.flow_events.specs.Drafts.{UnderWay, turned};
 ghost use Rattle.flow_events.specs.Lives.{LivesBelow};
 ghost use Rattle.flow_events.specs.Working.{Grounded, IsBegun, IsFew, IsRefused, IsWorked, see_at, taken_at};
 
 use crate::acting::{Acting, see_acting};
+use crate::births::births_in;
 use crate::change::Change;
 use crate::draft::{Draft, Ground};
 use crate::effects::see_change;
@@ -40,7 +42,7 @@ pub struct Begun {
     pub draft: Draft,
 }
 
-/// Begins an event by its see, with room for the births of so many acts.
+/// Begins an event by its see, with room for so many births.
 pub fn begin(
     ground: &Ground<'_>,
     pid: u32,
@@ -83,7 +85,7 @@ pub fn go_on(
     requires fits { length (ground.now.entities.now.keys ++ begun.draft.added.keys) ≤ ground.now.most }
     requires calm { All (IsCalmOf begun.acting.pid) front.now }
     requires of { IsOf begun.acting.pid last.now }
-    requires room { length front.now + 1 ≤ begun.draft.births.spare }
+    requires room { births_in front.now + births_of last.now ≤ begun.draft.births.spare }
     requires flows { ground.now.flows + (length begun.draft.added.flows + (length front.now + 1)) < 2 ^ 64 }
     ensures worked { IfOk result (λ worked. (before : List Taken) (first : Taken) → Grounded ground.now before → IsBegun ground.now begun before first acts (length front.now) → DoesAs begun.see (acts_of before) first.act → IsWorked ground.now worked before (taken_at ground.now last.now ∷ (turned ground.now.ms ground.now.serial front.now ++ first ∷ []))) }
     ensures new { IfOk result (λ worked. AreNew ground.now.entities.now.keys begun.draft.added.keys → AreNew ground.now.entities.now.keys worked.draft.added.keys) }
@@ -137,7 +139,7 @@ pub fn work_out(
     ensures fits { IfOk result (λ worked. length (ground.now.entities.now.keys ++ worked.draft.added.keys) ≤ ground.now.most) }
     ensures full { IfErr result (λ why. (full : Full) → why ≡ fault.Full full → (before : List Taken) → IsFew ground.now before acts (length rest.now) → IsRefused ground.now full before (turned ground.now.ms ground.now.serial rest.now ++ see_at ground.now.ms ground.now.serial pid ppid exe.now ∷ [])) }
 {
-    let begun = begin(ground, pid, ppid, exe, rest.len())?;
+    let begun = begin(ground, pid, ppid, exe, births_in(rest))?;
     match rest {
         [] => Ok(Worked {
             see: begun.see,

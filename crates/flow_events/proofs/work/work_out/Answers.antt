@@ -9,6 +9,7 @@ use Rattle.acts.specs.Flows.{acts_of, objects}
 use Rattle.flow_events.specs.Added.{IsPast}
 use Rattle.flow_events.specs.declared.fault.PrepareFault.TheVariants as fault
 use Rattle.flow_events.specs.Working.{IsRefused, IsWorked, see_at}
+use Rattle.flow_events.proofs.CountedBirths.{births_whole}
 use Rattle.flow_events.proofs.Following.{split}
 use Rattle.flow_events.proofs.Past.{still_past}
 use Rattle.flow_events.proofs.Resting.{mapped, none_left, whole, front_shorter, turned_whole}
@@ -39,6 +40,15 @@ go_on-requires-clause-calm c =
     let begun = c.in_ok-begun.ensures in
     let shape = c.requires.rest front c.last-item.result (whole rest c.last-item.result c.in-len1-up.len_at_least c.last-item.is) in
     subst (λ pid. All (IsCalmOf pid) front) (sym begun.pid) shape.0
+
+pub go_on-requires-clause-room : goal.go_on-requires-clause-room
+go_on-requires-clause-room c =
+    let rest = c.args.rest.now in
+    let front = take (length rest - 1) rest in
+    let room = c.in_ok-begun.ensures.room in
+    let counted = c.births_in.ensures in
+    let all = births_whole rest front c.last-item.result (whole rest c.last-item.result c.in-len1-up.len_at_least c.last-item.is) in
+    omega (arith, room, counted, all)
 
 pub returns-in-empty-clause-worked : goal.returns-in-empty-clause-worked
 returns-in-empty-clause-worked c = λ before grounded enough.

@@ -42,8 +42,8 @@ name_of-requires-clause-few c =
       },
     )
 
-pub act-requires-clause-few : goal.act-requires-clause-few
-act-requires-clause-few c =
+pub bear-requires-clause-few : goal.bear-requires-clause-few
+bear-requires-clause-few c =
     few_births c.args.self.now.births c.requires.few.1 (2 ^ 64 - 1) c.requires.few.2.0.now_are (let b = c.requires.few.2.1.1 in omega (arith, b))
 
 pub returns-clause-next : goal.returns-clause-next
@@ -65,7 +65,7 @@ returns-clause-next c = λ before now base acting so_far.
     (λ i. with_ends (so_far.objects_are i) (sym link i)) ∙ sym c.in_ok-add_link.ensures.keys in
     record {
       before_are = so_far.before_are;
-      now_are = c.act.ensures.next (acts_of now) so_far.now_are;
+      now_are = c.bear.ensures.next (acts_of now) so_far.now_are;
       names_are =
           (λ i. so_far.names_are i ++ sym name i)
           ∙ append_assoc (all_given text_of (acts_of before)) (map pair_of c.args.self.now.given) _

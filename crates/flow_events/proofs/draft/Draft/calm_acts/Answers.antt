@@ -3,6 +3,7 @@ use Rattle.std.proofs.lemmas.Result.{err_from_is_err_and}
 use Rattle.acts.specs.Flows.{acts_of, objects}
 use Rattle.flow_events.specs.Added.{IsPast}
 use Rattle.flow_events.specs.Drafts.{turned}
+use Rattle.flow_events.proofs.CountedBirths.{births_more, births_left, births_within}
 use Rattle.flow_events.proofs.Past.{all_past}
 use Rattle.flow_events.proofs.UnderWays.{calm_at, one_more, all_done, turned_more}
 use Rattle.flow_events.proofs.draft.Draft.calm_acts.Goals as goal
@@ -21,8 +22,26 @@ loop-act-preserved c =
       new = λ start. c.in_ok-act.ensures.new (kept.new start);
       fits = c.in_ok-act.ensures.fits;
       more = (let a = c.in_ok-act.ensures.more in let b = kept.more in omega (arith, a, b));
-      room = (let a = c.in_ok-act.ensures.room in let b = kept.room in omega (arith, a, b));
+      room = (
+          let a = c.in_ok-act.ensures.room in
+          let b = kept.room in
+          let more = births_more c.loop-act.act-index c.args.acts.now c.act-item.result c.loop-act-test.true c.act-item.is in
+          omega (arith, a, b, more)
+          );
     }
+
+pub act-requires-clause-room : goal.act-requires-clause-room
+act-requires-clause-room c =
+    let kept = c.loop-act.invariant.room in
+    let room = c.requires.room in
+    let left = births_left c.loop-act.act-index c.args.acts.now c.act-item.result c.loop-act-test.true c.act-item.is in
+    omega (arith, kept, room, left)
+
+pub returns-clause-room : goal.returns-clause-room
+returns-clause-room c =
+    let kept = c.loop-act.invariant.room in
+    let within = births_within c.loop-act.act-index c.args.acts.now in
+    omega (arith, kept, within)
 
 pub returns-clause-next : goal.returns-clause-next
 returns-clause-next c = λ before now start.

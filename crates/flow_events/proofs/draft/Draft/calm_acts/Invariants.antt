@@ -1,6 +1,7 @@
 use Rattle.std.proofs.Common.{◌≤◌, ◌+◌, ◌++◌, List, length, take}
 use Rattle.acts.specs.declared.act.Taken.{Taken}
 use Rattle.flow_events.specs.Added.{AreNew}
+use Rattle.flow_events.specs.Births.{births_in}
 use Rattle.flow_events.specs.Drafts.{UnderWay, turned}
 use Rattle.flow_events.proofs.draft.Draft.calm_acts.Given as goal
 
@@ -11,5 +12,5 @@ invariant-loop-act l = record {
   new : AreNew l.ground.entities.now.keys l.fn.self.added.keys → AreNew l.ground.entities.now.keys l.self.added.keys;
   fits : length (l.ground.entities.now.keys ++ l.self.added.keys) ≤ l.ground.most;
   more : length l.self.added.flows ≤ length l.fn.self.added.flows + l.act-index;
-  room : l.fn.self.births.spare ≤ l.self.births.spare + l.act-index;
+  room : l.fn.self.births.spare ≤ l.self.births.spare + births_in (take l.act-index l.acts);
 }
