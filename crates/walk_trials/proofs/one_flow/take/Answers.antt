@@ -1,4 +1,4 @@
-use Rattle.std.proofs.Common.{◌≡◌, sym, subst, ◌∙◌}
+use Rattle.std.proofs.Common.{sym, subst, ◌∙◌}
 use Rattle.reach_rows.specs.Kept.{GoesOn}
 use Rattle.walk_trials.proofs.one_flow.take.Goals as goal
 
