@@ -1,13 +1,12 @@
 -- A next flow, behind the rows that a mode keeps of the flows before it.
-use Rattle.std.proofs.Common.{◌≡◌, ℕ, suc, ◌≤◌, ◌<◌, ◌^◌, max, List, [], ◌∷◌, ◌++◌, length, sym, subst, arith}
+use Rattle.std.proofs.Common.{suc, ◌≤◌, ◌<◌, ◌^◌, max, List, [], ◌∷◌, ◌++◌, length, sym, subst, arith}
 use Rattle.std.specs.List.{Contains}
 use Rattle.std.proofs.lemmas.List.{length-append, length-set}
 use Rattle.std.proofs.lemmas.List.Elements.{Contains-push, Contains-append_left}
 use Rattle.flow_base.specs.declared.types.Flow.{Flow}
 use Rattle.reach_model.specs.declared.modes.Mode.{Mode}
-use Rattle.reach_model.specs.declared.modes.Verdict.{Verdict}
 use Rattle.reach_model.specs.declared.modes.Verdict.TheVariants.{Drop, Add, Extend}
-use Rattle.reach_model.specs.Flows.{source, target, time, place, IsLawful}
+use Rattle.reach_model.specs.Flows.{source, target, time, IsLawful}
 use Rattle.reach_model.specs.Numbers.{IsNumbered, beyond, known}
 use Rattle.reach_model.specs.Rows.{Row, Keeps, none, more, firsts}
 use Rattle.reach_model.proofs.Faithful.{kept_first, kept_last}
