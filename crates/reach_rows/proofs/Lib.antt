@@ -1,2 +1,4 @@
+pub mod AskedLemmas
+pub mod NextFlow
 pub mod ObjectLemmas
 pub mod RowLemmas

@@ -6,6 +6,7 @@
 //! proof never speaks of where rows are kept, and a search over rows never speaks of a mode.
 #![tactic(auto)]
 
+mod laws;
 mod objects;
 mod plain;
 mod questions;
@@ -13,6 +14,10 @@ mod reducer;
 mod rows;
 mod vec_rows;
 
+pub use laws::{
+    first_flows_are_told, verdicts_make_the_rows, what_is_allowed_is_answerable,
+    what_is_allowed_is_answered,
+};
 pub use plain::Plain;
 pub use questions::{First, Question};
 pub use reducer::Reducer;

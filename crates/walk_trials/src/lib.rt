@@ -3,10 +3,17 @@
 //! The walks are tried over rows that are written down here and that tell nothing, so every answer and every fault is
 //! seen as it comes. The modes are tried on short lists of flows: which rows come of them, and that the answers over
 //! the merged rows are those over all flows.
+//!
+//! `take` and `ask` show that the parts fit together: by the laws of the modes and of the rows, each step from a flow to
+//! its row and from a question to its ids is one about all flows.
 #![tactic(auto)]
 
+mod one_flow;
+mod one_question;
 mod table;
 
+pub use one_flow::take;
+pub use one_question::ask;
 pub use table::Table;
 
 #[cfg(test)]
