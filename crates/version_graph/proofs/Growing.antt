@@ -1,5 +1,5 @@
 -- What the tables say after one more flow.
-use Rattle.std.proofs.Common.{◌≡◌, ◌≢◌, ℕ, zero, suc, ◌+◌, ◌<◌, ◌≤◌, ◌↔◌, List, [], ◌∷◌, ◌++◌, length, get_or, reverse, Option, Some, None, true, false, cond, refl, sym, ap, subst, ◌∙◌, arith, ◌⊎◌, inl, inr, ◌==◌, ◌&&◌}
+use Rattle.std.proofs.Common.{◌≡◌, ◌≢◌, ℕ, ◌+◌, ◌<◌, ◌≤◌, List, [], ◌∷◌, ◌++◌, length, reverse, Option, Some, None, true, false, cond, refl, sym, ap, ◌∙◌, arith, ◌⊎◌, inl, inr, ◌==◌, ◌&&◌}
 use Rattle.std.specs.Prelude.{nat_eq}
 use Rattle.std.proofs.lemmas.List.{reverse-append, get_or_append_left, get_or_push, length-append}
 use Rattle.std.proofs.lemmas.Bool.{cases_Bool, cases_lt, cases_eq, eq-eqb, ne_eqb, eqb-true, and_from, and_left, and_right, both_ways}
@@ -79,16 +79,16 @@ module _ (K : List Flow) (f : Flow) where
   pub linked_before : (u v : ℕ) → ¬ ((source f ≡ u) × (target f ≡ v)) → HasLink (K ++ f ∷ []) u v → (target f ≢ u) × HasLink K u v
   linked_before u v apart l = elim (cases_lt l.index (length K)) [
     | inl old ↦ (
-        λ e. l.no_inflow_since (length K) f old (simp length-append (omega arith)) (ap target (get_or_push K f f (length K) refl) ∙ e),
-        let same = λ (d : Flow). get_or_append_left K (f ∷ []) d l.index old in
-        record {
-          index = l.index;
-          within = old;
-          from = λ d. ap source (sym (same d)) ∙ l.from d;
-          to = λ d. ap target (sym (same d)) ∙ l.to d;
-          no_inflow_since = λ k d low h e. l.no_inflow_since k d low (simp length-append (omega arith)) (ap target (get_or_append_left K (f ∷ []) d k h) ∙ e);
-        },
-      )
+      λ e. l.no_inflow_since (length K) f old (simp length-append (omega arith)) (ap target (get_or_push K f f (length K) refl) ∙ e),
+      let same = λ (d : Flow). get_or_append_left K (f ∷ []) d l.index old in
+          record {
+            index = l.index;
+            within = old;
+            from = λ d. ap source (sym (same d)) ∙ l.from d;
+            to = λ d. ap target (sym (same d)) ∙ l.to d;
+            no_inflow_since = λ k d low h e. l.no_inflow_since k d low (simp length-append (omega arith)) (ap target (get_or_append_left K (f ∷ []) d k h) ∙ e);
+          },
+    )
     | inr new ↦
         let end : length K ≡ l.index = omega (arith, l.within, length-append K (f ∷ [])) in
         let is = get_or_push K f f l.index end in

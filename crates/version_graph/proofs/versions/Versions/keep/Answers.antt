@@ -2,7 +2,7 @@ use Rattle.std.proofs.Common.{◌≡◌, ℕ, ◌+◌, ◌<◌, ◌-◌, ◌^◌
 use Rattle.std.specs.Prelude.{nat_eq}
 use Rattle.indexmap.specs.IndexMap.{get}
 use Rattle.reach_model.specs.Flows.{source, target}
-use Rattle.reach_model.specs.Versions.{version, is_sealed}
+use Rattle.reach_model.specs.Versions.{version}
 use Rattle.version_graph.specs.Tables.{IsLeftOf, pair_eq, version_or}
 use Rattle.version_graph.proofs.Growing.{pair_cases, few_versions, version_next, seal_next, left_here, left_of_there}
 use Rattle.version_graph.proofs.versions.Versions.keep.Goals as goal
@@ -15,10 +15,10 @@ returns-clause-next c = λ K s few.
     let old = λ (x : ℕ). version_or (get nat_eq self.objects x) in
     let low : (old (target f)).number < 2 ^ 64 - 1 = omega (arith, s.numbers (target f), few_versions K (target f), few) in
     let numbers : (x : ℕ) → (version_or (get nat_eq c.leave-left.new.objects x)).number ≡ version L x = λ x.
-        c.leave-left.ensures.numbers x ∙ c.enter.ensures.numbers low x
-        ∙ ap (λ n. n + cond ((target f == x) && (old x).sealed) 1 0) (s.numbers x)
-        ∙ ap (λ b. version K x + cond ((target f == x) && b) 1 0) (s.seals x)
-        ∙ sym (version_next K f x)
+    c.leave-left.ensures.numbers x ∙ c.enter.ensures.numbers low x
+    ∙ ap (λ n. n + cond ((target f == x) && (old x).sealed) 1 0) (s.numbers x)
+    ∙ ap (λ b. version K x + cond ((target f == x) && b) 1 0) (s.seals x)
+    ∙ sym (version_next K f x)
     in
     let left : Some c.leave-left.result ≡ Some (version L (source f)) = ap Some (c.leave-left.ensures.left ∙ numbers (source f)) in
     record {
