@@ -1,8 +1,9 @@
 -- What the tables say after a verdict on a flow, and after a row that was kept before.
-use Rattle.std.proofs.Common.{◌≡◌, ◌≢◌, ℕ, ◌<◌, List, [], ◌∷◌, ◌++◌, length, get_or, map, refl, sym, ap, subst, ◌∙◌, arith, inl, inr}
+use Rattle.std.proofs.Common.{◌≡◌, ◌≢◌, ℕ, ◌<◌, ◌^◌, List, [], ◌∷◌, ◌++◌, length, get_or, map, refl, sym, ap, subst, ◌∙◌, arith, inl, inr}
 use Rattle.std.specs.List.{Contains}
-use Rattle.std.proofs.lemmas.List.{map-append, map-set_same, length-append, length-map, get_or_append_left, get_or_push}
+use Rattle.std.proofs.lemmas.List.{map-append, length-append, length-map, get_or_append_left, get_or_push}
 use Rattle.std.proofs.lemmas.List.Elements.{Contains-push_cases, Contains-get_or}
+use Rattle.std.proofs.Math.Seq.{map-set_same}
 use Rattle.std.proofs.lemmas.Bool.{cases_lt}
 use Rattle.flow_base.specs.declared.types.Flow.{Flow}
 use Rattle.reach_model.specs.declared.modes.Verdict.{Verdict}
@@ -13,6 +14,9 @@ use Rattle.reach_model.specs.Rows.{Row, SamePair, firsts, row_of, rows_after}
 use Rattle.reach_model.proofs.Members.{from_map}
 use Rattle.reach_model.proofs.Redundant.{set_cases}
 use Rattle.version_graph.specs.Links.{EndsDiffer}
+use Rattle.version_graph.specs.Tables.{StandsFor as HasVersions}
+use Rattle.reduce_full.specs.declared.full.Full.{Full}
+use Rattle.reduce_full.specs.Tables.{Holds}
 
 -- the first flows of the rows and one more
 pub firsts_push : (R : List Row) (r : Row) → firsts (R ++ r ∷ []) ≡ firsts R ++ r.first ∷ []
@@ -57,3 +61,14 @@ pairs_extended R f i old h same s c =
       | inl o ↦ old s o
       | inr e ↦ subst (λ (x : Row). SamePair x.last x.first) e (sym here.0 ∙ at.0, sym here.1 ∙ at.1)
     ]
+
+-- the first flows of few rows are few
+pub firsts_few : (R : List Row) → length R < 2 ^ 63 → length (firsts R) < 2 ^ 63
+firsts_few R few = simp length-map few
+
+-- one more row, whose first flow was kept
+pub holds_push : (new : Full) (R : List Row) (r : Row) → ((s : Row) → Contains R s → SamePair s.last s.first) → SamePair r.last r.first → HasVersions new.versions (firsts R ++ r.first ∷ []) → Holds new (R ++ r ∷ [])
+holds_push new R r old pair kept = record {
+  versions = subst (HasVersions new.versions) (sym (firsts_push R r)) kept;
+  pairs = pairs_push R r old pair;
+}

@@ -14,6 +14,6 @@ linked_ends R f pairs l =
     let m = from_map (λ (r : Row). r.first) R (get_or (firsts R) l.index f) (Contains-get_or (firsts R) l.index f l.within) in
     let same = pairs m.0 m.1 in
     (
-      (m.0, (m.1, inl (same.0 ∙ ap source m.2 ∙ l.from f))),
-      (m.0, (m.1, inr (same.1 ∙ ap target m.2 ∙ l.to f))),
+      (m.0, m.1, inl (same.0 ∙ ap source m.2 ∙ l.from f)),
+      (m.0, m.1, inr (same.1 ∙ ap target m.2 ∙ l.to f)),
     )

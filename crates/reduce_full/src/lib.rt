@@ -8,5 +8,3 @@ mod full;
 
 pub use full::Full;
 
-#[cfg(test)]
-mod tests;
