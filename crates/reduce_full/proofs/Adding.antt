@@ -1,13 +1,12 @@
 -- What the tables say after a verdict on a flow, and after a row that was kept before.
-use Rattle.std.proofs.Common.{◌≡◌, ◌≢◌, ℕ, ◌<◌, ◌^◌, List, [], ◌∷◌, ◌++◌, length, get_or, map, refl, sym, ap, subst, ◌∙◌, arith, inl, inr}
+use Rattle.std.proofs.Common.{◌≡◌, ◌≢◌, ℕ, ◌<◌, ◌^◌, List, [], ◌∷◌, ◌++◌, length, get_or, refl, sym, ap, subst, ◌∙◌, arith, inl, inr}
 use Rattle.std.specs.List.{Contains}
 use Rattle.std.proofs.lemmas.List.{map-append, length-append, length-map, get_or_append_left, get_or_push}
 use Rattle.std.proofs.lemmas.List.Elements.{Contains-push_cases, Contains-get_or}
 use Rattle.std.proofs.Math.Seq.{map-set_same}
 use Rattle.std.proofs.lemmas.Bool.{cases_lt}
 use Rattle.flow_base.specs.declared.types.Flow.{Flow}
-use Rattle.reach_model.specs.declared.modes.Verdict.{Verdict}
-use Rattle.reach_model.specs.declared.modes.Verdict.TheVariants.{Drop, Add, Extend}
+use Rattle.reach_model.specs.declared.modes.Verdict.TheVariants.{Extend}
 use Rattle.reach_model.specs.Flows.{source, target, place}
 use Rattle.reach_model.specs.Laws.{AscendsByFirst}
 use Rattle.reach_model.specs.Rows.{Row, SamePair, firsts, row_of, rows_after}

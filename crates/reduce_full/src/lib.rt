@@ -8,3 +8,5 @@ mod full;
 
 pub use full::Full;
 
+#[cfg(test)]
+mod tests;
