@@ -1,0 +1,5 @@
+use Rattle.version_graph.proofs.Growing.{pairs_apart}
+use Rattle.version_graph.proofs.versions.set_link.Goals as goal
+
+pub returns-clause-others : goal.returns-clause-others
+returns-clause-others c = λ u v n. c.in-Ok.ensures.updates.2 (u, v) (pairs_apart c.args.pair.0 c.args.pair.1 u v n)
