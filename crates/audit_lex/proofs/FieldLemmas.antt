@@ -79,9 +79,9 @@ named name f =
 pub exact_field : (name : List ℕ) (f : Field) → (field_called name ≡ Some f) ↔ (name_of f ≡ name)
 exact_field name f = (named name f, λ is. ap field_called (sym is) ∙ called f)
 
--- another field has another name
-pub other_name : (g f : Field) → g ≢ f → name_of f ≢ name_of g
-other_name g f other is = other (same_field g f (sym (called g) ∙ ap field_called (sym is) ∙ called f))
+-- fields of one name are one
+pub same_name : (g f : Field) → name_of g ≡ name_of f → g ≡ f
+same_name g f is = same_field g f (sym (called g) ∙ ap field_called is ∙ called f)
 
 -- where no field has the name, none is found
 pub not_named : (name : List ℕ) → ((f : Field) → (None ≡ Some f) ↔ (name_of f ≡ name)) → (f : Field) → name_of f ≢ name

@@ -4,6 +4,7 @@ pub mod HistoryLaws
 pub mod TokenLemmas
 pub mod FieldLemmas
 pub mod SlotLemmas
+pub mod TableLemmas
 pub mod NumberLemmas
 pub mod HexTexts
 pub mod HeaderLaws

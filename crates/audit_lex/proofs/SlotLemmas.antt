@@ -1,34 +1,19 @@
 -- Slots that are filled one after the other.
-use Rattle.std.proofs.Common.{◌≡◌, ◌≢◌, ◌<◌, ◌≤◌, ◌+◌, ◌-◌, ◌∙◌, sym, refl, ap, ℕ, zero, suc, List, [], ◌∷◌, length, map, min, take, drop, Option, None, Some, get_or, set, option_map, inl, inr, arith, Bool, true, false, if◌then◌else◌}
+use Rattle.std.proofs.Common.{◌≡◌, ◌≢◌, ◌↔◌, ◌<◌, ◌≤◌, ◌+◌, ◌-◌, ◌∙◌, sym, refl, ap, ℕ, zero, suc, List, [], ◌∷◌, length, min, take, drop, Option, None, Some, get_or, set, option_map, ◌==◌, inl, inr, arith, Bool, true, false, if◌then◌else◌}
 use Rattle.std.specs.Option.{option_or, option_to_list}
-use Rattle.std.proofs.lemmas.Bool.{cases_eq, cases_lt, false_from_ne_true}
-use Rattle.std.proofs.lemmas.List.{map-set, take_all, drop_all, length-drop, length-set, get_or-set_same, get_or-set_other}
+use Rattle.std.proofs.lemmas.Bool.{cases_eq, cases_lt, false_from_ne_true, eqb-true}
+use Rattle.std.proofs.lemmas.List.{map-set, take_all, drop_all, length-drop, get_or-set_same, get_or-set_other, set-get_or}
 use Rattle.audit_lex.specs.Tokens.{NameValue, value_in, token_at, token_len, field_of}
-use Rattle.audit_lex.specs.Slots.{spanned, held, names_of, AreFilled, AreFound}
+use Rattle.audit_lex.specs.Slots.{spanned, slot_bytes, held, names_of, AreFilled, AreFound}
 use Rattle.audit_lex.specs.declared.fields.Rule.{Rule}
 use Rattle.audit_lex.specs.declared.spans.Span.{Span}
 use Rattle.std.specs.Prelude.{is_some}
 use Rattle.audit_lex.proofs.TokenLemmas.{field_after_space, field_at_token}
-use Rattle.std.proofs.Math.ListN.{get_or-map}
-use Rattle.audit_lex.specs.declared.fields.Field.{Field}
 use Rattle.audit_lex.specs.declared.fields.Field.TheVariants as field
 use Rattle.audit_lex.specs.declared.fields.ValueKind.TheVariants as value
 use Rattle.audit_lex.specs.FieldTable.{name_of, may}
-use Rattle.audit_lex.proofs.FieldLemmas.{other_name}
 use Rattle.std.specs.Str.{bytes_eq}
 use Rattle.std.proofs.lemmas.Slice.Eq.{bytes_eq-Decides}
-
-map_or : {X Y : Type 0} (f : X → Y) (a b : Option X) → option_map f (option_or a b) ≡ option_or (option_map f a) (option_map f b)
-map_or f None b = refl
-map_or f (Some a) b = refl
-
-pub offered : {X Y : Type 0} (f : X → Y) (values : List (Option X)) (place : ℕ) (value : Option X)
-    → map (option_map f) (set values place (option_or (get_or values place None) value))
-    ≡ set (map (option_map f) values) place (option_or (get_or (map (option_map f) values) place None) (option_map f value))
-offered f values place value =
-    map-set (option_map f) values place _
-    ∙ ap (set (map (option_map f) values) place)
-    (map_or f (get_or values place None) value ∙ ap (λ held. option_or held (option_map f value)) (sym (get_or-map (option_map f) values place None)))
 
 -- ---- spans
 
@@ -65,39 +50,6 @@ or_none : {A : Type 0} (a : Option A) → option_or a None ≡ a
 or_none None = refl
 or_none (Some a) = refl
 
--- the slots before a place have taken what these tokens have for them, and the others are as they were
-pub record Filling (rules : List Rule) (tokens : List NameValue) (before after : List (Option (List ℕ))) (done : ℕ) : Type 0 where
-  pub size : length after ≡ length before
-  pub filled : (place : ℕ) → place < done →
-      get_or after place None ≡ option_or (get_or before place None) (value_in tokens (get_or (names_of rules) place []))
-  pub same : (place : ℕ) → done ≤ place → get_or after place None ≡ get_or before place None
-
-pub one_filled : (rules : List Rule) (tokens : List NameValue) (before between after : List (Option (List ℕ))) (done : ℕ) (value : Option (List ℕ))
-    → Filling rules tokens before between done → done < length before → value ≡ value_in tokens (get_or (names_of rules) done [])
-    → after ≡ set between done (option_or (get_or between done None) value) → Filling rules tokens before after (done + 1)
-one_filled rules tokens before between after done value filling within is set_is =
-    let there = ap (λ xs. get_or xs done None) set_is ∙ get_or-set_same between done _ None (omega (arith, filling.size)) in
-    record {
-      size = ap length set_is ∙ length-set between done _ ∙ filling.size;
-      filled = λ place below. elim (cases_eq place done) [
-        | inl this ↦ rw this (there ∙ ap (λ held. option_or held value) (filling.same done (omega arith)) ∙ ap (option_or (get_or before done None)) is)
-        | inr other ↦ ap (λ xs. get_or xs place None) set_is ∙ get_or-set_other between done place _ None other ∙ filling.filled place (omega (arith, other))
-      ];
-      same = λ place above. ap (λ xs. get_or xs place None) set_is ∙ get_or-set_other between done place _ None (λ same. omega (arith, same)) ∙ filling.same place (omega arith);
-    }
-
--- a place that the tokens have nothing for stays as it is
-pub one_passed : (rules : List Rule) (tokens : List NameValue) (before between after : List (Option (List ℕ))) (done : ℕ)
-    → Filling rules tokens before between done → value_in tokens (get_or (names_of rules) done []) ≡ None → after ≡ between → Filling rules tokens before after (done + 1)
-one_passed rules tokens before between after done filling none is = record {
-  size = ap length is ∙ filling.size;
-  filled = λ place below. ap (λ xs. get_or xs place None) is ∙ elim (cases_eq place done) [
-    | inl this ↦ rw this (filling.same done (omega arith) ∙ sym (or_none (get_or before done None)) ∙ ap (option_or (get_or before done None)) (sym none))
-    | inr other ↦ filling.filled place (omega (arith, other))
-  ];
-  same = λ place above. ap (λ xs. get_or xs place None) is ∙ filling.same place (omega arith);
-}
-
 -- ---- the token of a field
 
 taken : (test : Bool) (value : List ℕ) → test ≡ true → Some value ≡ (if test then Some value else None)
@@ -111,31 +63,42 @@ left false value is = refl
 unnamed : (name other value : List ℕ) → name ≢ other → value_in (record { name = name; value = value } ∷ []) other ≡ None
 unnamed name other value differs = left (bytes_eq name other) value (false_from_ne_true _ (λ same. differs ((bytes_eq-Decides name other).0 same)))
 
+pub none_some : (place : ℕ) → None ≡ Some place → ⊥
+none_some place is = cc
+
+same_place : (here place : ℕ) → Some here ≡ Some place → here ≡ place
+same_place here place is = cc
+
 -- the name at a place is that of its rule's field
-name_at : (rules : List Rule) (place : ℕ) → place < length rules → get_or (names_of rules) place [] ≡ name_of (get_or rules place (may field.Arch value.Dec32)).field
+pub name_at : (rules : List Rule) (place : ℕ) → place < length rules → get_or (names_of rules) place [] ≡ name_of (get_or rules place (may field.Arch value.Dec32)).field
 name_at [] place below = absurd (omega arith)
 name_at (rule ∷ rules) zero below = refl
 name_at (rule ∷ rules) (suc place) below = name_at rules place (omega arith)
 
--- at a place of the field the token has the name
-pub of_field : (rules : List Rule) (f : Field) (bytes : List ℕ) (place : ℕ) → place < length rules → (get_or rules place (may field.Arch value.Dec32)).field ≡ f
-    → Some bytes ≡ value_in (record { name = name_of f; value = bytes } ∷ []) (get_or (names_of rules) place [])
-of_field rules f bytes place below is =
-    taken (bytes_eq (name_of f) (get_or (names_of rules) place [])) bytes
-    ((bytes_eq-Decides (name_of f) (get_or (names_of rules) place [])).1 (sym (name_at rules place below ∙ ap name_of is)))
-
--- at a place of another field it has not
-pub of_other : (rules : List Rule) (f : Field) (bytes : List ℕ) (place : ℕ) → place < length rules → (get_or rules place (may field.Arch value.Dec32)).field ≢ f
-    → value_in (record { name = name_of f; value = bytes } ∷ []) (get_or (names_of rules) place []) ≡ None
-of_other rules f bytes place below other =
-    unnamed (name_of f) (get_or (names_of rules) place []) bytes
-    (λ is. other_name (get_or rules place (may field.Arch value.Dec32)).field f other (is ∙ name_at rules place below))
-
--- a name of no field is at no place
-pub no_field : (rules : List Rule) (name bytes : List ℕ) (slots : List (Option (List ℕ))) → ((f : Field) → name_of f ≢ name)
+-- where no place asks for the name, each slot stays as it is
+pub no_place : (rules : List Rule) (name bytes : List ℕ) (slots : List (Option (List ℕ)))
+    → ((place : ℕ) → place < length rules → (None ≡ Some place) ↔ (get_or (names_of rules) place [] ≡ name))
     → AreFilled rules (record { name = name; value = bytes } ∷ []) slots slots
-no_field rules name bytes slots none place below =
-    sym (ap (option_or (get_or slots place None)) (unnamed name (get_or (names_of rules) place []) bytes (λ is. none _ (sym (is ∙ name_at rules place below)))) ∙ or_none (get_or slots place None))
+no_place rules name bytes slots exact place below =
+    let differs : get_or (names_of rules) place [] ≢ name = λ is. none_some place ((exact place below).1 is) in
+    sym (ap (option_or (get_or slots place None)) (unnamed name (get_or (names_of rules) place []) bytes (λ is. differs (sym is))) ∙ or_none (get_or slots place None))
+
+-- where one place asks for the name, its slot alone is offered the value
+pub one_place : (rules : List Rule) (name bytes : List ℕ) (before after : List (Option (List ℕ))) (here : ℕ)
+    → ((place : ℕ) → place < length rules → (Some here ≡ Some place) ↔ (get_or (names_of rules) place [] ≡ name))
+    → here < length rules → here < length before
+    → after ≡ set before here (option_or (get_or before here None) (Some bytes))
+    → AreFilled rules (record { name = name; value = bytes } ∷ []) before after
+one_place rules name bytes before after here exact below within is place inside = elim (cases_eq place here) [
+  | inl this ↦
+      rw this (ap (λ xs. get_or xs here None) is ∙ get_or-set_same before here _ None within
+      ∙ ap (option_or (get_or before here None)) (taken (bytes_eq name (get_or (names_of rules) here [])) bytes
+      ((bytes_eq-Decides name (get_or (names_of rules) here [])).1 (sym ((exact here below).0 refl)))))
+  | inr other ↦
+      ap (λ xs. get_or xs place None) is ∙ get_or-set_other before here place _ None other
+      ∙ sym (ap (option_or (get_or before place None)) (unnamed name (get_or (names_of rules) place []) bytes (λ same. other (sym (same_place here place ((exact place inside).1 (sym same))))))
+      ∙ or_none (get_or before place None))
+]
 
 -- ---- one token after the other
 
@@ -165,6 +128,11 @@ pub found : (rules : List Rule) (raw rest : List ℕ) (slots : List (Option (Lis
 found rules raw [] slots none finding place below = sym (or_none (get_or slots place None)) ∙ finding place below
 found rules raw (byte ∷ rest) slots none finding place below = absurd (omega (arith, none))
 
+-- where no value was lent there is none
+pub none_found : {X Y : Type 0} (f : X → Y) (lent : Option X) (value : Option Y) → option_map f lent ≡ value → is_some lent ≡ false → value ≡ None
+none_found f None value is none = sym is
+none_found f (Some x) value is none = cc none
+
 -- ---- full places
 
 -- so many places at the front are full
@@ -179,10 +147,6 @@ keeps_own : {A : Type 0} (a b : Option A) → is_some a ≡ true → a ≡ optio
 keeps_own None b is = cc
 keeps_own (Some a) b is = refl
 
-some_mapped : {X Y : Type 0} (f : X → Y) (a : Option X) → is_some (option_map f a) ≡ is_some a
-some_mapped f None = refl
-some_mapped f (Some a) = refl
-
 -- a full place stays full
 pub stays_full : (rules : List Rule) (tokens : List NameValue) (before after : List (Option (List ℕ))) (count : ℕ) → count ≤ length rules
     → AreFilled rules tokens before after → Full count before → Full count after
@@ -190,12 +154,44 @@ stays_full rules tokens before after count within filled full place below =
     ap is_some (filled place (omega (arith, below, within))) ∙ still_some (get_or before place None) _ (full place below)
 
 -- the places up to one and those from there on
-pub more_full : (raw : List ℕ) (spans : List (Option Span)) (from to : ℕ) → Full from (held raw spans)
-    → ((place : ℕ) → from ≤ place → place < to → is_some (get_or spans place None) ≡ true) → Full to (held raw spans)
-more_full raw spans from to full more place below = elim (cases_lt place from) [
+pub more_full : (slots : List (Option (List ℕ))) (from to : ℕ) → Full from slots
+    → ((place : ℕ) → from ≤ place → place < to → is_some (get_or slots place None) ≡ true) → Full to slots
+more_full slots from to full more place below = elim (cases_lt place from) [
   | inl front ↦ full place front
-  | inr behind ↦ ap is_some (get_or-map (option_map (spanned raw)) spans place None) ∙ some_mapped (spanned raw) (get_or spans place None) ∙ more place behind below
+  | inr behind ↦ more place behind below
 ]
+
+-- ---- one slot
+
+slot_at : (raw : List ℕ) (spans : List Span) (place : ℕ) (d : Span) → place < length spans → get_or (held raw spans) place None ≡ slot_bytes raw (get_or spans place d)
+slot_at raw [] place d below = absurd (omega arith)
+slot_at raw (span ∷ spans) zero d below = refl
+slot_at raw (span ∷ spans) (suc place) d below = slot_at raw spans place d (omega arith)
+
+chosen : (test : Bool) (bytes : List ℕ) → test ≡ false → (if test then None else Some bytes) ≡ Some bytes
+chosen true bytes is = cc is
+chosen false bytes is = refl
+
+slot_empty : (raw : List ℕ) (span : Span) → span.start ≡ 0 → slot_bytes raw span ≡ None
+slot_empty raw span is = ap (λ start. if start == 0 then None else Some (spanned raw span)) is
+
+slot_full : (raw : List ℕ) (span : Span) → span.start ≢ 0 → slot_bytes raw span ≡ Some (spanned raw span)
+slot_full raw span some = chosen (span.start == 0) (spanned raw span) (false_from_ne_true _ (λ same. some (eqb-true _ _ same)))
+
+-- an empty slot holds what it is offered
+pub offered_empty : (raw : List ℕ) (spans : List Span) (place : ℕ) (d new : Span) → place < length spans → (get_or spans place d).start ≡ 0 → 0 < new.start
+    → held raw (set spans place new) ≡ set (held raw spans) place (option_or (get_or (held raw spans) place None) (Some (spanned raw new)))
+offered_empty raw spans place d new within empty there =
+    map-set (slot_bytes raw) spans place new
+    ∙ ap (set (held raw spans) place)
+    (slot_full raw new (λ is. omega (arith, is, there)) ∙ ap (λ own. option_or own (Some (spanned raw new))) (sym (slot_at raw spans place d within ∙ slot_empty raw _ empty)))
+
+-- a full slot keeps its own
+pub offered_full : (raw : List ℕ) (spans : List Span) (place : ℕ) (d : Span) (value : Option (List ℕ)) → place < length spans → (get_or spans place d).start ≢ 0
+    → held raw spans ≡ set (held raw spans) place (option_or (get_or (held raw spans) place None) value)
+offered_full raw spans place d value within some =
+    let own = slot_at raw spans place d within ∙ slot_full raw _ some in
+    sym (ap (set (held raw spans) place) (ap (λ a. option_or a value) own ∙ sym own) ∙ set-get_or (held raw spans) place None)
 
 -- where each place is full, the rest changes nothing
 pub found_full : (rules : List Rule) (raw rest : List ℕ) (slots : List (Option (List ℕ))) → Full (length rules) slots → Finding rules raw rest slots → AreFound rules raw slots

@@ -6,6 +6,7 @@ pub mod Values
 pub mod Header
 pub mod FieldTable
 pub mod FieldNames
+pub mod TablePlaces
 pub mod Slots
 pub mod LineClass
 pub mod LineFields

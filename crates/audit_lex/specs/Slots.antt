@@ -1,10 +1,9 @@
 -- What is found for the fields of a table.
-use Rattle.std.specs.Prelude.{◌≡◌, ◌<◌, ℕ, List, [], length, map, Option, None, option_map}
+use Rattle.std.specs.Prelude.{◌≡◌, ◌<◌, ◌==◌, ℕ, List, [], length, map, Option, None, Some, if◌then◌else◌}
 use Rattle.std.specs.List.{slice_index_or, slice_range}
 use Rattle.std.specs.Option.{option_or}
 use Rattle.audit_lex.specs.FieldTable.{name_of}
 use Rattle.audit_lex.specs.Tokens.{NameValue, value_in, field_of}
-use Rattle.audit_lex.specs.declared.fields.Field.{Field}
 use Rattle.audit_lex.specs.declared.fields.Rule.{Rule}
 use Rattle.audit_lex.specs.declared.spans.Span.{Span}
 
@@ -12,17 +11,17 @@ use Rattle.audit_lex.specs.declared.spans.Span.{Span}
 abbrev pub spanned : List ℕ → Span → List ℕ
 spanned text span = slice_range text span.start span.end
 
--- the bytes of each span
-abbrev pub held : List ℕ → List (Option Span) → List (Option (List ℕ))
-held raw spans = map (option_map (spanned raw)) spans
+-- the bytes of a slot, which is empty where its span starts at 0
+abbrev pub slot_bytes : List ℕ → Span → Option (List ℕ)
+slot_bytes raw span = if span.start == 0 then None else Some (spanned raw span)
+
+-- the bytes of each slot
+abbrev pub held : List ℕ → List Span → List (Option (List ℕ))
+held raw spans = map (slot_bytes raw) spans
 
 -- the names that a table asks for, in its order
 abbrev pub names_of : List Rule → List (List ℕ)
 names_of rules = map (λ rule. name_of rule.field) rules
-
--- a token of this field
-abbrev pub token_of : List ℕ → Field → Span → NameValue
-token_of raw field value = record { name = name_of field; value = spanned raw value }
 
 -- an empty slot takes the value of the first of these tokens that has its name, and a full one keeps its own
 abbrev pub AreFilled : List Rule → List NameValue → List (Option (List ℕ)) → List (Option (List ℕ)) → Type 0

@@ -16,6 +16,7 @@ mod numbers;
 mod places;
 mod slots;
 mod spans;
+mod table_places;
 mod tally;
 #[cfg(test)]
 mod tests;

@@ -1,4 +1,5 @@
 use Rattle.std.proofs.Common.{◌≤◌, ◌-◌, length, drop}
+use Rattle.audit_lex.specs.FieldTable.{rules_of}
 use Rattle.audit_lex.specs.Slots.{held}
 use Rattle.audit_lex.proofs.SlotLemmas.{Finding, Full}
 use Rattle.audit_lex.proofs.field_values.fill_slots.Given as goal
@@ -7,9 +8,9 @@ use Rattle.audit_lex.proofs.field_values.fill_slots.Given as goal
 abbrev pub invariant-loop-place : goal.invariant-loop-place
 invariant-loop-place l = record {
   within : l.place ≤ length l.raw;
-  table : l.full ≤ length l.rules;
+  table : l.full ≤ length (rules_of l.kind);
   full : Full l.full (held l.raw l.slots.spans);
-  finding : Finding l.rules l.raw (drop l.place l.raw) (held l.raw l.slots.spans);
+  finding : Finding (rules_of l.kind) l.raw (drop l.place l.raw) (held l.raw l.slots.spans);
 }
 
 abbrev pub decreases-loop-place : goal.decreases-loop-place
