@@ -1,8 +1,9 @@
 //! What decides of each flow whether it is kept, dropped or joined to a row.
-ghost use Rattle.std.specs.Prelude.{◌≡◌, ◌↔◌, ◌∷◌, ◌++◌, [], List, OnOk, OnErr, IsTrue};
+ghost use Rattle.std.specs.Prelude.{◌≡◌, ◌≢◌, ◌↔◌, ◌∷◌, ◌++◌, [], List, OnOk, OnErr, IsTrue};
 ghost use Rattle.flow_base.specs.declared.types.Flow.{Flow as AFlow};
 ghost use Rattle.reach_model.specs.declared.modes.Mode.{Mode as AMode};
 ghost use Rattle.reach_model.specs.ByRows.{IsVerdictByRows};
+ghost use Rattle.reach_model.specs.Flows.{source, target};
 ghost use Rattle.reach_model.specs.Rows.{Row as ARow, rows_after};
 ghost use Rattle.reach_rows.specs.Kept.{row_of_kept};
 ghost use Rattle.reach_rows.specs.Questions.{IsAllowed};
@@ -39,9 +40,9 @@ pub trait Reducer {
     fn allowed(&self, question: &Question, first: First) -> bool
         ensures { IsTrue result ↔ IsAllowed mode question.now first };
 
-    /// The verdict on a flow.
+    /// The verdict on a flow. It is the mode's where the flow's ends differ.
     fn decide(&self, flow: &Flow) -> Verdict
-        ensures verdict { (R : List ARow) → stands_for self.now R → IsVerdictByRows mode R flow.now result }
+        ensures verdict { (R : List ARow) → stands_for self.now R → source flow.now ≢ target flow.now → IsVerdictByRows mode R flow.now result }
         ensures fits { (R : List ARow) → holds self.now R → FitsRows R flow.now result };
 
     /// Makes room for these flows in order.

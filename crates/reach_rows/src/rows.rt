@@ -102,7 +102,7 @@ pub trait Keep: Rows {
 
     /// Puts a row last whose first and last flow are this one.
     fn add(&mut self, flow: &Flow)
-        requires room { has_room self.old 1 }
+        requires room { (n : ℕ) × has_room self.old (n + 1) }
         requires numbered { GoesOn (Self.known self.old) flow.now }
         requires later { ForSome (Self.rows self.old) (λ R. ComesAfter R flow.now) }
         ensures rows { Self.rows self.new ≡ option_map (λ R. R ++ row_of flow.now ∷ []) (Self.rows self.old) }
@@ -113,7 +113,7 @@ pub trait Keep: Rows {
 
     /// Makes a flow the last one of a row with its two ends.
     fn extend(&mut self, row: u64, flow: &Flow)
-        requires room { has_room self.old 1 }
+        requires room { (n : ℕ) × has_room self.old (n + 1) }
         requires row { row < Self.count self.old }
         requires pair { ForSome (Self.rows self.old) (λ R. (d : ARow) → SamePair (slice_index_or R row d).last flow.now) }
         requires later { ForSome (Self.rows self.old) (λ R. ComesAfter R flow.now) }

@@ -7,10 +7,10 @@ use Rattle.reduce_continuous.proofs.Deciding.{no_run, after_inflow, after_outflo
 use Rattle.reduce_continuous.proofs.tables.ContinuousReducer.decide.Goals as goal
 
 pub returns-in-None-clause-verdict : goal.returns-in-None-clause-verdict
-returns-in-None-clause-verdict c = λ R s. no_run R c.args.flow.now _ (s.tables.runs (source c.args.flow.now) (target c.args.flow.now)) (sym c.in-None.ensures.value)
+returns-in-None-clause-verdict c = λ R s _. no_run R c.args.flow.now _ (s.tables.runs (source c.args.flow.now) (target c.args.flow.now)) (sym c.in-None.ensures.value)
 
 pub returns-then-into-clause-verdict : goal.returns-then-into-clause-verdict
-returns-then-into-clause-verdict c = λ R s.
+returns-then-into-clause-verdict c = λ R s _.
     let f = c.args.flow.now in
     let run = c.in-Some.run'.now in
     let h = subst (IsRun R (source f) (target f)) (sym c.in-Some.ensures.value) (s.tables.runs (source f) (target f)) in
@@ -18,7 +18,7 @@ returns-then-into-clause-verdict c = λ R s.
     after_inflow R f run h (option_copied c.get-in-Some.result) g (c.is_after-into.ensures.0 c.if-into.true)
 
 pub returns-then-out-clause-verdict : goal.returns-then-out-clause-verdict
-returns-then-out-clause-verdict c = λ R s.
+returns-then-out-clause-verdict c = λ R s _.
     let f = c.args.flow.now in
     let run = c.in-Some.run'.now in
     let h = subst (IsRun R (source f) (target f)) (sym c.in-Some.ensures.value) (s.tables.runs (source f) (target f)) in
@@ -26,7 +26,7 @@ returns-then-out-clause-verdict c = λ R s.
     after_outflow R f run h (option_copied c.get-in-Some-2.result) g (c.is_after-out.ensures.0 c.if-out.true)
 
 pub returns-else-out-clause-verdict : goal.returns-else-out-clause-verdict
-returns-else-out-clause-verdict c = λ R s.
+returns-else-out-clause-verdict c = λ R s _.
     let f = c.args.flow.now in
     let run = c.in-Some.run'.now in
     let h = subst (IsRun R (source f) (target f)) (sym c.in-Some.ensures.value) (s.tables.runs (source f) (target f)) in

@@ -5,7 +5,7 @@ use Rattle.reduce_full.proofs.Deciding.{linked_ends}
 use Rattle.reduce_full.proofs.full.FullReducer.decide.Goals as goal
 
 pub returns-then-linked-clause-verdict : goal.returns-then-linked-clause-verdict
-returns-then-linked-clause-verdict c = λ R s.
+returns-then-linked-clause-verdict c = λ R s _.
     (same_links R c.args.flow.now s.ascends s.ends).0 ((c.linked-linked.ensures (firsts R) (s.held).versions).0 c.if-linked.true)
 
 pub returns-then-linked-clause-fits : goal.returns-then-linked-clause-fits
@@ -13,5 +13,5 @@ returns-then-linked-clause-fits c = λ R h.
     linked_ends R c.args.flow.now h.pairs ((c.linked-linked.ensures (firsts R) h.versions).0 c.if-linked.true)
 
 pub returns-clause-verdict : goal.returns-clause-verdict
-returns-clause-verdict c = λ R s l.
+returns-clause-verdict c = λ R s _ l.
     both_ways c.linked-linked.result c.if-linked.false ((c.linked-linked.ensures (firsts R) (s.held).versions).1 ((same_links R c.args.flow.now s.ascends s.ends).1 l))
