@@ -1,0 +1,9 @@
+pub mod Bits
+pub mod Loops
+pub mod Numbers
+pub mod SetLemmas
+pub mod Listing
+pub mod Joining
+pub mod Room
+pub mod Deciding
+pub mod Adding
