@@ -1,13 +1,14 @@
 #!/usr/bin/env python3
 """Holds the built program against the plain reading of the formats, over a real log and generated ones.
 
-    bench/compare.py [--program ./audit_cli] [--calls three|moves|all] [--seeds 3] [--events 2000]
+    bench/compare.py [--program ./audit_cli] [--modes plain,continuous] [--calls three|moves|all] [--seeds 3] [--events 2000]
 
-Each log is asked in several cuts. It ends with status 1 and the first difference where the two don't agree.
+Each log is asked in several cuts and in each mode. It ends with status 1 and the first difference where the two don't agree.
 """
 import argparse
 import os
 import random
+import re
 import subprocess
 import sys
 import tempfile
@@ -15,17 +16,27 @@ import tempfile
 HERE = os.path.dirname(os.path.abspath(__file__))
 
 
-def questions_for(size, seed):
-    """A dialogue that takes the log in pieces of any size and asks on the way."""
+def times_of(log):
+    """Times at which something happened, as questions spell them."""
+    with open(log, 'rb') as file:
+        return sorted(set(re.findall(r'audit\(([0-9]+\.[0-9]{3}):', file.read().decode('latin1')))) or ['0.000']
+
+
+def questions_for(log, seed):
+    """A dialogue that takes the log in pieces of any size and asks on the way, and then at several times."""
     rng = random.Random(seed)
-    lines, left = [], size
+    lines, left = [], os.path.getsize(log)
+    size = left
     while left > 0:
         piece = min(left, rng.choice([1, 100, 5_000, 70_000, size // 3 + 1]))
         left -= piece
-        lines += [f'take {piece}', f'back {rng.randrange(200)}']
+        lines += [f'take {piece}', f'{rng.choice(["back", "fore"])} {rng.randrange(200)}']
     for settled in (False, True):
-        lines += ['settle'] * settled + ['stat'] + [f'back {of}' for of in range(0, 120, 7)]
-    lines += ['take 5', 'back 10 1700000001.500', 'back 3 0.000', 'back', 'settle ', 'fork 1', 'back 99999999999', 'end', 'stat']
+        lines += ['settle'] * settled + ['stat'] + [f'{way} {of}' for of in range(0, 120, 7) for way in ('back', 'fore')]
+    times = times_of(log)
+    for _ in range(100):
+        lines.append(f'{rng.choice(["back", "fore"])} {rng.randrange(60)} {rng.choice(times)}')
+    lines += ['take 5', 'back 3 0.000', 'fore 3 0.000', 'back', 'fore', 'settle ', 'fork 1', 'back 99999999999', 'end', 'stat']
     return ('\n'.join(lines) + '\n').encode()
 
 
@@ -33,19 +44,20 @@ def answers(words, questions):
     return subprocess.run(words, input=questions, stdout=subprocess.PIPE, check=False).stdout.split(b'\n')
 
 
-def differs(options, log, seed):
-    questions = questions_for(os.path.getsize(log), seed)
-    got = answers([options.program, 'watch', 'plain', log], questions)
-    want = answers([sys.executable, os.path.join(HERE, 'plain_reading.py'), log, '--calls', options.calls], questions)
+def differs(options, mode, log, seed):
+    questions = questions_for(log, seed)
+    got = answers([options.program, 'watch', mode, log], questions)
+    want = answers([sys.executable, os.path.join(HERE, 'plain_reading.py'), mode, log, '--calls', options.calls], questions)
     for number, (one, other) in enumerate(zip(got, want)):
         if one != other:
-            return f'{log}: line {number + 1}, {questions.splitlines()[number]!r}: {one[:300]!r}, but by the plain reading {other[:300]!r}'
-    return f'{log}: {len(got)} lines, but {len(want)} by the plain reading' if len(got) != len(want) else None
+            return f'{mode}, {log}: line {number + 1}, {questions.splitlines()[number]!r}: {one[:300]!r}, but by the plain reading {other[:300]!r}'
+    return f'{mode}, {log}: {len(got)} lines, but {len(want)} by the plain reading' if len(got) != len(want) else None
 
 
 def main():
     parser = argparse.ArgumentParser()
     parser.add_argument('--program', default=os.path.join(HERE, '..', 'audit_cli'))
+    parser.add_argument('--modes', default='plain,continuous')
     parser.add_argument('--calls', default='all')
     parser.add_argument('--seeds', type=int, default=3)
     parser.add_argument('--events', type=int, default=2000)
@@ -56,7 +68,7 @@ def main():
             logs.append(os.path.join(folder, f'log{seed}'))
             with open(logs[-1], 'wb') as file:
                 subprocess.run([sys.executable, os.path.join(HERE, 'make_log.py'), str(seed), str(options.events), '--mix'], stdout=file, check=True)
-        found = [text for seed, log in enumerate(logs) if (text := differs(options, log, seed))]
+        found = [text for mode in options.modes.split(',') for seed, log in enumerate(logs) if (text := differs(options, mode, log, seed))]
     for text in found:
         print(text)
     return 1 if found else 0

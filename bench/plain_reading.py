@@ -1,11 +1,11 @@
 #!/usr/bin/env python3
 """A plain reading of docs/FORMATS.md, written apart from the program, to compare the program with.
 
-    bench/plain_reading.py LOG [--calls three|moves|all] < QUESTIONS
+    bench/plain_reading.py MODE LOG [--calls three|moves|all] < QUESTIONS
 
-It answers the lines `take`, `settle`, `back`, `fore`, `stat` and `end` as `watch plain LOG` does. It keeps all flows, goes through
-them for each question, and proves nothing. With `--calls three` only read, write and fork are mapped, with `moves` all calls but
-those that only make or move descriptors.
+It answers the lines `take`, `settle`, `back`, `fore`, `stat` and `end` as `watch MODE LOG` does. It keeps all flows in every mode,
+goes through them for each question, and proves nothing: what a mode keeps is only counted. With `--calls three` only read, write and
+fork are mapped, with `moves` all calls but those that only make or move descriptors.
 """
 import argparse
 import json
@@ -405,12 +405,50 @@ class Host:
         self.flow(*(ends if inward else ends[::-1]), how, ms, serial)
 
 
+# ---- how many rows each mode keeps
+
+def merged(flows):
+    """A flow makes a row unless an earlier one of its pair has no flow into the source and none out of the target behind it."""
+    rows, last, into, out = 0, {}, {}, {}
+    for place, (source, target, *_) in enumerate(flows):
+        before = last.get((source, target))
+        rows += before is None or into.get(source, -1) > before or out.get(target, -1) > before
+        last[source, target], into[target], out[source] = place, place, place
+    return rows
+
+
+def linked(flows):
+    """A flow is kept unless a kept one of its pair has no kept flow into the source behind it."""
+    rows, last, into = 0, {}, {}
+    for place, (source, target, *_) in enumerate(flows):
+        if into.get(source, -1) >= last.get((source, target), -1) or (source, target) not in last:
+            rows += 1
+            last[source, target], into[target] = place, place
+    return rows
+
+
+def sources(flows):
+    """For each object the sources from which a path leads to it; an object whose first flow leaves it is one itself."""
+    reached = {}
+    for source, target, *_ in flows:
+        reached.setdefault(source, {source})
+        yield reached[source] <= reached.get(target, set()), reached
+        reached[target] = reached.get(target, set()) | reached[source]
+
+
+def bringing(flows):
+    """A flow is kept where it brings its target a source."""
+    return sum(not dropped for dropped, _ in sources(flows))
+
+
+KEPT = {'plain': len, 'continuous': merged, 'full': linked, 'source': bringing}
+
 # ---- joining, and the dialogue
 
 
 class Engine:
-    def __init__(self, mapped):
-        self.mapped, self.host = mapped, Host()
+    def __init__(self, mode, mapped):
+        self.mode, self.mapped, self.host = mode, mapped, Host()
         self.tail, self.bad = b'', []
         self.counts = dict.fromkeys(('blank', 'bytes', 'events', 'excess', 'late', 'malformed', 'other', 'unmapped', 'used'), 0)
         self.groups, self.closed, self.text = {}, set(), 0
@@ -472,8 +510,8 @@ class Engine:
         self.release()
 
     def stat(self):
-        return dict(self.counts, flows=len(self.host.flows), kept=len(self.host.flows), known=len(self.host.ids), lines=self.lines(),
-                    malformed_lines=self.bad, waiting=len(self.groups))
+        return dict(self.counts, flows=len(self.host.flows), kept=KEPT[self.mode](self.host.flows), known=len(self.host.ids),
+                    lines=self.lines(), malformed_lines=self.bad, waiting=len(self.groups))
 
     def back(self, of, until):
         found = {of}
@@ -508,15 +546,23 @@ def answer(engine, log, question):
     of, bound = int(words[1]), int(words[2].replace('.', '')) if len(words) > 2 else None
     if of >= len(engine.host.ids):
         return {'error': 'Unknown'}
-    return {words[0]: of, 'ids': getattr(engine, words[0])(of, bound)}
+    first = next(flow for flow in engine.host.flows if of in flow[:2])
+    if words[0] == 'fore' and (engine.mode in ('full', 'source') and bound is not None and bound > first[3]
+                               or engine.mode == 'source' and first[0] != of):
+        return {'error': 'NotKept'}
+    found = getattr(engine, words[0])(of, bound)
+    if words[0] == 'back' and engine.mode == 'source':
+        return {'back': of, 'sources': [x for x in found if next(flow for flow in engine.host.flows if x in flow[:2])[0] == x]}
+    return {words[0]: of, 'ids': found}
 
 
 def main():
     parser = argparse.ArgumentParser()
+    parser.add_argument('mode', choices=KEPT)
     parser.add_argument('log')
     parser.add_argument('--calls', default='all', choices=MAPPED)
     options = parser.parse_args()
-    engine = Engine(MAPPED[options.calls])
+    engine = Engine(options.mode, MAPPED[options.calls])
     with open(options.log, 'rb') as log:
         for line in sys.stdin.buffer:
             question = line.decode('latin1').rstrip('\n')

@@ -1,12 +1,14 @@
 #!/usr/bin/env python3
 """Times the built program on logs of three sizes, beside grep -c and ausearch --raw on the same files in the same run.
 
-    bench/time_log.py [--seed N] [--sizes 10,30,100] [--program ./crates/audit_cli/out/audit_cli]
+    bench/time_log.py [--seed N] [--sizes 10,30,100] [--modes plain,continuous] [--asked 100] [--program ./crates/audit_cli/out/audit_cli]
 
-Each log comes from make_log.py, by the number that --seed names. The program takes the whole log and settles. Printed are the machine, megabytes
-a second, the peak of memory, and the exponent between the smallest and the largest log. ausearch is Debian's package auditd.
+Each log comes from make_log.py, by the number that --seed names. In each mode the program takes the whole log and settles; then it is asked
+`back` and `fore` of objects by chance. Printed are the machine, megabytes a second, the peak of memory, the rows kept, the median and the
+95th of a hundred of each question's time from its line to its reply, and the exponent between the smallest and the largest log. ausearch is
+Debian's package auditd.
 """
-import argparse, math, os, platform, resource, subprocess, sys, tempfile, time
+import argparse, json, math, os, platform, random, resource, subprocess, sys, tempfile, time
 
 HERE = os.path.dirname(os.path.abspath(__file__))
 BYTES_OF_AN_EVENT = 430
@@ -34,30 +36,60 @@ def run(words, stdin=b''):
     return best, peak, out
 
 
+def ask(words, count, seed):
+    """The sorted seconds of so many `back` and of so many `fore` over objects by chance, once the log is taken."""
+    child = subprocess.Popen(words, stdin=subprocess.PIPE, stdout=subprocess.PIPE, bufsize=0)
+    replies = os.fdopen(os.dup(child.stdout.fileno()), 'rb', 1 << 20)
+
+    def say(question):
+        begun = time.perf_counter()
+        child.stdin.write(question.encode() + b'\n')
+        reply = replies.readline()
+        return time.perf_counter() - begun, reply
+
+    say('take 999999999999999')
+    say('settle')
+    known = json.loads(say('stat')[1])['known']
+    rng = random.Random(seed)
+    taken = {way: sorted(say(f'{way} {rng.randrange(known)}')[0] for _ in range(count)) for way in ('back', 'fore')}
+    say('end')
+    child.wait()
+    return taken
+
+
 def main():
     parser = argparse.ArgumentParser()
     parser.add_argument('--seed', type=int, default=1)
     parser.add_argument('--sizes', default='10,30,100')
+    parser.add_argument('--modes', default='plain,continuous')
+    parser.add_argument('--asked', type=int, default=100)
     parser.add_argument('--program', default=os.path.join(HERE, '..', 'crates', 'audit_cli', 'out', 'audit_cli'))
     options = parser.parse_args()
+    program, modes = os.path.abspath(options.program), options.modes.split(',')
     print(machine())
-    taken = []
+    taken = {mode: [] for mode in modes}
     with tempfile.TemporaryDirectory() as folder:
         for size in [int(word) for word in options.sizes.split(',')]:
             log = os.path.join(folder, 'log')
             with open(log, 'wb') as file:
                 subprocess.run([sys.executable, os.path.join(HERE, 'make_log.py'), str(options.seed), str(size * 1_000_000 // BYTES_OF_AN_EVENT)], stdout=file, check=True)
             megabytes = os.path.getsize(log) / 1e6
-            seconds, peak, out = run([os.path.abspath(options.program), 'watch', 'plain', log], b'take 999999999999999\nsettle\nstat\nend\n')
             grep, _, _ = run(['grep', '-c', '', log])
             raw, _, _ = run(['sh', '-c', 'exec ausearch --raw -if "$0" >/dev/null', log]) if subprocess.run(['which', 'ausearch'], stdout=subprocess.DEVNULL).returncode == 0 else (math.nan, 0, b'')
-            taken.append((megabytes, seconds))
-            print(f'{megabytes:7.1f} MB: {seconds:7.3f} s, {megabytes / seconds:7.1f} MB/s, peak {peak:7.1f} MB; '
-                  f'grep -c {grep:.3f} s, {megabytes / grep:.0f} MB/s; ausearch --raw {raw:.3f} s, {megabytes / raw:.1f} MB/s; {raw / seconds:.2f} times as fast')
-            print(out.decode().splitlines()[2][:400])
-    if len(taken) > 1:
-        (small, first), (large, last) = taken[0], taken[-1]
-        print(f'exponent {math.log(last / first) / math.log(large / small):.3f}')
+            print(f'{megabytes:.1f} MB: grep -c {grep:.3f} s, {megabytes / grep:.0f} MB/s; ausearch --raw {raw:.3f} s, {megabytes / raw:.1f} MB/s')
+            for mode in modes:
+                words = [program, 'watch', mode, log]
+                seconds, peak, out = run(words, b'take 999999999999999\nsettle\nstat\nend\n')
+                taken[mode].append((megabytes, seconds))
+                stat = json.loads(out.splitlines()[2])
+                print(f'  {mode:10}: {seconds:.3f} s, {megabytes / seconds:.1f} MB/s, {raw / seconds:.2f} times ausearch, peak {peak:.1f} MB; '
+                      f'{stat["kept"]} rows of {stat["flows"]} flows ({100 * stat["kept"] / max(stat["flows"], 1):.0f}%), {stat["known"]} objects')
+                for way, times in (ask(words, options.asked, options.seed) if options.asked else {}).items():
+                    print(f'  {mode:10}  {way}: median {1000 * times[len(times) // 2]:.2f} ms, 95th of 100 {1000 * times[len(times) * 95 // 100]:.2f} ms')
+    for mode, points in taken.items():
+        if len(points) > 1:
+            (small, first), (large, last) = points[0], points[-1]
+            print(f'{mode}: exponent {math.log(last / first) / math.log(large / small):.3f}')
 
 
 if __name__ == '__main__':

@@ -1,33 +1,32 @@
 -- The three questions of `back`.
-use Rattle.std.proofs.Common.{◌≡◌, ◌≤◌, ◌<◌, ◌+◌, ◌-◌, ◌^◌, ℕ, List, [], ◌∷◌, ◌++◌, map, length, take, drop, refl, ap, sym, arith, ◌∙◌, Option, Some, None, min, subst, inl, inr}
+use Rattle.std.proofs.Common.{◌≡◌, ◌≤◌, ◌<◌, ◌+◌, ◌-◌, ◌^◌, ℕ, List, [], ◌∷◌, ◌++◌, map, length, take, drop, refl, ap, sym, arith, ◌∙◌, Some, None, subst}
 use Rattle.std.specs.Prelude.{cond}
 use Rattle.std.proofs.lemmas.List.Sums.{sum_by-append}
 use Rattle.std.proofs.lemmas.List.{length-take, take-append-drop, map-append, take_all as list_take_all}
 use Rattle.std.proofs.Math.ListN.{drop_of_length-le}
 use Rattle.flow_base.specs.declared.limits.Limits.{Limits}
 use Rattle.flow_base.specs.declared.limits.Full.{Full}
-use Rattle.flow_base.specs.declared.types.EntityId.{EntityId}
-use Rattle.audit_lex.specs.History.{History, Byte, with_bytes}
-use Rattle.report_json.specs.declared.ask.Ask.{Ask}
+use Rattle.audit_lex.specs.History.{History, Byte}
+use Rattle.reach_model.specs.declared.modes.Mode.{Mode}
 use Rattle.report_json.specs.declared.ask.Ask.TheVariants as ask
-use Rattle.report_json.specs.declared.questions.Question.TheVariants as question
+use Rattle.reach_rows.specs.declared.questions.Question.TheVariants as question
 use Rattle.report_json.specs.declared.reply.Reply.{Reply}
 use Rattle.report_json.specs.declared.reply.Reply.TheVariants as reply
 use Rattle.report_json.specs.Replies.{text_of}
 use Rattle.ingest.specs.Counting.{is_byte, bytes_in}
 use Rattle.ingest.specs.Stops.{Fits, Stops}
-use Rattle.audit_cli.specs.Dialogue.{Moment, after, Answers, Dialogue, Leads, HistoryStops, begin}
+use Rattle.audit_cli.specs.Dialogue.{Moment, after, Answers, HistoryStops, begin}
 use Rattle.audit_cli.specs.Headline.{back_questions, IsLast, IsLastFront}
-use Rattle.audit_cli.proofs.MomentLemmas.{Stay, take_all, stop_later}
-use Rattle.audit_cli.proofs.TalkLemmas.{leads_none, stops_now}
+use Rattle.audit_cli.proofs.MomentLemmas.{Stay, take_all}
+use Rattle.audit_cli.proofs.TalkLemmas.{stops_now}
 
 -- the most that one question takes
 abbrev pub most : ℕ
 most = 2 ^ 64 - 1
 
 -- the moment when all was taken
-abbrev pub taken : List ℕ → Moment
-taken bytes = after (Some (ask.Take most)) (begin bytes)
+abbrev pub taken : Mode → List ℕ → Moment
+taken mode bytes = after (Some (ask.Take most)) (begin mode bytes)
 
 -- as many bytes in a history as were taken
 pub count_bytes : (bytes : List ℕ) → bytes_in (map Byte bytes) ≡ length bytes
@@ -38,61 +37,61 @@ count_bytes (b ∷ bytes) =
     omega arith
 
 -- what was taken within the limits is all
-pub all_taken : (limits : Limits) (bytes : List ℕ) → limits.input < most → Fits limits (taken bytes).history → length bytes ≤ most
-all_taken limits bytes small fits =
+pub all_taken : (mode : Mode) (limits : Limits) (bytes : List ℕ) → limits.input < most → Fits limits (taken mode bytes).history → length bytes ≤ most
+all_taken mode limits bytes small fits =
     let count = count_bytes (take most bytes) in
     let long = length-take most bytes in
     let within = fits.input in
     omega arith
 
-pub takes_all : (limits : Limits) (bytes : List ℕ) → limits.input < most → Fits limits (taken bytes).history → taken bytes ≡ after (Some (ask.Take (length bytes))) (begin bytes)
-takes_all limits bytes small fits = take_all (begin bytes) most (length bytes) (all_taken limits bytes small fits) (omega arith)
+pub takes_all : (mode : Mode) (limits : Limits) (bytes : List ℕ) → limits.input < most → Fits limits (taken mode bytes).history → taken mode bytes ≡ after (Some (ask.Take (length bytes))) (begin mode bytes)
+takes_all mode limits bytes small fits = take_all (begin mode bytes) most (length bytes) (all_taken mode limits bytes small fits) (omega arith)
 
 -- nothing is left
-pub nothing_left : (limits : Limits) (bytes : List ℕ) → limits.input < most → Fits limits (taken bytes).history → (taken bytes).log ≡ []
-nothing_left limits bytes small fits = drop_of_length-le bytes (all_taken limits bytes small fits)
+pub nothing_left : (mode : Mode) (limits : Limits) (bytes : List ℕ) → limits.input < most → Fits limits (taken mode bytes).history → (taken mode bytes).log ≡ []
+nothing_left mode limits bytes small fits = drop_of_length-le bytes (all_taken mode limits bytes small fits)
 
 -- the first question passes the limit
-pub take_stops : Stay → (limits : Limits) (of : ℕ) (bytes : List ℕ) (full : Full) → Stops limits (taken bytes).history full → HistoryStops limits (begin bytes) (back_questions of bytes) full
-take_stops stay limits of bytes full over =
+pub take_stops : Stay → (mode : Mode) (limits : Limits) (of : ℕ) (bytes : List ℕ) (full : Full) → Stops limits (taken mode bytes).history full → HistoryStops limits (begin mode bytes) (back_questions of bytes) full
+take_stops stay mode limits of bytes full over =
     let split : take (length bytes) bytes ≡ take most bytes ++ drop most bytes = list_take_all (length bytes) bytes (omega arith) ∙ sym (take-append-drop most bytes) in
-    let longer : (after (Some (ask.Take (length bytes))) (begin bytes)).history ≡ (taken bytes).history ++ map Byte (drop most bytes) = rw (split, map-append) refl in
-    stops_now limits (begin bytes) _ _ full (subst (λ (h : History). Stops limits h full) (sym longer) (stay limits (taken bytes).history (map Byte (drop most bytes)) full over))
+    let longer : (after (Some (ask.Take (length bytes))) (begin mode bytes)).history ≡ (taken mode bytes).history ++ map Byte (drop most bytes) = rw (split, map-append) refl in
+    stops_now limits (begin mode bytes) _ _ full (subst (λ (h : History). Stops limits h full) (sym longer) (stay limits (taken mode bytes).history (map Byte (drop most bytes)) full over))
 
-taken_said : (limits : Limits) (bytes : List ℕ) (r : Reply) → limits.input < most → Fits limits (taken bytes).history → Answers limits (Some (ask.Take most)) (begin bytes) r → Answers limits (Some (ask.Take (length bytes))) (begin bytes) r
-taken_said limits bytes r small fits a =
-    let whole = all_taken limits bytes small fits in
+taken_said : (mode : Mode) (limits : Limits) (bytes : List ℕ) (r : Reply) → limits.input < most → Fits limits (taken mode bytes).history → Answers limits (Some (ask.Take most)) (begin mode bytes) r → Answers limits (Some (ask.Take (length bytes))) (begin mode bytes) r
+taken_said mode limits bytes r small fits a =
+    let whole = all_taken mode limits bytes small fits in
     let first = length-take most bytes in
     let second = length-take (length bytes) bytes in
     let same : length (take most bytes) ≡ length (take (length bytes) bytes) = omega arith in
     a ∙ ap (λ (n : ℕ). reply.Take n) same
 
 -- the second question passes the limit
-pub settle_stops : (limits : Limits) (of : ℕ) (bytes : List ℕ) (r : Reply) (full : Full) → limits.input < most → Fits limits (taken bytes).history → Answers limits (Some (ask.Take most)) (begin bytes) r
-    → Stops limits (after (Some ask.Settle) (taken bytes)).history full → HistoryStops limits (begin bytes) (back_questions of bytes) full
-settle_stops limits of bytes r full small fits a over = record {
+pub settle_stops : (mode : Mode) (limits : Limits) (of : ℕ) (bytes : List ℕ) (r : Reply) (full : Full) → limits.input < most → Fits limits (taken mode bytes).history → Answers limits (Some (ask.Take most)) (begin mode bytes) r
+    → Stops limits (after (Some ask.Settle) (taken mode bytes)).history full → HistoryStops limits (begin mode bytes) (back_questions of bytes) full
+settle_stops mode limits of bytes r full small fits a over = record {
   front = Some (ask.Take (length bytes)) ∷ [];
   next = Some ask.Settle;
   rest = Some (ask.Question (question.Back (record { 0 = of }) None)) ∷ [];
   said = r ∷ [];
-  to = after (Some (ask.Take (length bytes))) (begin bytes);
+  to = after (Some (ask.Take (length bytes))) (begin mode bytes);
   parts = refl;
-  leads = λ questions replies end talk. (taken_said limits bytes r small fits a, talk);
-  stops = subst (λ (x : Moment). Stops limits (after (Some ask.Settle) x).history full) (takes_all limits bytes small fits) over;
+  leads = λ questions replies end talk. (taken_said mode limits bytes r small fits a, talk);
+  stops = subst (λ (x : Moment). Stops limits (after (Some ask.Settle) x).history full) (takes_all mode limits bytes small fits) over;
 }
 
 -- all three were answered
-pub last_said : (limits : Limits) (of : ℕ) (bytes : List ℕ) (a b r : Reply) (text : List ℕ) → limits.input < most → Fits limits (taken bytes).history → Answers limits (Some (ask.Take most)) (begin bytes) a
-    → Answers limits (Some ask.Settle) (taken bytes) b
-    → Answers limits (Some (ask.Question (question.Back (record { 0 = of }) None))) (after (Some ask.Settle) (taken bytes)) r
-    → text ≡ text_of r → IsLast limits (begin bytes) (back_questions of bytes) text (after (Some ask.Settle) (taken bytes))
-last_said limits of bytes a b r text small fits first second third is =
-    let e = takes_all limits bytes small fits in
+pub last_said : (mode : Mode) (limits : Limits) (of : ℕ) (bytes : List ℕ) (a b r : Reply) (text : List ℕ) → limits.input < most → Fits limits (taken mode bytes).history → Answers limits (Some (ask.Take most)) (begin mode bytes) a
+    → Answers limits (Some ask.Settle) (taken mode bytes) b
+    → Answers limits (Some (ask.Question (question.Back (record { 0 = of }) None))) (after (Some ask.Settle) (taken mode bytes)) r
+    → text ≡ text_of r → IsLast limits (begin mode bytes) (back_questions of bytes) text (after (Some ask.Settle) (taken mode bytes))
+last_said mode limits of bytes a b r text small fits first second third is =
+    let e = takes_all mode limits bytes small fits in
     record {
       said = a ∷ b ∷ [];
       last = r;
       dialogue = (
-        taken_said limits bytes a small fits first,
+        taken_said mode limits bytes a small fits first,
         (
           subst (λ (x : Moment). Answers limits (Some ask.Settle) x b) e second,
           (
@@ -105,12 +104,12 @@ last_said limits of bytes a b r text small fits first second third is =
     }
 
 -- a front of the last reply was written
-pub last_cut : (limits : Limits) (of : ℕ) (bytes : List ℕ) (a b r : Reply) (done : ℕ) → limits.input < most → Fits limits (taken bytes).history → Answers limits (Some (ask.Take most)) (begin bytes) a
-    → Answers limits (Some ask.Settle) (taken bytes) b
-    → Answers limits (Some (ask.Question (question.Back (record { 0 = of }) None))) (after (Some ask.Settle) (taken bytes)) r
-    → IsLastFront limits (begin bytes) (back_questions of bytes) (take done (text_of r))
-last_cut limits of bytes a b r done small fits first second third = record {
-  to = after (Some ask.Settle) (taken bytes);
+pub last_cut : (mode : Mode) (limits : Limits) (of : ℕ) (bytes : List ℕ) (a b r : Reply) (done : ℕ) → limits.input < most → Fits limits (taken mode bytes).history → Answers limits (Some (ask.Take most)) (begin mode bytes) a
+    → Answers limits (Some ask.Settle) (taken mode bytes) b
+    → Answers limits (Some (ask.Question (question.Back (record { 0 = of }) None))) (after (Some ask.Settle) (taken mode bytes)) r
+    → IsLastFront limits (begin mode bytes) (back_questions of bytes) (take done (text_of r))
+last_cut mode limits of bytes a b r done small fits first second third = record {
+  to = after (Some ask.Settle) (taken mode bytes);
   more = drop done (text_of r);
-  last = last_said limits of bytes a b r _ small fits first second third (take-append-drop done (text_of r));
+  last = last_said mode limits of bytes a b r _ small fits first second third (take-append-drop done (text_of r));
 }

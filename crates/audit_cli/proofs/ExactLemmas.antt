@@ -1,5 +1,5 @@
 -- A dialogue within the limits passes no limit.
-use Rattle.std.proofs.Common.{◌≡◌, ◌≤◌, ◌<◌, ℕ, List, [], ◌∷◌, ◌++◌, map, take, length, refl, ap, sym, arith, ◌∙◌, Option, Some, None, subst, suc, append_assoc, inl, inr}
+use Rattle.std.proofs.Common.{◌≡◌, ℕ, List, [], ◌∷◌, ◌++◌, map, take, length, refl, ap, sym, arith, ◌∙◌, Option, Some, None, subst, suc, append_assoc, inl, inr}
 use Rattle.std.proofs.lemmas.List.{append-nil, map-append, length-append}
 use Rattle.flow_base.specs.declared.limits.Limits.{Limits}
 use Rattle.flow_base.specs.declared.limits.Full.{Full}
@@ -11,8 +11,8 @@ use Rattle.report_json.specs.declared.reply.Reply.TheVariants as reply
 use Rattle.ingest.specs.Stops.{Fits, Stops}
 use Rattle.audit_cli.specs.declared.halt.Turn.{Turn}
 use Rattle.audit_cli.specs.declared.halt.Turn.TheVariants as turn
-use Rattle.audit_cli.specs.Dialogue.{Moment, after, Answers, turn_of, AfterTurn, Dialogue, Leads, Closes, HistoryStops, QuestionsStop, asked, asks}
-use Rattle.audit_cli.specs.Listening.{EndsWithin, KeepsWithin}
+use Rattle.audit_cli.specs.Dialogue.{Moment, after, turn_of, AfterTurn, Dialogue, Leads, Closes, HistoryStops, QuestionsStop, asked, asks}
+use Rattle.audit_cli.specs.Listening.{KeepsWithin}
 use Rattle.audit_cli.proofs.MomentLemmas.{Stay}
 
 -- what fits never stops

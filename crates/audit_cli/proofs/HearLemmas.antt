@@ -1,19 +1,20 @@
 -- Pieces of the questions, one after another.
-use Rattle.std.proofs.Common.{◌≡◌, ◌≤◌, ◌<◌, ◌-◌, ◌+◌, arith, length, ℕ, List, [], ◌∷◌, ◌++◌, map, take, drop, refl, ap, sym, append_assoc, ◌∙◌, Option, Some, None, subst, inl, inr}
+use Rattle.std.proofs.Common.{◌≡◌, ◌≤◌, ◌<◌, ◌-◌, ◌+◌, arith, length, ℕ, List, [], ◌∷◌, ◌++◌, map, take, drop, refl, ap, sym, append_assoc, ◌∙◌, Option, Some, subst, inl, inr}
 use Rattle.std.specs.Prelude.{◌⊎◌, Result, Ok, Err, OnOk}
 use Rattle.std.proofs.lemmas.List.{append-nil, map-append, length-drop, drop-drop}
 use Rattle.std.proofs.Math.Seq.{take-add}
 use Rattle.flow_base.specs.declared.limits.Limits.{Limits}
 use Rattle.flow_base.specs.declared.limits.Full.{Full}
 use Rattle.audit_lex.specs.History.{History, Byte, with_bytes, lines_of}
-use Rattle.audit_lex.specs.LineCut.{Cutter, StandsFor}
+use Rattle.audit_lex.specs.LineCut.{Cutter}
+use Rattle.reach_model.specs.declared.modes.Mode.{Mode}
 use Rattle.ingest.specs.Parts.{Engine}
 use Rattle.report_json.specs.declared.ask.Ask.{Ask}
 use Rattle.audit_cli.specs.declared.halt.Halt.{Halt}
 use Rattle.audit_cli.specs.declared.halt.Halt.TheVariants as halt
 use Rattle.audit_cli.specs.declared.halt.Turn.{Turn}
 use Rattle.audit_cli.specs.declared.halt.Turn.TheVariants as turn
-use Rattle.audit_cli.specs.Dialogue.{Moment, Leads, asked, asks, texts, HistoryStops, QuestionsStop, ReadsNoFurther, input_full}
+use Rattle.audit_cli.specs.Dialogue.{Moment, Leads, asked, asks, HistoryStops, QuestionsStop, ReadsNoFurther, input_full}
 use Rattle.audit_cli.specs.Course.{At, Course, Talked, IsDue, never}
 use Rattle.audit_cli.specs.Hearing.{Holds, Heard, WhenMore}
 use Rattle.audit_cli.specs.Listening.{PassesRoom, EndsWithin}
@@ -29,15 +30,15 @@ pub pieces : (h : History) (p q : List ℕ) → with_bytes (with_bytes h p) q �
 pieces h p q = rw (map-append, append_assoc) refl
 
 -- the lines of a piece that was heard whole
-pub whole_lines : (limits : Limits) (beyond : Full → Type 0) (c : Cutter) (e : Engine) (l old new : Option (List ℕ)) (m : Moment) (h : History) (p : List ℕ)
-    → (x : Heard limits beyond c e l old new (Ok turn.More) m h p) → lines_of (with_bytes h p) ≡ lines_of h ++ x.answered
-whole_lines limits beyond c e l old new m h p x =
+pub whole_lines : (mode : Mode) (limits : Limits) (beyond : Full → Type 0) (c : Cutter) (e : Engine) (l old new : Option (List ℕ)) (m : Moment) (h : History) (p : List ℕ)
+    → (x : Heard mode limits beyond c e l old new (Ok turn.More) m h p) → lines_of (with_bytes h p) ≡ lines_of h ++ x.answered
+whole_lines mode limits beyond c e l old new m h p x =
     x.lines ∙ ap (λ (ls : List (List ℕ)). lines_of h ++ (x.answered ++ ls)) x.whole ∙ ap (λ (ls : List (List ℕ)). lines_of h ++ ls) (append-nil x.answered)
 
 -- a part of a run after another one that goes on
-pub talked_after : (limits : Limits) (beyond : Full → Type 0) (e1 e2 : Engine) (l1 l2 old mid new : Option (List ℕ)) (r : Result Turn Halt) (from : Moment) (f g : List (Option Ask))
-    → (first : Talked limits never e1 l1 old mid (Ok turn.More) from f) → Talked limits beyond e2 l2 mid new r first.to g → Talked limits beyond e2 l2 old new r from (f ++ g)
-talked_after limits beyond e1 e2 l1 l2 old mid new r from f g first second = record {
+pub talked_after : (mode : Mode) (limits : Limits) (beyond : Full → Type 0) (e1 e2 : Engine) (l1 l2 old mid new : Option (List ℕ)) (r : Result Turn Halt) (from : Moment) (f g : List (Option Ask))
+    → (first : Talked mode limits never e1 l1 old mid (Ok turn.More) from f) → Talked mode limits beyond e2 l2 mid new r first.to g → Talked mode limits beyond e2 l2 old new r from (f ++ g)
+talked_after mode limits beyond e1 e2 l1 l2 old mid new r from f g first second = record {
   to = second.to;
   bytes = first.bytes ++ second.bytes;
   wrote = appends_both old mid new first.bytes second.bytes first.wrote second.wrote;
@@ -47,32 +48,32 @@ talked_after limits beyond e1 e2 l1 l2 old mid new r from f g first second = rec
 }
 
 -- nothing asked yet
-pub talked_none : (limits : Limits) (beyond : Full → Type 0) (e : Engine) (l old : Option (List ℕ)) (m : Moment) → At limits e l m → Talked limits beyond e l old old (Ok turn.More) m []
-talked_none limits beyond e l old m at = record { to = m; bytes = []; wrote = appends_none old; course = ([], refl, leads_none limits m); at = at }
+pub talked_none : (mode : Mode) (limits : Limits) (beyond : Full → Type 0) (e : Engine) (l old : Option (List ℕ)) (m : Moment) → At mode limits e l m → Talked mode limits beyond e l old old (Ok turn.More) m []
+talked_none mode limits beyond e l old m at = record { to = m; bytes = []; wrote = appends_none old; course = ([], refl, leads_none limits m); at = at }
 
 -- nothing heard yet
-pub heard_none : (limits : Limits) (beyond : Full → Type 0) (c : Cutter) (e : Engine) (l old : Option (List ℕ)) (m : Moment) (h : History) → At limits e l m → Holds limits c h → Heard limits beyond c e l old old (Ok turn.More) m h []
-heard_none limits beyond c e l old m h at holds = record {
+pub heard_none : (mode : Mode) (limits : Limits) (beyond : Full → Type 0) (c : Cutter) (e : Engine) (l old : Option (List ℕ)) (m : Moment) (h : History) → At mode limits e l m → Holds limits c h → Heard mode limits beyond c e l old old (Ok turn.More) m h []
+heard_none mode limits beyond c e l old m h at holds = record {
   answered = [];
   unheard = [];
   lines = ap lines_of (append-nil h) ∙ sym (append-nil (lines_of h));
-  talked = talked_none limits beyond e l old m at;
+  talked = talked_none mode limits beyond e l old m at;
   holds = subst (λ (x : History). Holds limits c x) (sym (append-nil h)) holds;
   whole = refl;
 }
 
 -- one piece after another that was heard whole
-pub heard_both : (limits : Limits) (beyond : Full → Type 0) (c1 c2 : Cutter) (e1 e2 : Engine) (l1 l2 old mid new : Option (List ℕ)) (r : Result Turn Halt) (from : Moment) (h : History) (p q : List ℕ)
-    → (first : Heard limits never c1 e1 l1 old mid (Ok turn.More) from h p) → Heard limits beyond c2 e2 l2 mid new r first.talked.to (with_bytes h p) q → Heard limits beyond c2 e2 l2 old new r from h (p ++ q)
-heard_both limits beyond c1 c2 e1 e2 l1 l2 old mid new r from h p q first second =
-    let whole = whole_lines limits never c1 e1 l1 old mid from h p first in
+pub heard_both : (mode : Mode) (limits : Limits) (beyond : Full → Type 0) (c1 c2 : Cutter) (e1 e2 : Engine) (l1 l2 old mid new : Option (List ℕ)) (r : Result Turn Halt) (from : Moment) (h : History) (p q : List ℕ)
+    → (first : Heard mode limits never c1 e1 l1 old mid (Ok turn.More) from h p) → Heard mode limits beyond c2 e2 l2 mid new r first.talked.to (with_bytes h p) q → Heard mode limits beyond c2 e2 l2 old new r from h (p ++ q)
+heard_both mode limits beyond c1 c2 e1 e2 l1 l2 old mid new r from h p q first second =
+    let whole = whole_lines mode limits never c1 e1 l1 old mid from h p first in
     record {
       answered = first.answered ++ second.answered;
       unheard = second.unheard;
       lines = ap lines_of (sym (pieces h p q)) ∙ second.lines ∙ ap (λ (ls : List (List ℕ)). ls ++ (second.answered ++ second.unheard)) whole
           ∙ append_assoc (lines_of h) first.answered (second.answered ++ second.unheard)
           ∙ ap (λ (ls : List (List ℕ)). lines_of h ++ ls) (sym (append_assoc first.answered second.answered second.unheard));
-      talked = rw (map-append (asked limits.question) first.answered second.answered) (talked_after limits beyond e1 e2 l1 l2 old mid new r from _ _ first.talked second.talked);
+      talked = rw (map-append (asked limits.question) first.answered second.answered) (talked_after mode limits beyond e1 e2 l1 l2 old mid new r from _ _ first.talked second.talked);
       holds = subst (λ (x : History). WhenMore r (Holds limits c2 x)) (pieces h p q) second.holds;
       whole = second.whole;
     }
@@ -88,9 +89,9 @@ when_more (Ok turn.Ended) P p = tt
 when_more (Err why) P p = tt
 
 -- a longer piece, of which no more is heard
-pub heard_longer : LinesStay → (limits : Limits) (beyond : Full → Type 0) (c : Cutter) (e : Engine) (l old new : Option (List ℕ)) (r : Result Turn Halt) (from : Moment) (h : History) (p q : List ℕ)
-    → WhenMore r ⊥ → Heard limits beyond c e l old new r from h p → Heard limits beyond c e l old new r from h (p ++ q)
-heard_longer stay limits beyond c e l old new r from h p q none x =
+pub heard_longer : LinesStay → (mode : Mode) (limits : Limits) (beyond : Full → Type 0) (c : Cutter) (e : Engine) (l old new : Option (List ℕ)) (r : Result Turn Halt) (from : Moment) (h : History) (p q : List ℕ)
+    → WhenMore r ⊥ → Heard mode limits beyond c e l old new r from h p → Heard mode limits beyond c e l old new r from h (p ++ q)
+heard_longer stay mode limits beyond c e l old new r from h p q none x =
     let more = stay (with_bytes h p) (map Byte q) in
     record {
       answered = x.answered;
@@ -104,33 +105,33 @@ heard_longer stay limits beyond c e l old new r from h p q none x =
     }
 
 -- a part that ends a line, which was answered
-pub heard_line : (limits : Limits) (beyond : Full → Type 0) (c : Cutter) (e : Engine) (l old new : Option (List ℕ)) (r : Result Turn Halt) (m : Moment) (h : History) (part text : List ℕ) (q : Option Ask)
-    → q ≡ asked limits.question text → Holds limits c (with_bytes h part) → lines_of (with_bytes h part) ≡ lines_of h ++ text ∷ [] → Talked limits beyond e l old new r m (q ∷ []) → Heard limits beyond c e l old new r m h part
-heard_line limits beyond c e l old new r m h part text q asks holds lines talked = record {
+pub heard_line : (mode : Mode) (limits : Limits) (beyond : Full → Type 0) (c : Cutter) (e : Engine) (l old new : Option (List ℕ)) (r : Result Turn Halt) (m : Moment) (h : History) (part text : List ℕ) (q : Option Ask)
+    → q ≡ asked limits.question text → Holds limits c (with_bytes h part) → lines_of (with_bytes h part) ≡ lines_of h ++ text ∷ [] → Talked mode limits beyond e l old new r m (q ∷ []) → Heard mode limits beyond c e l old new r m h part
+heard_line mode limits beyond c e l old new r m h part text q asks holds lines talked = record {
   answered = text ∷ [];
   unheard = [];
   lines = lines;
-  talked = subst (λ (x : Option Ask). Talked limits beyond e l old new r m (x ∷ [])) asks talked;
+  talked = subst (λ (x : Option Ask). Talked mode limits beyond e l old new r m (x ∷ [])) asks talked;
   holds = when_more r _ holds;
   whole = when_more r _ refl;
 }
 
 -- a part that ends no line
-pub heard_no_line : (limits : Limits) (beyond : Full → Type 0) (c : Cutter) (e : Engine) (l old : Option (List ℕ)) (m : Moment) (h : History) (part : List ℕ)
-    → At limits e l m → Holds limits c (with_bytes h part) → lines_of (with_bytes h part) ≡ lines_of h → Heard limits beyond c e l old old (Ok turn.More) m h part
-heard_no_line limits beyond c e l old m h part at holds lines = record {
+pub heard_no_line : (mode : Mode) (limits : Limits) (beyond : Full → Type 0) (c : Cutter) (e : Engine) (l old : Option (List ℕ)) (m : Moment) (h : History) (part : List ℕ)
+    → At mode limits e l m → Holds limits c (with_bytes h part) → lines_of (with_bytes h part) ≡ lines_of h → Heard mode limits beyond c e l old old (Ok turn.More) m h part
+heard_no_line mode limits beyond c e l old m h part at holds lines = record {
   answered = [];
   unheard = [];
   lines = lines ∙ sym (append-nil (lines_of h));
-  talked = talked_none limits beyond e l old m at;
+  talked = talked_none mode limits beyond e l old m at;
   holds = holds;
   whole = refl;
 }
 
 -- nothing heard before a halt
-pub heard_nothing : LinesStay → (limits : Limits) (beyond : Full → Type 0) (c : Cutter) (e : Engine) (l old : Option (List ℕ)) (why : Halt) (m : Moment) (h : History) (piece : List ℕ)
-    → IsDue (λ full. HistoryStops limits m [] full ⊎ beyond full) why → Heard limits beyond c e l old old (Err why) m h piece
-heard_nothing stay limits beyond c e l old why m h piece due =
+pub heard_nothing : LinesStay → (mode : Mode) (limits : Limits) (beyond : Full → Type 0) (c : Cutter) (e : Engine) (l old : Option (List ℕ)) (why : Halt) (m : Moment) (h : History) (piece : List ℕ)
+    → IsDue (λ full. HistoryStops limits m [] full ⊎ beyond full) why → Heard mode limits beyond c e l old old (Err why) m h piece
+heard_nothing stay mode limits beyond c e l old why m h piece due =
     let more = stay h (map Byte piece) in
     record {
       answered = [];
@@ -151,9 +152,9 @@ course_weaker limits P Q (Ok turn.Ended) a b f bytes more h = h
 course_weaker limits P Q (Err why) a b f bytes more h = (h.0, due_weaker why _ _ (λ full. weaker _ _ _ (more full)) h.1)
 
 -- with one more cause
-pub heard_weaker : (limits : Limits) (P Q : Full → Type 0) (c : Cutter) (e : Engine) (l old new : Option (List ℕ)) (r : Result Turn Halt) (from : Moment) (h : History) (p : List ℕ)
-    → ((full : Full) → P full → Q full) → Heard limits P c e l old new r from h p → Heard limits Q c e l old new r from h p
-heard_weaker limits P Q c e l old new r from h p more x = record {
+pub heard_weaker : (mode : Mode) (limits : Limits) (P Q : Full → Type 0) (c : Cutter) (e : Engine) (l old new : Option (List ℕ)) (r : Result Turn Halt) (from : Moment) (h : History) (p : List ℕ)
+    → ((full : Full) → P full → Q full) → Heard mode limits P c e l old new r from h p → Heard mode limits Q c e l old new r from h p
+heard_weaker mode limits P Q c e l old new r from h p more x = record {
   answered = x.answered;
   unheard = x.unheard;
   lines = x.lines;
@@ -169,9 +170,9 @@ heard_weaker limits P Q c e l old new r from h p more x = record {
 }
 
 -- a longer piece, of which the rest may not be heard
-pub heard_full : LinesStay → (limits : Limits) (beyond : Full → Type 0) (c : Cutter) (e : Engine) (l old new : Option (List ℕ)) (from : Moment) (h : History) (p q : List ℕ)
-    → beyond (input_full limits) → Heard limits never c e l old new (Ok turn.More) from h p → Heard limits beyond c e l old new (Err (halt.Full (input_full limits))) from h (p ++ q)
-heard_full stay limits beyond c e l old new from h p q over x =
+pub heard_full : LinesStay → (mode : Mode) (limits : Limits) (beyond : Full → Type 0) (c : Cutter) (e : Engine) (l old new : Option (List ℕ)) (from : Moment) (h : History) (p q : List ℕ)
+    → beyond (input_full limits) → Heard mode limits never c e l old new (Ok turn.More) from h p → Heard mode limits beyond c e l old new (Err (halt.Full (input_full limits))) from h (p ++ q)
+heard_full stay mode limits beyond c e l old new from h p q over x =
     let more = stay (with_bytes h p) (map Byte q) in
     record {
       answered = x.answered;
@@ -191,9 +192,9 @@ heard_full stay limits beyond c e l old new from h p q over x =
     }
 
 -- a part that goes on had no cause to halt
-pub heard_more : (limits : Limits) (P Q : Full → Type 0) (c : Cutter) (e : Engine) (l old new : Option (List ℕ)) (from : Moment) (h : History) (p : List ℕ)
-    → Heard limits P c e l old new (Ok turn.More) from h p → Heard limits Q c e l old new (Ok turn.More) from h p
-heard_more limits P Q c e l old new from h p x = record {
+pub heard_more : (mode : Mode) (limits : Limits) (P Q : Full → Type 0) (c : Cutter) (e : Engine) (l old new : Option (List ℕ)) (from : Moment) (h : History) (p : List ℕ)
+    → Heard mode limits P c e l old new (Ok turn.More) from h p → Heard mode limits Q c e l old new (Ok turn.More) from h p
+heard_more mode limits P Q c e l old new from h p x = record {
   answered = x.answered;
   unheard = x.unheard;
   lines = x.lines;
@@ -203,11 +204,11 @@ heard_more limits P Q c e l old new from h p x = record {
 }
 
 -- what was heard within the room leaves more to hear
-pub questions_pass : (limits : Limits) (c : Cutter) (e : Engine) (l old new : Option (List ℕ)) (from : Moment) (h : History) (p q : List ℕ) (room : ℕ)
-    → p ≡ take room q → room < length q → Heard limits never c e l old new (Ok turn.More) from h p → PassesRoom limits room from h q (input_full limits)
-questions_pass limits c e l old new from h p q room is over x = record {
+pub questions_pass : (mode : Mode) (limits : Limits) (c : Cutter) (e : Engine) (l old new : Option (List ℕ)) (from : Moment) (h : History) (p q : List ℕ) (room : ℕ)
+    → p ≡ take room q → room < length q → Heard mode limits never c e l old new (Ok turn.More) from h p → PassesRoom limits room from h q (input_full limits)
+questions_pass mode limits c e l old new from h p q room is over x = record {
   later = x.answered;
-  lines = ap (λ (xs : List ℕ). lines_of (with_bytes h xs)) (sym is) ∙ whole_lines limits never c e l old new from h p x;
+  lines = ap (λ (xs : List ℕ). lines_of (with_bytes h xs)) (sym is) ∙ whole_lines mode limits never c e l old new from h p x;
   said = x.talked.course.0;
   to = x.talked.to;
   leads = x.talked.course.2;
@@ -216,9 +217,9 @@ questions_pass limits c e l old new from h p q room is over x = record {
 }
 
 -- `end` was heard within the room
-pub questions_closed : LinesStay → (limits : Limits) (c : Cutter) (e : Engine) (l old new : Option (List ℕ)) (from : Moment) (h : History) (p q : List ℕ) (n room : ℕ)
-    → p ≡ take n q → n ≤ room → Heard limits never c e l old new (Ok turn.Ended) from h p → EndsWithin limits room from h q
-questions_closed stay limits c e l old new from h p q n room is within x =
+pub questions_closed : LinesStay → (mode : Mode) (limits : Limits) (c : Cutter) (e : Engine) (l old new : Option (List ℕ)) (from : Moment) (h : History) (p q : List ℕ) (n room : ℕ)
+    → p ≡ take n q → n ≤ room → Heard mode limits never c e l old new (Ok turn.Ended) from h p → EndsWithin limits room from h q
+questions_closed stay mode limits c e l old new from h p q n room is within x =
     let sum : n + (room - n) ≡ room = omega arith in
     let split : take room q ≡ p ++ take (room - n) (drop n q) = sym (ap (λ (k : ℕ). take k q) sum) ∙ take-add n (room - n) q ∙ ap (λ (xs : List ℕ). xs ++ take (room - n) (drop n q)) (sym is) in
     let rest = take (room - n) (drop n q) in
@@ -241,10 +242,10 @@ front_of limits n q within =
     sym (take-add n (limits.input - n) q) ∙ ap (λ (k : ℕ). take k q) sum
 
 -- the same, after all that was heard before
-pub questions_pass_after : (limits : Limits) (n : ℕ) (c : Cutter) (e : Engine) (l old new : Option (List ℕ)) (from : Moment) (q : List ℕ) (full : Full)
-    → n ≤ limits.input → n ≤ length q → (first : Heard limits never c e l old new (Ok turn.More) from [] (take n q)) → PassesRoom limits (limits.input - n) first.talked.to (with_bytes [] (take n q)) (drop n q) full → QuestionsStop limits from q full
-questions_pass_after limits n c e l old new from q full within part first x =
-    let whole = whole_lines limits never c e l old new from [] (take n q) first in
+pub questions_pass_after : (mode : Mode) (limits : Limits) (n : ℕ) (c : Cutter) (e : Engine) (l old new : Option (List ℕ)) (from : Moment) (q : List ℕ) (full : Full)
+    → n ≤ limits.input → n ≤ length q → (first : Heard mode limits never c e l old new (Ok turn.More) from [] (take n q)) → PassesRoom limits (limits.input - n) first.talked.to (with_bytes [] (take n q)) (drop n q) full → QuestionsStop limits from q full
+questions_pass_after mode limits n c e l old new from q full within part first x =
+    let whole = whole_lines mode limits never c e l old new from [] (take n q) first in
     let lines : lines_of (with_bytes [] (take limits.input q)) ≡ first.answered ++ x.later =
     ap (λ (xs : List ℕ). lines_of (with_bytes [] xs)) (sym (front_of limits n q within)) ∙ ap lines_of (sym (pieces [] (take n q) (take (limits.input - n) (drop n q)))) ∙ x.lines ∙ ap (λ (ls : List (List ℕ)). ls ++ x.later) whole in
     let left = length-drop n q in
@@ -258,10 +259,10 @@ questions_pass_after limits n c e l old new from q full within part first x =
     }
 
 -- the same, after all that was heard before
-pub questions_closed_after : (limits : Limits) (n : ℕ) (c : Cutter) (e : Engine) (l old new : Option (List ℕ)) (from : Moment) (q : List ℕ)
-    → n ≤ limits.input → (first : Heard limits never c e l old new (Ok turn.More) from [] (take n q)) → EndsWithin limits (limits.input - n) first.talked.to (with_bytes [] (take n q)) (drop n q) → EndsWithin limits limits.input from [] q
-questions_closed_after limits n c e l old new from q within first x =
-    let whole = whole_lines limits never c e l old new from [] (take n q) first in
+pub questions_closed_after : (mode : Mode) (limits : Limits) (n : ℕ) (c : Cutter) (e : Engine) (l old new : Option (List ℕ)) (from : Moment) (q : List ℕ)
+    → n ≤ limits.input → (first : Heard mode limits never c e l old new (Ok turn.More) from [] (take n q)) → EndsWithin limits (limits.input - n) first.talked.to (with_bytes [] (take n q)) (drop n q) → EndsWithin limits limits.input from [] q
+questions_closed_after mode limits n c e l old new from q within first x =
+    let whole = whole_lines mode limits never c e l old new from [] (take n q) first in
     record {
       answered = first.answered ++ x.answered;
       unheard = x.unheard;
@@ -277,14 +278,14 @@ on_ok (Ok t) P p = p
 on_ok (Err e) P p = tt
 
 -- one read more than what was heard whole
-pub no_further : (limits : Limits) (c : Cutter) (e : Engine) (l old new : Option (List ℕ)) (from : Moment) (q : List ℕ) (n count : ℕ) (left : Option (List ℕ))
-    → Heard limits never c e l old new (Ok turn.More) from [] (take n q) → count ≤ 65536 → left ≡ Some (drop count (drop n q)) → ReadsNoFurther limits from q left
-no_further limits c e l old new from q n count left first short told = record {
+pub no_further : (mode : Mode) (limits : Limits) (c : Cutter) (e : Engine) (l old new : Option (List ℕ)) (from : Moment) (q : List ℕ) (n count : ℕ) (left : Option (List ℕ))
+    → Heard mode limits never c e l old new (Ok turn.More) from [] (take n q) → count ≤ 65536 → left ≡ Some (drop count (drop n q)) → ReadsNoFurther limits from q left
+no_further mode limits c e l old new from q n count left first short told = record {
   before = n;
   count = count;
   said = first.talked.course.0;
   to = first.talked.to;
-  leads = subst (λ (ls : List (List ℕ)). Leads limits from (asks limits ls) first.talked.course.0 first.talked.to) (sym (whole_lines limits never c e l old new from [] (take n q) first)) first.talked.course.2;
+  leads = subst (λ (ls : List (List ℕ)). Leads limits from (asks limits ls) first.talked.course.0 first.talked.to) (sym (whole_lines mode limits never c e l old new from [] (take n q) first)) first.talked.course.2;
   short = short;
   told = told ∙ ap Some (drop-drop count n q);
 }

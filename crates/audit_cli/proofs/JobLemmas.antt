@@ -1,14 +1,14 @@
 -- From a job's course to the clauses of the top call.
-use Rattle.std.proofs.Common.{◌≡◌, ℕ, List, [], ◌++◌, refl, sym, ◌∙◌, Option, Some, inl, inr}
+use Rattle.std.proofs.Common.{subst, ◌≡◌, ℕ, List, [], refl, sym, ◌∙◌, Option, Some, inl, inr}
 use Rattle.std.proofs.lemmas.List.{append-nil}
 use Rattle.std.specs.Prelude.{◌⊎◌, Result, Ok, Err, OnOk, IfErr}
 use Rattle.reach_model.specs.declared.modes.Mode.{Mode}
+use Rattle.reach_model.specs.declared.modes.Mode.TheVariants.{Plain}
 use Rattle.flow_base.specs.declared.limits.Limits.{Limits}
 use Rattle.flow_base.specs.declared.limits.Full.{Full}
 use Rattle.ingest.specs.Parts.{Engine}
 use Rattle.audit_cli.specs.declared.halt.Halt.{Halt}
 use Rattle.audit_cli.specs.declared.halt.Halt.TheVariants as halt
-use Rattle.audit_cli.specs.declared.status.Status.{Status}
 use Rattle.audit_cli.specs.declared.status.Status.TheVariants as status
 use Rattle.audit_cli.specs.declared.words.Job.{Job}
 use Rattle.audit_cli.specs.declared.words.Job.TheVariants as job
@@ -21,16 +21,21 @@ use Rattle.audit_cli.proofs.ExactLemmas.{NeverStops, within_stops, questions_wit
 use Rattle.audit_cli.proofs.MomentLemmas.{Stay}
 use Rattle.audit_cli.proofs.TalkLemmas.{appends_none, nothing_said}
 
+plainly_talked : (limits : Limits) (of : ℕ) (log asked : List ℕ) (e : Engine) (left old new : Option (List ℕ)) (r : Result Unit Halt) → LastTalked Plain limits e left old new r (begin Plain log) (back_questions of log)
+    → JobTalked limits (job.Back of) log asked left old new r
+plainly_talked limits of log asked e left old new (Ok done) x = record { to = x.to; bytes = x.bytes; wrote = x.wrote; course = x.course; ends = record { within = x.at.stands.fits; told = x.at.told } }
+plainly_talked limits of log asked e left old new (Err why) x = record { to = x.to; bytes = x.bytes; wrote = x.wrote; course = x.course; ends = tt }
+
 -- `back`
-pub back_talked : (limits : Limits) (of : ℕ) (log asked : List ℕ) (e : Engine) (left old new : Option (List ℕ)) (r : Result Unit Halt) → LastTalked limits e left old new r (begin log) (back_questions of log) → JobTalked limits (job.Back of) log asked left old new r
-back_talked limits of log asked e left old new (Ok done) x = record { to = x.to; bytes = x.bytes; wrote = x.wrote; course = x.course; ends = record { within = x.at.stands.fits; told = x.at.told } }
-back_talked limits of log asked e left old new (Err why) x = record { to = x.to; bytes = x.bytes; wrote = x.wrote; course = x.course; ends = tt }
+pub back_talked : (kept : Mode) (limits : Limits) (of : ℕ) (log asked : List ℕ) (e : Engine) (left old new : Option (List ℕ)) (r : Result Unit Halt) → kept ≡ Plain → LastTalked kept limits e left old new r (begin kept log) (back_questions of log)
+    → JobTalked limits (job.Back of) log asked left old new r
+back_talked kept limits of log asked e left old new r plain x = plainly_talked limits of log asked e left old new r (subst (λ (mode : Mode). LastTalked mode limits e left old new r (begin mode log) (back_questions of log)) plain x)
 
 -- `watch`
-pub watch_talked : (limits : Limits) (mode : Mode) (name log asked : List ℕ) (e : Engine) (left old new : Option (List ℕ)) (r : Result Unit Halt)
-    → EndTalked limits (QuestionsStop limits (begin log) asked) e left old new r (begin log) (asks limits (lines_in asked)) → JobTalked limits (job.Watch mode name) log asked left old new r
-watch_talked limits mode name log asked e left old new (Ok done) x = record { to = x.to; bytes = x.bytes; wrote = x.wrote; course = record { said = x.course.0; dialogue = x.course.2; bytes_are = x.course.1 }; ends = record { within = x.at.stands.fits; told = x.at.told } }
-watch_talked limits mode name log asked e left old new (Err why) x = record { to = x.to; bytes = x.bytes; wrote = x.wrote; course = x.course; ends = tt }
+pub watch_talked : (kept : Mode) (limits : Limits) (mode : Mode) (name log asked : List ℕ) (e : Engine) (left old new : Option (List ℕ)) (r : Result Unit Halt)
+    → EndTalked kept limits (QuestionsStop limits (begin mode log) asked) e left old new r (begin mode log) (asks limits (lines_in asked)) → JobTalked limits (job.Watch mode name) log asked left old new r
+watch_talked kept limits mode name log asked e left old new (Ok done) x = record { to = x.to; bytes = x.bytes; wrote = x.wrote; course = record { said = x.course.0; dialogue = x.course.2; bytes_are = x.course.1 }; ends = record { within = x.at.stands.fits; told = x.at.told } }
+watch_talked kept limits mode name log asked e left old new (Err why) x = record { to = x.to; bytes = x.bytes; wrote = x.wrote; course = x.course; ends = tt }
 
 -- a cause among more causes of a read fault
 pub causes_too : (r : Result Unit Halt) (one other write : Type 0) → IfErr r (HasCauses one write) → IfErr r (HasCauses (one ⊎ other) write)
@@ -48,7 +53,7 @@ whole_front limits (job.Watch mode name) log asked bytes to x = record { front =
 -- before the job begins
 pub nothing_written : (limits : Limits) (done : Job) (log asked : List ℕ) (old : Option (List ℕ)) → Written limits done log asked old old
 nothing_written limits (job.Back of) log asked old = record { bytes = []; wrote = appends_none old; front = inl refl }
-nothing_written limits (job.Watch mode name) log asked old = record { bytes = []; wrote = appends_none old; front = nothing_said limits (begin log) _ }
+nothing_written limits (job.Watch mode name) log asked old = record { bytes = []; wrote = appends_none old; front = nothing_said limits (begin mode log) _ }
 
 pub causes : (read write : Type 0) (r : Result Unit Halt) → IfErr r (HasCauses read write) → StatusCause read write (status_for r)
 causes read write (Ok done) h = tt
@@ -105,9 +110,9 @@ job_same a b found first second = cc
 -- a job that ended passed no limit
 pub ended_within : Stay → NeverStops → (limits : Limits) (done : Job) (log asked : List ℕ) (left old new : Option (List ℕ)) (r : Result Unit Halt) (full : Full) → JobTalked limits done log asked left old new r
     → OnOk r (KeepsLimit limits done log asked) → status_for r ≡ status.Done → PassesLimit limits done log asked full → ⊥
-ended_within stay fitting limits (job.Back of) log asked left old new (Ok t) full x keeps is passes = within_stops stay fitting limits (begin log) x.to _ _ full x.course.dialogue x.ends.within passes
-ended_within stay fitting limits (job.Watch mode name) log asked left old new (Ok t) full x keeps is (inl passes) = within_stops stay fitting limits (begin log) x.to _ _ full x.course.dialogue x.ends.within passes
-ended_within stay fitting limits (job.Watch mode name) log asked left old new (Ok t) full x keeps is (inr passes) = questions_within limits (begin log) asked full keeps passes
+ended_within stay fitting limits (job.Back of) log asked left old new (Ok t) full x keeps is passes = within_stops stay fitting limits (begin Plain log) x.to _ _ full x.course.dialogue x.ends.within passes
+ended_within stay fitting limits (job.Watch mode name) log asked left old new (Ok t) full x keeps is (inl passes) = within_stops stay fitting limits (begin mode log) x.to _ _ full x.course.dialogue x.ends.within passes
+ended_within stay fitting limits (job.Watch mode name) log asked left old new (Ok t) full x keeps is (inr passes) = questions_within limits (begin mode log) asked full keeps passes
 ended_within stay fitting limits done log asked left old new (Err halt.NoMemory) full x keeps is passes = cc
 ended_within stay fitting limits done log asked left old new (Err halt.ReadFault) full x keeps is passes = cc
 ended_within stay fitting limits done log asked left old new (Err halt.WriteFault) full x keeps is passes = cc

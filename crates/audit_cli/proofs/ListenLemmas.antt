@@ -1,11 +1,12 @@
 -- The end of a dialogue over bytes of questions.
-use Rattle.std.proofs.Common.{◌≡◌, ℕ, List, [], ◌∷◌, ◌++◌, map, refl, ap, sym, ◌∙◌, Option, Some, subst, append_assoc}
+use Rattle.std.proofs.Common.{◌≡◌, ℕ, List, [], ◌∷◌, ◌++◌, refl, ap, sym, ◌∙◌, Option, subst, append_assoc}
 use Rattle.std.specs.Prelude.{Result, Ok, Err, OnOk}
 use Rattle.std.proofs.lemmas.List.{append-nil, map-append}
 use Rattle.flow_base.specs.declared.limits.Limits.{Limits}
 use Rattle.flow_base.specs.declared.limits.Full.{Full}
 use Rattle.audit_lex.specs.History.{History, Settle, with_bytes, lines_of}
 use Rattle.audit_lex.specs.LineCut.{Cutter}
+use Rattle.reach_model.specs.declared.modes.Mode.{Mode}
 use Rattle.ingest.specs.Parts.{Engine}
 use Rattle.report_json.specs.declared.ask.Ask.{Ask}
 use Rattle.audit_cli.specs.declared.halt.Halt.{Halt}
@@ -18,8 +19,8 @@ use Rattle.audit_cli.proofs.TalkLemmas.{appends_none, appends_both, end_course, 
 use Rattle.audit_cli.proofs.HearLemmas.{LinesStay, whole_lines}
 
 -- no line was left
-pub last_none : (limits : Limits) (e : Engine) (l old : Option (List ℕ)) (m : Moment) (h : History) → At limits e l m → lines_of (h ++ Settle ∷ []) ≡ lines_of h → HeardLast limits never e l old old (Ok tt) m h
-last_none limits e l old m h at lines = record {
+pub last_none : (mode : Mode) (limits : Limits) (e : Engine) (l old : Option (List ℕ)) (m : Moment) (h : History) → At mode limits e l m → lines_of (h ++ Settle ∷ []) ≡ lines_of h → HeardLast mode limits never e l old old (Ok tt) m h
+last_none mode limits e l old m h at lines = record {
   last = [];
   lines = lines ∙ sym (append-nil (lines_of h));
   talked = record { to = m; bytes = []; wrote = appends_none old; course = ([], refl, refl); at = at };
@@ -30,9 +31,9 @@ at_end (Ok t) P at = at
 at_end (Err why) P at = tt
 
 -- one line was left, and was answered
-pub last_line : (limits : Limits) (e : Engine) (l old new : Option (List ℕ)) (r : Result Turn Halt) (m : Moment) (h : History) (text : List ℕ) (q : Option Ask)
-    → q ≡ asked limits.question text → lines_of (h ++ Settle ∷ []) ≡ lines_of h ++ text ∷ [] → Talked limits never e l old new r m (q ∷ []) → HeardLast limits never e l old new (ended r) m h
-last_line limits e l old new r m h text q asks lines x = record {
+pub last_line : (mode : Mode) (limits : Limits) (e : Engine) (l old new : Option (List ℕ)) (r : Result Turn Halt) (m : Moment) (h : History) (text : List ℕ) (q : Option Ask)
+    → q ≡ asked limits.question text → lines_of (h ++ Settle ∷ []) ≡ lines_of h ++ text ∷ [] → Talked mode limits never e l old new r m (q ∷ []) → HeardLast mode limits never e l old new (ended r) m h
+last_line mode limits e l old new r m h text q asks lines x = record {
   last = text ∷ [];
   lines = lines;
   talked = record {
@@ -45,9 +46,9 @@ last_line limits e l old new r m h text q asks lines x = record {
 }
 
 -- the dialogue ended, or halted, within the questions
-pub end_heard : LinesStay → (limits : Limits) (beyond : Full → Type 0) (c : Cutter) (e : Engine) (l old new : Option (List ℕ)) (r : Result Turn Halt) (m : Moment) (q : List ℕ)
-    → WhenMore r ⊥ → Heard limits beyond c e l old new r m [] q → EndTalked limits beyond e l old new (ended r) m (asks limits (lines_in q))
-end_heard stay limits beyond c e l old new r m q none x =
+pub end_heard : LinesStay → (mode : Mode) (limits : Limits) (beyond : Full → Type 0) (c : Cutter) (e : Engine) (l old new : Option (List ℕ)) (r : Result Turn Halt) (m : Moment) (q : List ℕ)
+    → WhenMore r ⊥ → Heard mode limits beyond c e l old new r m [] q → EndTalked mode limits beyond e l old new (ended r) m (asks limits (lines_in q))
+end_heard stay mode limits beyond c e l old new r m q none x =
     let more = stay (with_bytes [] q) (Settle ∷ []) in
     let lines : lines_in q ≡ x.answered ++ (x.unheard ++ more.0) = more.1 ∙ ap (λ (ls : List (List ℕ)). ls ++ more.0) x.lines ∙ append_assoc x.answered x.unheard more.0 in
     let all : asks limits (lines_in q) ≡ asks limits x.answered ++ asks limits (x.unheard ++ more.0) = ap (asks limits) lines ∙ map-append (asked limits.question) x.answered (x.unheard ++ more.0) in
@@ -61,10 +62,10 @@ end_heard stay limits beyond c e l old new r m q none x =
     }
 
 -- all was heard, and then came the end
-pub end_both : (limits : Limits) (beyond : Full → Type 0) (c : Cutter) (e e2 : Engine) (l l2 old mid new : Option (List ℕ)) (r : Result Unit Halt) (m : Moment) (q : List ℕ)
-    → (first : Heard limits never c e l old mid (Ok turn.More) m [] q) → HeardLast limits never e2 l2 mid new r first.talked.to (with_bytes [] q) → EndTalked limits beyond e2 l2 old new r m (asks limits (lines_in q))
-end_both limits beyond c e e2 l l2 old mid new r m q first last =
-    let lines : lines_in q ≡ first.answered ++ last.last = last.lines ∙ ap (λ (ls : List (List ℕ)). ls ++ last.last) (whole_lines limits never c e l old mid m [] q first) in
+pub end_both : (mode : Mode) (limits : Limits) (beyond : Full → Type 0) (c : Cutter) (e e2 : Engine) (l l2 old mid new : Option (List ℕ)) (r : Result Unit Halt) (m : Moment) (q : List ℕ)
+    → (first : Heard mode limits never c e l old mid (Ok turn.More) m [] q) → HeardLast mode limits never e2 l2 mid new r first.talked.to (with_bytes [] q) → EndTalked mode limits beyond e2 l2 old new r m (asks limits (lines_in q))
+end_both mode limits beyond c e e2 l l2 old mid new r m q first last =
+    let lines : lines_in q ≡ first.answered ++ last.last = last.lines ∙ ap (λ (ls : List (List ℕ)). ls ++ last.last) (whole_lines mode limits never c e l old mid m [] q first) in
     let all : asks limits (lines_in q) ≡ asks limits first.answered ++ asks limits last.last = ap (asks limits) lines ∙ map-append (asked limits.question) first.answered last.last in
     record {
       to = last.talked.to;

@@ -1,9 +1,9 @@
 -- Moments of a log that is taken in pieces.
-use Rattle.std.proofs.Common.{◌≡◌, ◌≤◌, ◌<◌, ◌+◌, ◌-◌, ℕ, zero, suc, List, [], ◌∷◌, ◌++◌, map, length, take, drop, refl, ap, sym, arith, append_assoc, ◌∙◌, subst, Option, Some, None, min}
+use Rattle.std.proofs.Common.{◌≡◌, ◌≤◌, ◌+◌, ◌-◌, ℕ, zero, suc, List, [], ◌∷◌, ◌++◌, map, length, take, drop, refl, ap, sym, arith, append_assoc, ◌∙◌, subst, Option, Some, None, min}
 use Rattle.std.proofs.Math.Seq.{take-add, drop-append_seam, take-append_seam}
 use Rattle.std.proofs.lemmas.List.{append-nil, length-drop, length-append, drop-drop, map-append, take_all as list_take_all}
 use Rattle.std.proofs.Math.ListN.{drop_of_length-le}
-use Rattle.std.specs.Prelude.{Result, Ok, Err, OnOk, IfOk}
+use Rattle.std.specs.Prelude.{Result, Ok, Err, OnOk, IfOk, IfErr}
 use Rattle.std.specs.Io.KnownBytes.{Consumes}
 use Rattle.flow_base.specs.declared.limits.Limits.{Limits}
 use Rattle.flow_base.specs.declared.limits.Full.{Full}
@@ -14,7 +14,10 @@ use Rattle.report_json.specs.Reading.{ask_of}
 use Rattle.report_json.specs.declared.reply.Reply.{Reply}
 use Rattle.report_json.specs.declared.reply.Reply.TheVariants as reply
 use Rattle.ingest.specs.Events.{events_of}
+use Rattle.reach_model.specs.declared.modes.Mode.{Mode}
 use Rattle.ingest.specs.Parts.{Engine}
+use Rattle.ingest.specs.Replies.{IsReply}
+use Rattle.reach_rows.specs.declared.questions.Question.{Question}
 use Rattle.ingest.specs.StandsFor.{StandsFor}
 use Rattle.ingest.specs.Stops.{Stops, StopsBy}
 use Rattle.ingest.specs.declared.stop.StopWhy.{StopWhy}
@@ -92,13 +95,29 @@ pub left_none : (m : Moment) (n : ℕ) → (after (Some (ask.Take n)) m).log ≡
 left_none m n none = let short = ap length none in omega (arith, short, length-drop n m.log)
 
 -- a settle moves on, and leaves the log
-pub settled_at : (limits : Limits) (result : Result Reply Halt) (engine : Engine) (left : Option (List ℕ)) (m : Moment) → OnOk result (StandsFor limits engine (m.history ++ Settle ∷ [])) → left ≡ Some m.log → OnOk result (At limits engine left (after (Some ask.Settle) m))
-settled_at limits (Ok r) engine left m stands told = record { stands = stands; told = told }
-settled_at limits (Err e) engine left m stands told = tt
+pub settled_at : (mode : Mode) (limits : Limits) (result : Result Reply Halt) (engine : Engine) (left : Option (List ℕ)) (m : Moment) → m.mode ≡ mode → OnOk result (StandsFor limits engine (m.history ++ Settle ∷ [])) → left ≡ Some m.log → OnOk result (At mode limits engine left (after (Some ask.Settle) m))
+settled_at mode limits (Ok r) engine left m same stands told = record { in_mode = same; stands = stands; told = told }
+settled_at mode limits (Err e) engine left m same stands told = tt
 
 pub settled_reply : (limits : Limits) (result : Result Reply Halt) (m : Moment) → IfOk result (λ r. r ≡ reply.Settle (length (events_of limits (m.history ++ Settle ∷ [])))) → IfOk result (Answers limits (Some ask.Settle) m)
 settled_reply limits (Ok r) m h = h
 settled_reply limits (Err e) m h = h
+
+-- want of memory is due whatever limit is passed
+pub memory_due : (result : Result Reply Halt) (passes : Full → Type 0) → IfErr result (λ why. why ≡ halt.NoMemory) → IfErr result (IsDue passes)
+memory_due (Ok r) passes none = tt
+memory_due (Err e) passes none = rw none tt
+
+-- the engine's replies are those of the moment's mode
+pub question_reply : (mode : Mode) (limits : Limits) (result : Result Reply Halt) (engine : Engine) (left : Option (List ℕ)) (m : Moment) (question : Question)
+    → IfOk result (λ r. (limits : Limits) (h : History) → StandsFor limits engine h → IsReply mode limits h (ask.Question question) r) → At mode limits engine left m → IfOk result (Answers limits (Some (ask.Question question)) m)
+question_reply mode limits (Ok r) engine left m question replies at = subst (λ (x : Mode). IsReply x limits m.history (ask.Question question) r) (sym at.in_mode) (replies limits m.history at.stands)
+question_reply mode limits (Err e) engine left m question replies at = tt
+
+pub stat_reply : (mode : Mode) (limits : Limits) (result : Result Reply Halt) (engine : Engine) (left : Option (List ℕ)) (m : Moment)
+    → IfOk result (λ r. (limits : Limits) (h : History) → StandsFor limits engine h → IsReply mode limits h ask.Stat r) → At mode limits engine left m → IfOk result (Answers limits (Some ask.Stat) m)
+stat_reply mode limits (Ok r) engine left m replies at = subst (λ (x : Mode). IsReply x limits m.history ask.Stat r) (sym at.in_mode) (replies limits m.history at.stands)
+stat_reply mode limits (Err e) engine left m replies at = tt
 
 take-take : (n count : ℕ) (xs : List ℕ) → n ≤ count → take n (take count xs) ≡ take n xs
 take-take zero count xs short = refl

@@ -3,6 +3,7 @@ use Rattle.std.specs.Prelude.{◌≡◌, ◌⊎◌, ⊤, ℕ, ◌≤◌, List, l
 use Rattle.std.specs.Io.KnownBytes.{Appends}
 use Rattle.flow_base.specs.declared.limits.Limits.{Limits}
 use Rattle.flow_base.specs.declared.limits.Full.{Full}
+use Rattle.reach_model.specs.declared.modes.Mode.{Mode}
 use Rattle.report_json.specs.declared.ask.Ask.{Ask}
 use Rattle.report_json.specs.declared.reply.Reply.{Reply}
 use Rattle.ingest.specs.Parts.{Engine}
@@ -43,8 +44,9 @@ abbrev pub halt_for : StopWhy → Halt
 halt_for why.NoMemory = halt.NoMemory
 halt_for (why.Full full) = halt.Full full
 
--- the engine and the log, which tells its bytes, are at this moment
-pub record At (limits : Limits) (engine : Engine) (left : Option (List ℕ)) (m : Moment) : Type 0 where
+-- the engine of a mode and the log, which tells its bytes, are at this moment
+pub record At (mode : Mode) (limits : Limits) (engine : Engine) (left : Option (List ℕ)) (m : Moment) : Type 0 where
+  pub in_mode : m.mode ≡ mode
   pub stands : StandsFor limits engine m.history
   pub told : left ≡ Some m.log
 
@@ -65,12 +67,12 @@ Course limits beyond (Ok turn.Ended) from questions bytes to = (said : List Repl
 Course limits beyond (Err why) from questions bytes to = Halted limits beyond from questions bytes why
 
 -- a part of a run from one moment on
-pub record Talked (limits : Limits) (beyond : Full → Type 0) (engine : Engine) (left old new : Option (List ℕ)) (result : Result Turn Halt) (from : Moment) (questions : List (Option Ask)) : Type 0 where
+pub record Talked (mode : Mode) (limits : Limits) (beyond : Full → Type 0) (engine : Engine) (left old new : Option (List ℕ)) (result : Result Turn Halt) (from : Moment) (questions : List (Option Ask)) : Type 0 where
   pub to : Moment
   pub bytes : List ℕ
   pub wrote : Appends old new bytes
   pub course : Course limits beyond result from questions bytes to
-  pub at : OnOk result (At limits engine left to)
+  pub at : OnOk result (At mode limits engine left to)
 
 -- these bytes are what was answered to these questions, or a front of it where the run halted
 abbrev pub EndCourse : Limits → (Full → Type 0) → Result Unit Halt → Moment → List (Option Ask) → List ℕ → Moment → Type 0
@@ -78,12 +80,12 @@ EndCourse limits beyond (Ok done) from questions bytes to = (said : List Reply) 
 EndCourse limits beyond (Err why) from questions bytes to = Halted limits beyond from questions bytes why
 
 -- a run from one moment to its end
-pub record EndTalked (limits : Limits) (beyond : Full → Type 0) (engine : Engine) (left old new : Option (List ℕ)) (result : Result Unit Halt) (from : Moment) (questions : List (Option Ask)) : Type 0 where
+pub record EndTalked (mode : Mode) (limits : Limits) (beyond : Full → Type 0) (engine : Engine) (left old new : Option (List ℕ)) (result : Result Unit Halt) (from : Moment) (questions : List (Option Ask)) : Type 0 where
   pub to : Moment
   pub bytes : List ℕ
   pub wrote : Appends old new bytes
   pub course : EndCourse limits beyond result from questions bytes to
-  pub at : OnOk result (At limits engine left to)
+  pub at : OnOk result (At mode limits engine left to)
 
 -- a halt, or the end of the questions
 abbrev pub ended : Result Turn Halt → Result Unit Halt

@@ -4,6 +4,7 @@ use Rattle.flow_base.specs.declared.limits.Limits.{Limits}
 use Rattle.flow_base.specs.declared.limits.Full.{Full}
 use Rattle.flow_base.specs.declared.limits.Limit.TheVariants as limit
 use Rattle.audit_lex.specs.History.{History, Settle, with_bytes, lines_of}
+use Rattle.reach_model.specs.declared.modes.Mode.{Mode}
 use Rattle.report_json.specs.declared.ask.Ask.{Ask}
 use Rattle.report_json.specs.declared.ask.Ask.TheVariants as ask
 use Rattle.report_json.specs.declared.reply.Reply.{Reply}
@@ -16,31 +17,32 @@ use Rattle.ingest.specs.Stops.{Stops}
 use Rattle.audit_cli.specs.declared.halt.Turn.{Turn}
 use Rattle.audit_cli.specs.declared.halt.Turn.TheVariants as turn
 
--- what was taken of the log so far, and the bytes that are left of it
+-- the mode of a run, what it has taken of the log so far, and the bytes that are left of it
 pub record Moment : Type 0 where
+  pub mode : Mode
   pub history : History
   pub log : List ℕ
 
 -- nothing is taken
-abbrev pub begin : List ℕ → Moment
-begin log = record { history = []; log = log }
+abbrev pub begin : Mode → List ℕ → Moment
+begin mode log = record { mode = mode; history = []; log = log }
 
--- the moment after a question. A line that asks nothing changes nothing
+-- the moment after a question. No question changes the mode, and a line that asks nothing changes nothing
 abbrev pub after : Option Ask → Moment → Moment
 after None m = m
-after (Some (ask.Take count)) m = record { history = with_bytes m.history (take count m.log); log = drop count m.log }
-after (Some ask.Settle) m = record { history = m.history ++ Settle ∷ []; log = m.log }
+after (Some (ask.Take count)) m = record m { history = with_bytes m.history (take count m.log); log = drop count m.log }
+after (Some ask.Settle) m = record m { history = m.history ++ Settle ∷ [] }
 after (Some (ask.Question question)) m = m
 after (Some ask.Stat) m = m
 after (Some ask.End) m = m
 
--- the reply answers the question at this moment
+-- the reply answers the question at this moment, as the mode of the run does
 abbrev pub Answers : Limits → Option Ask → Moment → Reply → Type 0
 Answers limits None m r = r ≡ reply.BadQuestion
 Answers limits (Some (ask.Take count)) m r = r ≡ reply.Take (length (take count m.log))
 Answers limits (Some ask.Settle) m r = r ≡ reply.Settle (length (events_of limits (m.history ++ Settle ∷ [])))
-Answers limits (Some (ask.Question question)) m r = IsReply limits m.history (ask.Question question) r
-Answers limits (Some ask.Stat) m r = IsReply limits m.history ask.Stat r
+Answers limits (Some (ask.Question question)) m r = IsReply m.mode limits m.history (ask.Question question) r
+Answers limits (Some ask.Stat) m r = IsReply m.mode limits m.history ask.Stat r
 Answers limits (Some ask.End) m r = r ≡ reply.End
 
 -- `end` ends the dialogue

@@ -3,9 +3,10 @@ use Rattle.std.specs.Prelude.{◌≡◌, ◌⊎◌, ⊤, ℕ, List, [], ◌∷�
 use Rattle.std.specs.Io.KnownBytes.{Appends}
 use Rattle.flow_base.specs.declared.limits.Limits.{Limits}
 use Rattle.flow_base.specs.declared.limits.Full.{Full}
+use Rattle.reach_model.specs.declared.modes.Mode.TheVariants.{Plain}
 use Rattle.report_json.specs.declared.ask.Ask.{Ask}
 use Rattle.report_json.specs.declared.ask.Ask.TheVariants as ask
-use Rattle.report_json.specs.declared.questions.Question.TheVariants as question
+use Rattle.reach_rows.specs.declared.questions.Question.TheVariants as question
 use Rattle.report_json.specs.declared.reply.Reply.{Reply}
 use Rattle.report_json.specs.Replies.{text_of}
 use Rattle.ingest.specs.Stops.{Fits}
@@ -55,19 +56,19 @@ pub record IsLastFront (limits : Limits) (from : Moment) (questions : List (Opti
 
 -- the bytes are what the job writes, and this moment is its end: `back` writes the last reply, `watch` all of them
 abbrev pub Writes : Limits → Job → (log asked bytes : List ℕ) → Moment → Type 0
-Writes limits (job.Back of) log asked bytes to = IsLast limits (begin log) (questions_of limits (job.Back of) log asked) bytes to
-Writes limits (job.Watch mode name) log asked bytes to = AreAll limits (begin log) (questions_of limits (job.Watch mode name) log asked) bytes to
+Writes limits (job.Back of) log asked bytes to = IsLast limits (begin Plain log) (questions_of limits (job.Back of) log asked) bytes to
+Writes limits (job.Watch mode name) log asked bytes to = AreAll limits (begin mode log) (questions_of limits (job.Watch mode name) log asked) bytes to
 
 -- the bytes are a front of what the job would write
 abbrev pub WritesFront : Limits → Job → (log asked bytes : List ℕ) → Type 0
-WritesFront limits (job.Back of) log asked bytes = (bytes ≡ []) ⊎ IsLastFront limits (begin log) (questions_of limits (job.Back of) log asked) bytes
-WritesFront limits (job.Watch mode name) log asked bytes = IsFront limits (begin log) (questions_of limits (job.Watch mode name) log asked) bytes
+WritesFront limits (job.Back of) log asked bytes = (bytes ≡ []) ⊎ IsLastFront limits (begin Plain log) (questions_of limits (job.Back of) log asked) bytes
+WritesFront limits (job.Watch mode name) log asked bytes = IsFront limits (begin mode log) (questions_of limits (job.Watch mode name) log asked) bytes
 
 -- the history would pass this limit at one of the questions, or the questions the limit on input
 abbrev pub PassesLimit : Limits → Job → (log asked : List ℕ) → Full → Type 0
-PassesLimit limits (job.Back of) log asked full = HistoryStops limits (begin log) (questions_of limits (job.Back of) log asked) full
+PassesLimit limits (job.Back of) log asked full = HistoryStops limits (begin Plain log) (questions_of limits (job.Back of) log asked) full
 PassesLimit limits (job.Watch mode name) log asked full =
-    HistoryStops limits (begin log) (questions_of limits (job.Watch mode name) log asked) full ⊎ QuestionsStop limits (begin log) asked full
+    HistoryStops limits (begin mode log) (questions_of limits (job.Watch mode name) log asked) full ⊎ QuestionsStop limits (begin mode log) asked full
 
 -- no limit would be passed
 abbrev pub PassesNone : Limits → Job → (log asked : List ℕ) → Type 0
@@ -95,4 +96,4 @@ pub record Written (limits : Limits) (job : Job) (log asked : List ℕ) (old new
 -- where the job has questions, they are read no further than to `end`
 abbrev pub LeavesQuestions : Limits → Job → (log asked : List ℕ) → Option (List ℕ) → Type 0
 LeavesQuestions limits (job.Back of) log asked left = ⊤
-LeavesQuestions limits (job.Watch mode name) log asked left = ReadsNoFurther limits (begin log) asked left
+LeavesQuestions limits (job.Watch mode name) log asked left = ReadsNoFurther limits (begin mode log) asked left

@@ -2,7 +2,7 @@
 use Rattle.std.specs.Prelude.{◌≡◌, ◌⊎◌, ⊤, ℕ, List, [], Option, Result, Ok, Err, OnOk}
 use Rattle.std.specs.Io.KnownBytes.{Appends}
 use Rattle.flow_base.specs.declared.limits.Limits.{Limits}
-use Rattle.flow_base.specs.declared.limits.Full.{Full}
+use Rattle.reach_model.specs.declared.modes.Mode.{Mode}
 use Rattle.report_json.specs.declared.ask.Ask.{Ask}
 use Rattle.ingest.specs.Parts.{Engine}
 use Rattle.audit_cli.specs.declared.halt.Halt.{Halt}
@@ -19,17 +19,17 @@ LastCourse limits (Ok done) from questions bytes to = IsLast limits from questio
 LastCourse limits (Err why) from questions bytes to = ((bytes ≡ []) ⊎ IsLastFront limits from questions bytes) × IsDue (HistoryStops limits from questions) why
 
 -- a run of which the last reply alone is written
-pub record LastTalked (limits : Limits) (engine : Engine) (left old new : Option (List ℕ)) (result : Result Unit Halt) (from : Moment) (questions : List (Option Ask)) : Type 0 where
+pub record LastTalked (mode : Mode) (limits : Limits) (engine : Engine) (left old new : Option (List ℕ)) (result : Result Unit Halt) (from : Moment) (questions : List (Option Ask)) : Type 0 where
   pub to : Moment
   pub bytes : List ℕ
   pub wrote : Appends old new bytes
   pub course : LastCourse limits result from questions bytes to
-  pub at : OnOk result (At limits engine left to)
+  pub at : OnOk result (At mode limits engine left to)
 
 -- the questions kept within their limit, where the job has questions
 abbrev pub KeepsLimit : Limits → Job → (log asked : List ℕ) → Type 0
 KeepsLimit limits (job.Back of) log asked = ⊤
-KeepsLimit limits (job.Watch mode name) log asked = KeepsWithin limits (begin log) asked
+KeepsLimit limits (job.Watch mode name) log asked = KeepsWithin limits (begin mode log) asked
 
 -- what a job wrote, by how it ended
 abbrev pub JobCourse : Limits → Job → Result Unit Halt → (log asked bytes : List ℕ) → Moment → Type 0

@@ -21,7 +21,17 @@ back_job word id = if bytes_eq word (codes "back") then option_map (λ of. job.B
 
 -- a mode by its name
 abbrev pub mode_of : List ℕ → Option Mode
-mode_of word = if bytes_eq word (codes "plain") then Some mode.Plain else None
+mode_of word =
+    if bytes_eq word (codes "plain") then Some mode.Plain
+    else if bytes_eq word (codes "continuous") then Some mode.Continuous
+    else if bytes_eq word (codes "full") then Some mode.Full
+    else if bytes_eq word (codes "source") then Some mode.Source
+    else None
+
+-- the mode in which a job is done: `back` in plain mode, `watch` in the one that it names
+abbrev pub mode_for : Job → Mode
+mode_for (job.Back of) = mode.Plain
+mode_for (job.Watch kept log) = kept
 
 -- a log has a name of at least one byte
 abbrev pub watch_of : Option Mode → List ℕ → Option Job

@@ -12,20 +12,21 @@ use crate::turn::{answer, say};
 use flow_base::EntityId;
 use ingest::{Ingest, stops_stay};
 use outside::{Sink, Source};
-use report_json::{Ask, Question};
+use reach_rows::{Question, Reducer, VecRows};
+use report_json::Ask;
 use std::alloc::Global;
 
 /// Takes the log to its end, settles, asks, and writes the last reply alone.
-pub fn back<L: Source, O: Sink>(
+pub fn back<R: Reducer, L: Source, O: Sink>(
     alloc: Global,
-    engine: &mut Ingest,
+    engine: &mut Ingest<R, VecRows>,
     log: &mut L,
     out: &mut O,
     of: EntityId,
 ) -> Result<(), Halt>
-    ensures talked { (limits : Limits) (bytes : List ℕ) → limits.input < 2 ^ 64 - 1 → At limits engine.old (L.left log.old) (begin bytes)
-        → LastTalked limits engine.new (L.left log.new) (O.written out.old) (O.written out.new) result (begin bytes) (back_questions of.0 bytes) }
-    ensures whole { (limits : Limits) (bytes : List ℕ) → limits.input < 2 ^ 64 - 1 → At limits engine.old (L.left log.old) (begin bytes)
+    ensures talked { (limits : Limits) (bytes : List ℕ) → limits.input < 2 ^ 64 - 1 → At R.mode limits engine.old (L.left log.old) (begin R.mode bytes)
+        → LastTalked R.mode limits engine.new (L.left log.new) (O.written out.old) (O.written out.new) result (begin R.mode bytes) (back_questions of.0 bytes) }
+    ensures whole { (limits : Limits) (bytes : List ℕ) → limits.input < 2 ^ 64 - 1 → At R.mode limits engine.old (L.left log.old) (begin R.mode bytes)
         → OnOk result (L.left log.new ≡ Some []) }
     ensures causes { IfErr result (HasCauses (Rose (L.faults log.old) (L.faults log.new) (L.spent log.new))
         (Rose (O.faults out.old) (O.faults out.new) (O.spent out.new))) }

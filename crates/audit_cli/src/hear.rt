@@ -12,14 +12,15 @@ use crate::turn::{question_in, take_turn};
 use audit_lex::{LineCut, lines_stay};
 use ingest::Ingest;
 use outside::{Sink, Source};
+use reach_rows::{Reducer, VecRows};
 use std::alloc::Global;
 
 // Takes bytes of the piece up to and with a line feed, and answers the line that they end. It says how many bytes it
 // took.
-fn hear_line<L: Source, O: Sink>(
+fn hear_line<R: Reducer, L: Source, O: Sink>(
     alloc: Global,
     cut: &mut LineCut,
-    engine: &mut Ingest,
+    engine: &mut Ingest<R, VecRows>,
     log: &mut L,
     out: &mut O,
     piece: &[u8],
@@ -28,8 +29,8 @@ fn hear_line<L: Source, O: Sink>(
     ensures taken { IfOk result (λ given. given.0 ≤ length piece.now) }
     ensures some { IfOk result (λ given. 0 < length piece.now → 0 < given.0) }
     ensures lines { IfOk result (λ given. cut.new.lines ≤ cut.old.lines + given.0) }
-    ensures heard { (limits : Limits) (m : Moment) (h : History) → At limits engine.old (L.left log.old) m → Holds limits cut.old h
-        → Heard limits never cut.new engine.new (L.left log.new) (O.written out.old) (O.written out.new) (turn_in result) m h (taken_in result piece.now) }
+    ensures heard { (limits : Limits) (m : Moment) (h : History) → At R.mode limits engine.old (L.left log.old) m → Holds limits cut.old h
+        → Heard R.mode limits never cut.new engine.new (L.left log.new) (O.written out.old) (O.written out.new) (turn_in result) m h (taken_in result piece.now) }
     ensures causes { IfErr result (HasCauses (Rose (L.faults log.old) (L.faults log.new) (L.spent log.new))
         (Rose (O.faults out.old) (O.faults out.new) (O.spent out.new))) }
     ensures log { GoesUp (L.faults log.old) (L.faults log.new) (L.spent log.old) (L.spent log.new) }
@@ -47,18 +48,18 @@ fn hear_line<L: Source, O: Sink>(
 }
 
 /// Answers the lines that end in this piece, up to the end of the dialogue.
-pub fn hear<L: Source, O: Sink>(
+pub fn hear<R: Reducer, L: Source, O: Sink>(
     alloc: Global,
     cut: &mut LineCut,
-    engine: &mut Ingest,
+    engine: &mut Ingest<R, VecRows>,
     log: &mut L,
     out: &mut O,
     piece: &[u8],
 ) -> Result<Turn, Halt>
     requires { cut.old.lines + length piece.now < 2 ^ 61 }
     ensures lines { OnOk result (cut.new.lines ≤ cut.old.lines + length piece.now) }
-    ensures heard { (limits : Limits) (m : Moment) (h : History) → At limits engine.old (L.left log.old) m → Holds limits cut.old h
-        → Heard limits never cut.new engine.new (L.left log.new) (O.written out.old) (O.written out.new) result m h piece.now }
+    ensures heard { (limits : Limits) (m : Moment) (h : History) → At R.mode limits engine.old (L.left log.old) m → Holds limits cut.old h
+        → Heard R.mode limits never cut.new engine.new (L.left log.new) (O.written out.old) (O.written out.new) result m h piece.now }
     ensures causes { IfErr result (HasCauses (Rose (L.faults log.old) (L.faults log.new) (L.spent log.new))
         (Rose (O.faults out.old) (O.faults out.new) (O.spent out.new))) }
     ensures log { GoesUp (L.faults log.old) (L.faults log.new) (L.spent log.old) (L.spent log.new) }

@@ -18,6 +18,7 @@ use audit_lex::{LineCut, lines_stay};
 use flow_base::{Full, Limit, Limits};
 use ingest::Ingest;
 use outside::{Sink, Source};
+use reach_rows::{Reducer, VecRows};
 use std::alloc::Global;
 
 /// The most bytes of one read.
@@ -25,21 +26,21 @@ const PIECE: usize = 65_536;
 
 // Reads the questions once, and answers what it can. Of `heard` bytes that were read before and of these at most
 // `limits.input` are heard.
-fn listen<L: Source, Q: Source, O: Sink>(
+fn listen<R: Reducer, L: Source, Q: Source, O: Sink>(
     alloc: Global,
     limits: &Limits,
     heard: u64,
     cut: &mut LineCut,
-    engine: &mut Ingest,
+    engine: &mut Ingest<R, VecRows>,
     log: &mut L,
     questions: &mut Q,
     out: &mut O,
 ) -> Result<Heed, Halt>
     requires lines { cut.old.lines ≤ heard }
     requires heard { heard ≤ limits.now.input }
-    ensures heard { (m : Moment) (h : History) (q : List ℕ) → At limits.now engine.old (L.left log.old) m → Holds limits.now cut.old h → Q.left questions.old ≡ Some q
-        → Heard limits.now (PassesRoom limits.now (limits.now.input - heard) m h q) cut.new engine.new (L.left log.new) (O.written out.old) (O.written out.new) (turn_heeded result) m h (heeded result q) }
-    ensures closes { (m : Moment) (h : History) (q : List ℕ) → At limits.now engine.old (L.left log.old) m → Holds limits.now cut.old h → Q.left questions.old ≡ Some q
+    ensures heard { (m : Moment) (h : History) (q : List ℕ) → At R.mode limits.now engine.old (L.left log.old) m → Holds limits.now cut.old h → Q.left questions.old ≡ Some q
+        → Heard R.mode limits.now (PassesRoom limits.now (limits.now.input - heard) m h q) cut.new engine.new (L.left log.new) (O.written out.old) (O.written out.new) (turn_heeded result) m h (heeded result q) }
+    ensures closes { (m : Moment) (h : History) (q : List ℕ) → At R.mode limits.now engine.old (L.left log.old) m → Holds limits.now cut.old h → Q.left questions.old ≡ Some q
         → IfOk result (ClosesWithin limits.now (limits.now.input - heard) m h q) }
     ensures left { (q : List ℕ) → Q.left questions.old ≡ Some q → IfOk result (LeftAfter q (Q.left questions.new)) }
     ensures progress { IfOk result (IsProgress (limits.now.input - heard)) }
@@ -76,16 +77,16 @@ fn listen<L: Source, Q: Source, O: Sink>(
 }
 
 // Answers a last question without a line feed.
-fn finish<L: Source, O: Sink>(
+fn finish<R: Reducer, L: Source, O: Sink>(
     alloc: Global,
     cut: &mut LineCut,
-    engine: &mut Ingest,
+    engine: &mut Ingest<R, VecRows>,
     log: &mut L,
     out: &mut O,
 ) -> Result<(), Halt>
     requires { cut.old.lines < 2 ^ 61 }
-    ensures heard { (limits : Limits) (m : Moment) (h : History) → At limits engine.old (L.left log.old) m → Holds limits cut.old h
-        → HeardLast limits never engine.new (L.left log.new) (O.written out.old) (O.written out.new) result m h }
+    ensures heard { (limits : Limits) (m : Moment) (h : History) → At R.mode limits engine.old (L.left log.old) m → Holds limits cut.old h
+        → HeardLast R.mode limits never engine.new (L.left log.new) (O.written out.old) (O.written out.new) result m h }
     ensures causes { IfErr result (HasCauses (Rose (L.faults log.old) (L.faults log.new) (L.spent log.new))
         (Rose (O.faults out.old) (O.faults out.new) (O.spent out.new))) }
     ensures log { GoesUp (L.faults log.old) (L.faults log.new) (L.spent log.old) (L.spent log.new) }
@@ -101,19 +102,19 @@ fn finish<L: Source, O: Sink>(
 }
 
 /// Answers the questions in order, up to `end` or to their end.
-pub fn watch<L: Source, Q: Source, O: Sink>(
+pub fn watch<R: Reducer, L: Source, Q: Source, O: Sink>(
     alloc: Global,
     limits: &Limits,
-    engine: &mut Ingest,
+    engine: &mut Ingest<R, VecRows>,
     log: &mut L,
     questions: &mut Q,
     out: &mut O,
 ) -> Result<(), Halt>
-    ensures talked { (m : Moment) (q : List ℕ) → At limits.now engine.old (L.left log.old) m → Q.left questions.old ≡ Some q
-        → EndTalked limits.now (QuestionsStop limits.now m q) engine.new (L.left log.new) (O.written out.old) (O.written out.new) result m (asks limits.now (lines_in q)) }
-    ensures within { (m : Moment) (q : List ℕ) → At limits.now engine.old (L.left log.old) m → Q.left questions.old ≡ Some q
+    ensures talked { (m : Moment) (q : List ℕ) → At R.mode limits.now engine.old (L.left log.old) m → Q.left questions.old ≡ Some q
+        → EndTalked R.mode limits.now (QuestionsStop limits.now m q) engine.new (L.left log.new) (O.written out.old) (O.written out.new) result m (asks limits.now (lines_in q)) }
+    ensures within { (m : Moment) (q : List ℕ) → At R.mode limits.now engine.old (L.left log.old) m → Q.left questions.old ≡ Some q
         → OnOk result (KeepsWithin limits.now m q) }
-    ensures left { (m : Moment) (q : List ℕ) → At limits.now engine.old (L.left log.old) m → Q.left questions.old ≡ Some q
+    ensures left { (m : Moment) (q : List ℕ) → At R.mode limits.now engine.old (L.left log.old) m → Q.left questions.old ≡ Some q
         → OnOk result (ReadsNoFurther limits.now m q (Q.left questions.new)) }
     ensures causes { IfErr result (HasCauses (Rose (L.faults log.old) (L.faults log.new) (L.spent log.new) ⊎ Rose (Q.faults questions.old) (Q.faults questions.new) (Q.spent questions.new))
         (Rose (O.faults out.old) (O.faults out.new) (O.spent out.new))) }

@@ -10,19 +10,24 @@ ghost use Rattle.audit_cli.specs.Course.{At, GoesUp, HasCauses, IsDue, IsPart};
 use crate::halt::{Halt, halt_of};
 use ingest::{Ingest, stops_stay};
 use outside::Source;
+use reach_rows::{Reducer, VecRows};
 
 /// The most bytes of one read.
 const PIECE: u64 = 65_536;
 
 // Takes the next bytes of the log, at most as many as the buffer holds. It takes none only at the end.
-fn take_piece<L: Source>(engine: &mut Ingest, log: &mut L, buf: &mut [u8]) -> Result<usize, Halt>
+fn take_piece<R: Reducer, L: Source>(
+    engine: &mut Ingest<R, VecRows>,
+    log: &mut L,
+    buf: &mut [u8],
+) -> Result<usize, Halt>
     requires { 0 < length buf.old }
     ensures within { IfOk result (λ n. n ≤ length buf.old) }
-    ensures took { (limits : Limits) (m : Moment) → At limits engine.old (L.left log.old) m
-        → IfOk result (λ n. At limits engine.new (L.left log.new) (after (Some (ask.Take n)) m)) }
-    ensures some { (limits : Limits) (m : Moment) → At limits engine.old (L.left log.old) m
+    ensures took { (limits : Limits) (m : Moment) → At R.mode limits engine.old (L.left log.old) m
+        → IfOk result (λ n. At R.mode limits engine.new (L.left log.new) (after (Some (ask.Take n)) m)) }
+    ensures some { (limits : Limits) (m : Moment) → At R.mode limits engine.old (L.left log.old) m
         → IfOk result (λ n. IsPart n m.log) }
-    ensures due { (limits : Limits) (m : Moment) → At limits engine.old (L.left log.old) m
+    ensures due { (limits : Limits) (m : Moment) → At R.mode limits engine.old (L.left log.old) m
         → IfErr result (IsDue (Stops limits (after (Some (ask.Take (length buf.old))) m).history)) }
     ensures causes { IfErr result (HasCauses (Rose (L.faults log.old) (L.faults log.new) (L.spent log.new)) ⊥) }
     ensures counts { GoesUp (L.faults log.old) (L.faults log.new) (L.spent log.old) (L.spent log.new) }
@@ -39,12 +44,16 @@ fn take_piece<L: Source>(engine: &mut Ingest, log: &mut L, buf: &mut [u8]) -> Re
 }
 
 /// Takes the next `most` bytes of the log, or what is left, and says how many they were.
-pub fn take_log<L: Source>(engine: &mut Ingest, log: &mut L, most: u64) -> Result<u64, Halt>
-    ensures took { (limits : Limits) (m : Moment) → At limits engine.old (L.left log.old) m
-        → IfOk result (λ _. At limits engine.new (L.left log.new) (after (Some (ask.Take most)) m)) }
-    ensures count { (limits : Limits) (m : Moment) → At limits engine.old (L.left log.old) m
+pub fn take_log<R: Reducer, L: Source>(
+    engine: &mut Ingest<R, VecRows>,
+    log: &mut L,
+    most: u64,
+) -> Result<u64, Halt>
+    ensures took { (limits : Limits) (m : Moment) → At R.mode limits engine.old (L.left log.old) m
+        → IfOk result (λ _. At R.mode limits engine.new (L.left log.new) (after (Some (ask.Take most)) m)) }
+    ensures count { (limits : Limits) (m : Moment) → At R.mode limits engine.old (L.left log.old) m
         → IfOk result (λ n. n ≡ length (take most m.log)) }
-    ensures due { (limits : Limits) (m : Moment) → At limits engine.old (L.left log.old) m
+    ensures due { (limits : Limits) (m : Moment) → At R.mode limits engine.old (L.left log.old) m
         → IfErr result (IsDue (Stops limits (after (Some (ask.Take most)) m).history)) }
     ensures causes { IfErr result (HasCauses (Rose (L.faults log.old) (L.faults log.new) (L.spent log.new)) ⊥) }
     ensures counts { GoesUp (L.faults log.old) (L.faults log.new) (L.spent log.old) (L.spent log.new) }

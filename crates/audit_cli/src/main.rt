@@ -1,7 +1,7 @@
 //! The program: which objects an object's contents can have come from, over the audit log of a host.
 //!
 //!     audit_cli back ID < LOG
-//!     audit_cli watch plain LOG < QUESTIONS
+//!     audit_cli watch MODE LOG < QUESTIONS
 //!
 //! `audit_main` is the whole of it over any sources and sink, and its contract is the theorem. `main` makes the real
 //! ones, says on standard error how a run ended that wasn't done, and ends with the status's number.

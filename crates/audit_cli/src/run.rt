@@ -3,7 +3,7 @@ ghost use Rattle.std.specs.Prelude.{◌≡◌, ◌≢◌, ◌↔◌, ◌⊎◌, 
 ghost use Rattle.flow_base.specs.declared.limits.Full.{Full};
 ghost use Rattle.outside.specs.Cause.{Rose};
 ghost use Rattle.audit_cli.specs.declared.words.Job.{Job};
-ghost use Rattle.audit_cli.specs.Words.{job_of};
+ghost use Rattle.audit_cli.specs.Words.{job_of, mode_for};
 ghost use Rattle.audit_cli.specs.Course.{HasCauses};
 ghost use Rattle.audit_cli.specs.Jobs.{JobTalked, KeepsLimit};
 ghost use Rattle.audit_cli.specs.Headline.{Tells, WhereTold, Finished, Written, PassesLimit, PassesNone, LeavesQuestions};
@@ -18,9 +18,13 @@ use crate::words::{Job, WordsFault, read_words};
 use flow_base::{EntityId, Limits};
 use ingest::{Ingest, stops_stay, what_fits_never_stops};
 use outside::{Sink, Source};
+use reach_model::Mode;
+use reach_rows::{Plain, Reducer, VecRows};
+use reduce_continuous::Continuous;
+use reduce_source::Sources;
 use std::alloc::Global;
 
-// Does a job with a new engine.
+// Does a job with a new engine of its mode.
 fn run<L: Source, Q: Source, O: Sink>(
     alloc: Global,
     limits: &Limits,
@@ -40,7 +44,65 @@ fn run<L: Source, Q: Source, O: Sink>(
         (Rose (O.faults out.old) (O.faults out.new) (O.spent out.new))) }
     ensures other { (of : ℕ) → job.now ≡ Job.Back of → questions.new ≡ questions.old }
 {
-    let mut engine = Ingest::new(alloc, limits);
+    match mode_of_job(job) {
+        Mode::Plain => run_with(alloc, limits, Plain::new(), job, log, questions, out),
+        Mode::Continuous => run_with(
+            alloc,
+            limits,
+            Continuous::new(alloc),
+            job,
+            log,
+            questions,
+            out,
+        ),
+        Mode::Full => run_with(
+            alloc,
+            limits,
+            reduce_full::Full::new(alloc),
+            job,
+            log,
+            questions,
+            out,
+        ),
+        Mode::Source => run_with(alloc, limits, Sources::new(alloc), job, log, questions, out),
+    }
+}
+
+// The mode in which a job is done.
+fn mode_of_job(job: &Job) -> Mode
+    ensures { result ≡ mode_for job.now }
+{
+    match job {
+        Job::Back(_) => Mode::Plain,
+        Job::Watch { mode, log: _ } => *mode,
+    }
+}
+
+// Does a job with a new engine, which decides by these tables.
+fn run_with<R: Reducer + Drop, L: Source, Q: Source, O: Sink>(
+    alloc: Global,
+    limits: &Limits,
+    reducer: R,
+    job: &Job,
+    log: &mut L,
+    questions: &mut Q,
+    out: &mut O,
+) -> Result<(), Halt>
+    requires mode { mode_for job.now ≡ R.mode }
+    requires stands { R.stands_for reducer [] }
+    requires holds { R.holds reducer [] }
+    ensures talked { (bytes asked : List ℕ) → L.left log.old ≡ Some bytes → Tells job.now (Q.left questions.old) asked
+        → JobTalked limits.now job.now bytes asked (L.left log.new) (O.written out.old) (O.written out.new) result }
+    ensures within { (bytes asked : List ℕ) → L.left log.old ≡ Some bytes → Tells job.now (Q.left questions.old) asked
+        → OnOk result (KeepsLimit limits.now job.now bytes asked) }
+    ensures left { (bytes asked : List ℕ) → L.left log.old ≡ Some bytes → Tells job.now (Q.left questions.old) asked
+        → OnOk result (LeavesQuestions limits.now job.now bytes asked (Q.left questions.new)) }
+    ensures whole { (of : ℕ) (bytes : List ℕ) → job.now ≡ Job.Back of → L.left log.old ≡ Some bytes → OnOk result (L.left log.new ≡ Some []) }
+    ensures causes { IfErr result (HasCauses (Rose (L.faults log.old) (L.faults log.new) (L.spent log.new) ⊎ Rose (Q.faults questions.old) (Q.faults questions.new) (Q.spent questions.new))
+        (Rose (O.faults out.old) (O.faults out.new) (O.spent out.new))) }
+    ensures other { (of : ℕ) → job.now ≡ Job.Back of → questions.new ≡ questions.old }
+{
+    let mut engine = Ingest::new(alloc, limits, reducer, VecRows::new(alloc));
     match job {
         Job::Back(of) => back(alloc, &mut engine, log, out, EntityId(*of)),
         Job::Watch { mode: _, log: _ } => { watch(alloc, limits, &mut engine, log, questions, out) }

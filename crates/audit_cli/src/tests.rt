@@ -13,6 +13,9 @@ const WRITE: &[u8] =
 
 const FEED: &[u8] = b"\n";
 
+// The end of the first event.
+const END: &[u8] = b"type=EOE msg=audit(1.000:1): \n";
+
 // Two more forks by process 100, two seconds after the first one.
 const LATER: &[u8] =
     b"type=SYSCALL msg=audit(3.000:2): arch=c000003e syscall=57 success=yes exit=102 a0=0 a1=0 a2=0 a3=0 items=0 ppid=1 pid=100 comm=\"p\" exe=\"/p\"\n";
@@ -181,11 +184,18 @@ fn back_is_answered_over_the_whole_log(rt: HostRuntime) -> Result<(), Fail> {
         ("watch", [FORK].as_slice(), Status::BadWords, NOTHING),
         ("watch plain", [FORK].as_slice(), Status::BadWords, NOTHING),
         (
-            "watch full log",
+            "watch sources log",
             [FORK].as_slice(),
             Status::BadWords,
             NOTHING,
         ),
+        (
+            "watch Plain log",
+            [FORK].as_slice(),
+            Status::BadWords,
+            NOTHING,
+        ),
+        ("watch full", [FORK].as_slice(), Status::BadWords, NOTHING),
         (
             "watch plain log store",
             [FORK].as_slice(),
@@ -246,6 +256,103 @@ fn questions_are_answered_at_their_moment(rt: HostRuntime) -> Result<(), Fail> {
         assert_eq!(rt; ended, Status::Done);
         assert_eq!(rt; written.as_slice(), text);
     }
+    Ok(())
+}
+
+// An event: a process calls chmod (90) or exec (59) with a file. Its second is its serial number too.
+fn file_event(
+    rt: &HostRuntime,
+    call: u32,
+    process: u32,
+    file: u32,
+    second: u32,
+) -> Result<Bytes, Fail> {
+    let head = format!(in rt.alloc();
+        "type=SYSCALL msg=audit({second}.000:{second}): arch=c000003e syscall={call} success=yes exit=0 a0=0 a1=0 a2=0 a3=0 items=0 ppid=1 pid={process} comm=\"p\" exe=\"/p\"\n"
+    )?;
+    let path = format!(in rt.alloc();
+        "type=PATH msg=audit({second}.000:{second}): item=0 name=\"/f{file}\" inode={file} dev=08:01 nametype=NORMAL\n"
+    )?;
+    let end = format!(in rt.alloc(); "type=EOE msg=audit({second}.000:{second}): \n")?;
+    joined(rt, &[head.as_bytes(), path.as_bytes(), end.as_bytes()])
+}
+
+// A log of such events.
+fn file_events(rt: &HostRuntime, events: &[(u32, u32, u32, u32)]) -> Result<Bytes, Fail> {
+    let mut log = Bytes::new(rt.alloc());
+    for (call, process, file, second) in events {
+        log.append(file_event(rt, *call, *process, *file, *second)?.as_slice())?;
+    }
+    Ok(log)
+}
+
+#[test]
+fn a_mode_answers_by_what_it_keeps(rt: HostRuntime) -> Result<(), Fail> {
+    // two processes write a file, and the first one again
+    let repeated = [
+        (90u32, 100u32, 7u32, 1u32),
+        (90, 200, 7, 2),
+        (90, 100, 7, 3),
+    ]
+    .as_slice();
+    // between its writes the process reads another file
+    let between = [
+        (90u32, 100u32, 7u32, 1u32),
+        (59, 100, 8, 2),
+        (90, 100, 7, 3),
+    ]
+    .as_slice();
+    let rows = [
+        (
+            "watch plain log",
+            repeated,
+            b"take 1000\nfore 0 2.000\nback 1 1.000\nstat\n".as_slice(),
+            b"{\"take\":750}\n{\"fore\":0,\"ids\":[0,1]}\n{\"back\":1,\"ids\":[0,1]}\n{\"blank\":0,\"bytes\":750,\"events\":3,\"excess\":0,\"flows\":3,\"kept\":3,\"known\":3,\"late\":0,\"lines\":9,\"malformed\":0,\"malformed_lines\":[],\"other\":0,\"unmapped\":0,\"used\":9,\"waiting\":0}\n".as_slice(),
+        ),
+        (
+            "watch continuous log",
+            repeated,
+            b"take 1000\nfore 0 2.000\nback 1 1.000\nstat\n".as_slice(),
+            b"{\"take\":750}\n{\"fore\":0,\"ids\":[0,1]}\n{\"back\":1,\"ids\":[0,1]}\n{\"blank\":0,\"bytes\":750,\"events\":3,\"excess\":0,\"flows\":3,\"kept\":2,\"known\":3,\"late\":0,\"lines\":9,\"malformed\":0,\"malformed_lines\":[],\"other\":0,\"unmapped\":0,\"used\":9,\"waiting\":0}\n".as_slice(),
+        ),
+        (
+            "watch continuous log",
+            between,
+            b"take 1000\nback 1\nback 1 2.000\nstat\n".as_slice(),
+            b"{\"take\":750}\n{\"back\":1,\"ids\":[0,1,2]}\n{\"back\":1,\"ids\":[0,1]}\n{\"blank\":0,\"bytes\":750,\"events\":3,\"excess\":0,\"flows\":3,\"kept\":3,\"known\":3,\"late\":0,\"lines\":9,\"malformed\":0,\"malformed_lines\":[],\"other\":0,\"unmapped\":0,\"used\":9,\"waiting\":0}\n".as_slice(),
+        ),
+        // full mode keeps the first of two equal flows, and so can't answer forward from the middle
+        (
+            "watch full log",
+            repeated,
+            b"take 1000\nfore 0 2.000\nfore 0\nfore 0 1.000\nback 1 1.000\nback 1\nfore 3\nstat\n".as_slice(),
+            b"{\"take\":750}\n{\"error\":\"NotKept\"}\n{\"fore\":0,\"ids\":[0,1]}\n{\"fore\":0,\"ids\":[0,1]}\n{\"back\":1,\"ids\":[0,1]}\n{\"back\":1,\"ids\":[0,1,2]}\n{\"error\":\"Unknown\"}\n{\"blank\":0,\"bytes\":750,\"events\":3,\"excess\":0,\"flows\":3,\"kept\":2,\"known\":3,\"late\":0,\"lines\":9,\"malformed\":0,\"malformed_lines\":[],\"other\":0,\"unmapped\":0,\"used\":9,\"waiting\":0}\n".as_slice(),
+        ),
+    ];
+    for (words, events, asked, text) in rows {
+        let log = file_events(&rt, events)?;
+        let asked = Bytes::from_slice(rt.alloc(), asked)?;
+        let (ended, written) = run(&rt, &Limits::standard(), words, log, asked)?;
+        assert_eq!(rt; ended, Status::Done, "{words}");
+        assert_eq!(rt; written.as_slice(), text, "{words}");
+    }
+    Ok(())
+}
+
+#[test]
+fn source_mode_answers_by_sources(rt: HostRuntime) -> Result<(), Fail> {
+    // A process begins another one, and both write a file: what reaches the file is known by the first write.
+    let mut log = joined(&rt, &[FORK, END])?;
+    log.append(file_event(&rt, 90, 100, 7, 2)?.as_slice())?;
+    log.append(file_event(&rt, 90, 101, 7, 3)?.as_slice())?;
+    let asked = b"take 1000\nback 2\nfore 1\nfore 0\nback 3\nstat\n".as_slice();
+    let asked = Bytes::from_slice(rt.alloc(), asked)?;
+    let (ended, written) = run(&rt, &Limits::standard(), "watch source log", log, asked)?;
+    assert_eq!(rt; ended, Status::Done);
+    assert_eq!(rt;
+        written.as_slice(),
+        b"{\"take\":670}\n{\"back\":2,\"sources\":[0]}\n{\"error\":\"NotKept\"}\n{\"fore\":0,\"ids\":[0,1,2]}\n{\"error\":\"Unknown\"}\n{\"blank\":0,\"bytes\":670,\"events\":3,\"excess\":0,\"flows\":3,\"kept\":2,\"known\":3,\"late\":0,\"lines\":8,\"malformed\":0,\"malformed_lines\":[],\"other\":0,\"unmapped\":0,\"used\":8,\"waiting\":0}\n".as_slice()
+    );
     Ok(())
 }
 

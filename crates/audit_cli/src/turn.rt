@@ -8,16 +8,19 @@ ghost use Rattle.audit_lex.specs.LineCut.{line_of};
 ghost use Rattle.report_json.specs.declared.reply.Reply.TheVariants as reply;
 ghost use Rattle.report_json.specs.Replies.{text_of};
 ghost use Rattle.ingest.specs.Events.{events_of};
+ghost use Rattle.ingest.specs.Replies.{IsQuestion, IsReply};
 ghost use Rattle.ingest.specs.StandsFor.{StandsFor};
 ghost use Rattle.ingest.specs.Stops.{Stops};
+ghost use Rattle.audit_cli.specs.declared.halt.Halt.TheVariants as halt;
 ghost use Rattle.audit_cli.specs.Dialogue.{Moment, after, Answers, asked, turn_of};
 ghost use Rattle.audit_cli.specs.Course.{At, GoesUp, HasCauses, IsDue, Talked, never};
 
 use crate::halt::{Halt, Turn, halt_of};
 use crate::log::take_log;
 use audit_lex::Line;
-use ingest::Ingest;
+use ingest::{AskFault, Ingest};
 use outside::{Sink, Source, put_all};
+use reach_rows::{Reducer, VecRows};
 use report_json::{Ask, Reply, read_question, reply_text, what_is_found_is_asked};
 use std::alloc::Global;
 
@@ -36,7 +39,7 @@ pub fn question_in(line: &Line) -> Option<Ask>
 }
 
 // Settles, and says how many events are released.
-fn settle(engine: &mut Ingest) -> Result<Reply, Halt>
+fn settle<R: Reducer>(engine: &mut Ingest<R, VecRows>) -> Result<Reply, Halt>
     ensures stands { (limits : Limits) (h : History) → StandsFor limits engine.old h
         → OnOk result (StandsFor limits engine.new (h ++ Settle ∷ [])) }
     ensures reply { (limits : Limits) (h : History) → StandsFor limits engine.old h
@@ -51,17 +54,33 @@ fn settle(engine: &mut Ingest) -> Result<Reply, Halt>
     }
 }
 
+// The engine's reply to a question about what was taken. Rows in memory have no faults of their own, so memory is all
+// that it can want.
+fn reply_of<R: Reducer>(engine: &mut Ingest<R, VecRows>, question: &Ask) -> Result<Reply, Halt>
+    requires asks { IsQuestion question.now }
+    ensures reply { IfOk result (λ reply. (limits : Limits) (h : History) → StandsFor limits engine.old h → IsReply R.mode limits h question.now reply) }
+    ensures memory { IfErr result (λ why. why ≡ halt.NoMemory) }
+    ensures causes { IfErr result (HasCauses ⊥ ⊥) }
+    ensures same { engine.new ≡ engine.old }
+{
+    match engine.ask(question) {
+        Ok(reply) => Ok(reply),
+        Err(AskFault::NoMemory) => Err(Halt::NoMemory),
+        Err(AskFault::StoreFault) | Err(AskFault::BadStore(_)) => unreachable!(),
+    }
+}
+
 /// The reply to a question.
-pub fn answer<L: Source>(
-    engine: &mut Ingest,
+pub fn answer<R: Reducer, L: Source>(
+    engine: &mut Ingest<R, VecRows>,
     log: &mut L,
     question: Option<Ask>,
 ) -> Result<Reply, Halt>
-    ensures moves { (limits : Limits) (m : Moment) → At limits engine.old (L.left log.old) m
-        → OnOk result (At limits engine.new (L.left log.new) (after question m)) }
-    ensures answers { (limits : Limits) (m : Moment) → At limits engine.old (L.left log.old) m
+    ensures moves { (limits : Limits) (m : Moment) → At R.mode limits engine.old (L.left log.old) m
+        → OnOk result (At R.mode limits engine.new (L.left log.new) (after question m)) }
+    ensures answers { (limits : Limits) (m : Moment) → At R.mode limits engine.old (L.left log.old) m
         → IfOk result (Answers limits question m) }
-    ensures due { (limits : Limits) (m : Moment) → At limits engine.old (L.left log.old) m
+    ensures due { (limits : Limits) (m : Moment) → At R.mode limits engine.old (L.left log.old) m
         → IfErr result (IsDue (Stops limits (after question m).history)) }
     ensures causes { IfErr result (HasCauses (Rose (L.faults log.old) (L.faults log.new) (L.spent log.new)) ⊥) }
     ensures counts { GoesUp (L.faults log.old) (L.faults log.new) (L.spent log.old) (L.spent log.new) }
@@ -73,8 +92,8 @@ pub fn answer<L: Source>(
             Ok(Reply::Take(count))
         }
         Some(Ask::Settle) => settle(engine),
-        Some(Ask::Question(question)) => Ok(engine.ask(&Ask::Question(question))?),
-        Some(Ask::Stat) => Ok(engine.ask(&Ask::Stat)?),
+        Some(Ask::Question(question)) => reply_of(engine, &Ask::Question(question)),
+        Some(Ask::Stat) => reply_of(engine, &Ask::Stat),
         Some(Ask::End) => Ok(Reply::End),
     }
 }
@@ -105,15 +124,15 @@ fn turn_after(question: Option<Ask>) -> Turn
 }
 
 /// Answers a question.
-pub fn take_turn<L: Source, O: Sink>(
+pub fn take_turn<R: Reducer, L: Source, O: Sink>(
     alloc: Global,
-    engine: &mut Ingest,
+    engine: &mut Ingest<R, VecRows>,
     log: &mut L,
     out: &mut O,
     question: Option<Ask>,
 ) -> Result<Turn, Halt>
-    ensures talk { (limits : Limits) (m : Moment) → At limits engine.old (L.left log.old) m
-        → Talked limits never engine.new (L.left log.new) (O.written out.old) (O.written out.new) result m (question ∷ []) }
+    ensures talk { (limits : Limits) (m : Moment) → At R.mode limits engine.old (L.left log.old) m
+        → Talked R.mode limits never engine.new (L.left log.new) (O.written out.old) (O.written out.new) result m (question ∷ []) }
     ensures causes { IfErr result (HasCauses (Rose (L.faults log.old) (L.faults log.new) (L.spent log.new))
         (Rose (O.faults out.old) (O.faults out.new) (O.spent out.new))) }
     ensures log { GoesUp (L.faults log.old) (L.faults log.new) (L.spent log.old) (L.spent log.new) }

@@ -1,7 +1,7 @@
 //! The words of the command line, which name a job.
 //!
 //!     back ID           ID is one or more decimal digits, of value at most 4294967295
-//!     watch MODE LOG    MODE is `plain`, LOG any word of at least one byte
+//!     watch MODE LOG    MODE is `plain`, `continuous`, `full` or `source`, LOG any word of at least one byte
 ghost use Rattle.std.specs.Prelude.{◌≡◌, ◌↔◌, Err, Some, None, IfOk, map, string_bytes};
 ghost use Rattle.std.specs.List.{list_all};
 ghost use Rattle.std.specs.Char.{is_ascii_digit};
@@ -15,9 +15,9 @@ use std::alloc::Global;
 /// What a run does.
 #[derive(Drop)]
 pub enum Job {
-    /// Answers which objects this one's contents can have come from, over the whole log on standard input.
+    /// Answers in plain mode which objects this one's contents can have come from, over the whole log on standard input.
     Back(u32),
-    /// Answers questions while the log of this name is taken.
+    /// Answers questions in a mode while the log of this name is taken.
     Watch { mode: Mode, log: Bytes },
 }
 
@@ -85,6 +85,15 @@ fn mode_named(word: &String) -> Option<Mode>
 {
     if word.as_bytes() == b"plain".as_slice() {
         return Some(Mode::Plain);
+    }
+    if word.as_bytes() == b"continuous".as_slice() {
+        return Some(Mode::Continuous);
+    }
+    if word.as_bytes() == b"full".as_slice() {
+        return Some(Mode::Full);
+    }
+    if word.as_bytes() == b"source".as_slice() {
+        return Some(Mode::Source);
     }
     None
 }

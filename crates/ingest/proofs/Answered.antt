@@ -1,6 +1,6 @@
 -- Facts on answers.
 use Rattle.std.proofs.Common.{◌≡◌, subst, refl, Option, None, Some, false}
-use Rattle.std.specs.Prelude.{Result, Ok, Err, OnOk, IfErr, is_some}
+use Rattle.std.specs.Prelude.{Result, Ok, Err, OnOk, IfOk, IfErr, is_some}
 use Rattle.ingest.specs.declared.stop.StopWhy.{StopWhy}
 use Rattle.ingest.specs.declared.stop.StopWhy.TheVariants as why
 
@@ -28,3 +28,7 @@ refused cause = Err cause
 
 pub one_why : (a b : StopWhy) → refused a ≡ refused b → a ≡ b
 one_why a b e = cc e
+
+pub if_ok_so : {T E : Type 0} (r : Result T E) (P Q : T → Type 0) → ((value : T) → P value → Q value) → IfOk r P → IfOk r Q
+if_ok_so (Ok value) P Q f p = f value p
+if_ok_so (Err e) P Q f p = tt

@@ -7,6 +7,8 @@ use Rattle.name_text.specs.Addresses.{text_of}
 use Rattle.flow_base.specs.declared.limits.Limits.{Limits}
 use Rattle.flow_base.specs.declared.limits.Full.{Full}
 use Rattle.flow_base.specs.declared.types.Flow.{Flow}
+use Rattle.reach_model.specs.Flows.{IsLawful}
+use Rattle.reach_model.specs.Numbers.{IsNumbered, IsLawfulWith, known}
 use Rattle.record_join.specs.Events.{Joining, ripe_key, next_event, next_left}
 use Rattle.record_join.specs.StandsFor.{Joiner, StandsFor as JoinStandsFor}
 use Rattle.record_join.specs.declared.clock.JoinClock.{JoinClock}
@@ -15,22 +17,25 @@ use Rattle.audit_record.specs.declared.types.Record.{Record}
 use Rattle.acts.specs.declared.act.Act.{Act}
 use Rattle.acts.specs.declared.act.Taken.{Taken}
 use Rattle.acts.specs.Admitted.{Admitted}
-use Rattle.acts.specs.Flows.{acts_of, flows, latest, TimesNeverFall}
+use Rattle.acts.specs.Flows.{acts_of, objects, flows, latest, TimesNeverFall}
 use Rattle.acts.specs.LookBack.{full_at}
 use Rattle.call_acts.specs.Acts.{event_acts, acts_of_events}
+use Rattle.flow_events.specs.declared.plan.Plan.{Plan}
 use Rattle.flow_events.specs.declared.tables.Tables.{Tables}
 use Rattle.flow_events.specs.Drafts.{turned}
 use Rattle.flow_events.specs.Following.{MayFollow}
-use Rattle.flow_events.specs.Standing.{StandsFor as TablesStandFor, HasLimits}
+use Rattle.flow_events.specs.Standing.{StandsFor as TablesStandFor, HasLimits, IsPlanOf}
+use Rattle.kept_flows.specs.KeptFlows.{KeptFlows, ComeNext, StandsFor as KeptStandsFor}
 use Rattle.ingest.specs.Counting.{counts_in}
 use Rattle.ingest.specs.EventActs.{acts_of_event}
 use Rattle.ingest.specs.Events.{taken_at, taken_by, taken_in, flows_in}
-use Rattle.ingest.specs.Following.{HasTaken, turned_by}
+use Rattle.ingest.specs.Following.{HasTaken, MayComeAt, turned_by}
 use Rattle.ingest.specs.Parts.{Joined}
-use Rattle.ingest.specs.StandsFor.{IsInTime, JoinedStandsFor}
+use Rattle.ingest.specs.StandsFor.{IsInTime, AreInTime, JoinedStandsFor}
 use Rattle.ingest.specs.Stops.{full_of}
 use Rattle.ingest.proofs.Fewer.{released_so}
 use Rattle.ingest.proofs.Growing.{taken_more, map_turned}
+use Rattle.ingest.proofs.Limiting.{full_parts}
 use Rattle.ingest.proofs.Releasing.{ripe_event}
 
 pub same_err : {T E : Type 0} (a b : E) → ◌≡◌ {A = Result T E} (Err a) (Err b) → a ≡ b
@@ -126,19 +131,62 @@ on_some {A} r P a is on = subst (λ (o : Option A). OnSome o P) is on
 pub has_taken : EventsAdmitted → (limits : Limits) (joined : Joined) (s : Joining) (released : List Event) → JoinedStandsFor limits joined s released → HasTaken joined.tables (taken_in limits released)
 has_taken admitted limits joined s released stands = record { tables_are = stands.tables; admitted = admitted_in admitted limits released }
 
+-- an event may come after the acts that the tables and the kept flows are those of
+pub may_come_own : (limits : Limits) (join : Joiner) (tables : Tables) (kept : KeptFlows) (event : Event) (w : IsInTime limits join tables kept) → Some event ≡ next_event limits w.s → MayComeAt event.ms tables kept w.taken
+may_come_own limits join tables kept event w next = record {
+  has = record { tables_are = w.tables_are; admitted = w.admitted };
+  kept_are = w.kept_are;
+  rise = w.rise;
+  no_later = omega (arith, w.later, ap (λ (c : JoinClock). c.effective) w.join_is.clock, (released_so limits w.s event next).no_less);
+}
+
+pub may_come : EventsAdmitted → (limits : Limits) (joined : Joined) (s : Joining) (released : List Event) (event : Event) → JoinedStandsFor limits joined s released → Some event ≡ next_event limits s
+    → MayComeAt event.ms joined.tables joined.kept (taken_in limits released)
+may_come admitted limits joined s released event stands next = record {
+  has = has_taken admitted limits joined s released stands;
+  kept_are = stands.kept_are;
+  rise = stands.in_time.rise;
+  no_later = omega (arith, stands.in_time.later, (released_so limits s event next).no_less);
+}
+
+-- the flows of acts whose times never fall are lawful, and know their objects
+abbrev pub FlowsAreLawful : Type 0
+FlowsAreLawful = (taken : List Taken) → TimesNeverFall taken → IsLawfulWith (length (objects (acts_of taken))) (flows taken)
+
+-- the flows of a plan come next after those before it
+pub come_next : FlowsAreLawful → (limits : Limits) (event : Event) (plan : Plan) (taken : List Taken) → TimesNeverFall taken → latest taken ≤ event.ms
+    → IsPlanOf text_of plan taken (turned_by limits event) → full_at limits.entities limits.flows (turned_by limits event ++ taken) ≡ None
+    → ComeNext (flows taken) plan.flows
+come_next lawful limits event plan taken rise later plan_is fits =
+    let now = turned_by limits event ++ taken in
+    let all = lawful now (rise_then limits event taken rise later).0 in
+    let few = (full_parts limits.entities limits.flows (length (objects (acts_of now))) (length (flows now)) fits).0 in
+    let count : known (flows taken ++ plan.flows) ≡ length (objects (acts_of now)) = ap known (sym plan_is.flows_are) ∙ all.objects in
+    record {
+      lawful = subst IsLawful plan_is.flows_are all.lawful;
+      numbered = subst IsNumbered plan_is.flows_are all.numbered;
+      few_objects = omega (arith, count, few, limits.entities_within);
+    }
+
+-- the flows know as many objects as the tables
+pub kept_known : FlowsAreLawful → (limits : Limits) (join : Joiner) (tables : Tables) (kept : KeptFlows) → IsInTime limits join tables kept → kept.objects ≡ length tables.entities.keys
+kept_known lawful limits join tables kept w =
+    sym w.kept_are.objects_known ∙ (lawful w.taken w.rise).objects ∙ ap length (sym w.tables_are.objects_are)
+
 -- ---- after an event
 
--- tables and flows that say the same as before
+-- tables and kept flows that say the same as before
 pub stands_still : (limits : Limits) (joined after : Joined) (s : Joining) (released : List Event) → JoinedStandsFor limits joined s released
-    → after.limits ≡ joined.limits → after.join ≡ joined.join → after.excess ≡ joined.excess → after.counts ≡ joined.counts → HasTaken after.tables (taken_in limits released) → after.flows ≡ joined.flows
+    → after.limits ≡ joined.limits → after.join ≡ joined.join → after.excess ≡ joined.excess → after.counts ≡ joined.counts → HasTaken after.tables (taken_in limits released) → after.kept ≡ joined.kept
     → JoinedStandsFor limits after s released
-stands_still limits joined after s released stands own join excess counts has flows_are = record {
+stands_still limits joined after s released stands own join excess counts has kept = record {
   limits_are = own ∙ stands.limits_are;
   join = subst (λ (j : Joiner). JoinStandsFor limits j s) (sym join) stands.join;
   excess = excess ∙ stands.excess;
   counts = counts ∙ stands.counts;
   tables = has.tables_are;
-  flows_are = flows_are ∙ stands.flows_are;
+  kept_are = subst (λ (k : KeptFlows). KeptStandsFor k (flows_in limits released)) (sym kept) stands.kept_are;
+  in_time = stands.in_time;
   fits = stands.fits;
 }
 
@@ -150,14 +198,23 @@ full_then limits own released event answer is full =
     ∙ ap (λ (l : Limits). full_at l.entities l.flows (turned_by l event ++ taken_in limits released)) (sym is)
     ∙ full
 
+-- the acts of one more event are in time
+pub in_time_then : (limits : Limits) (s : Joining) (released : List Event) (event : Event) → AreInTime (taken_in limits released) s → Some event ≡ next_event limits s
+    → AreInTime (taken_in limits (released ++ event ∷ [])) (next_left limits s)
+in_time_then limits s released event before next =
+    let so = released_so limits s event next in
+    let then = rise_then limits event (taken_in limits released) before.rise (omega (arith, before.later, so.no_less)) in
+    subst (λ (l : List Taken). AreInTime l (next_left limits s)) (sym (taken_then limits released event))
+    (record { rise = then.0; later = omega (arith, then.1, so.time) })
+
 pub stands_next : (limits : Limits) (joined after : Joined) (s : Joining) (released : List Event) (event : Event) → JoinedStandsFor limits joined s released → Some event ≡ next_event limits s
     → after.limits ≡ joined.limits → JoinStandsFor limits after.join (next_left limits s) → after.excess ≡ joined.excess
     → after.counts ≡ counts_in (released ++ event ∷ [])
     → TablesStandFor text_of after.tables (turned_by joined.limits event ++ taken_in limits released)
-    → after.flows ≡ flows (turned_by joined.limits event ++ taken_in limits released)
+    → KeptStandsFor after.kept (flows (turned_by joined.limits event ++ taken_in limits released))
     → full_at joined.limits.entities joined.limits.flows (turned_by joined.limits event ++ taken_in limits released) ≡ None
     → JoinedStandsFor limits after (next_left limits s) (released ++ event ∷ [])
-stands_next limits joined after s released event stands next own join excess counts tables flows_are fits =
+stands_next limits joined after s released event stands next own join excess counts tables kept_are fits =
     let acts : turned_by joined.limits event ++ taken_in limits released ≡ taken_in limits (released ++ event ∷ []) =
     ap (λ (l : Limits). turned_by l event ++ taken_in limits released) stands.limits_are ∙ sym (taken_then limits released event) in
     record {
@@ -166,17 +223,18 @@ stands_next limits joined after s released event stands next own join excess cou
       excess = excess ∙ stands.excess ∙ sym (released_so limits s event next).excess;
       counts = counts;
       tables = subst (λ (l : List Taken). TablesStandFor text_of after.tables l) acts tables;
-      flows_are = flows_are ∙ ap flows acts;
+      kept_are = subst (λ (l : List Taken). KeptStandsFor after.kept (flows l)) acts kept_are;
+      in_time = in_time_then limits s released event stands.in_time next;
       fits = full_then limits joined.limits released event None stands.limits_are fits;
     }
 
 pub same_event : (limits : Limits) (after : Joined) (t : Joining) (released : List Event) (seen event : Event) → seen ≡ event → JoinedStandsFor limits after t (released ++ seen ∷ []) → JoinedStandsFor limits after t (released ++ event ∷ [])
 same_event limits after t released seen event is stands = subst (λ (e : Event). JoinedStandsFor limits after t (released ++ e ∷ [])) is stands
 
-pub in_time_next : EventAdmitted → (limits : Limits) (join after : Joiner) (tables more : Tables) (kept all : List Flow) (event : Event) (w : IsInTime limits join tables kept) → Some event ≡ next_event limits w.s
-    → JoinStandsFor limits after (next_left limits w.s) → TablesStandFor text_of more (turned_by limits event ++ w.taken) → HasLimits limits more → all ≡ flows (turned_by limits event ++ w.taken)
+pub in_time_next : EventAdmitted → (limits : Limits) (join after : Joiner) (tables more : Tables) (kept all : KeptFlows) (event : Event) (w : IsInTime limits join tables kept) → Some event ≡ next_event limits w.s
+    → JoinStandsFor limits after (next_left limits w.s) → TablesStandFor text_of more (turned_by limits event ++ w.taken) → HasLimits limits more → KeptStandsFor all (flows (turned_by limits event ++ w.taken))
     → IsInTime limits after more all
-in_time_next admitted limits join after tables more kept all event w next stands tables_are bounds flows_are =
+in_time_next admitted limits join after tables more kept all event w next stands tables_are bounds kept_are =
     let so = released_so limits w.s event next in
     let later : latest w.taken ≤ event.ms = omega (arith, w.later, ap (λ (c : JoinClock). c.effective) w.join_is.clock, so.no_less) in
     let then = rise_then limits event w.taken w.rise later in
@@ -187,7 +245,7 @@ in_time_next admitted limits join after tables more kept all event w next stands
       tables_are = tables_are;
       admitted = admitted_then admitted limits event w.taken w.admitted;
       bounds = bounds;
-      flows_are = flows_are;
+      kept_are = kept_are;
       rise = then.0;
       later = omega (arith, then.1, ap (λ (c : JoinClock). c.effective) stands.clock, so.time);
     }

@@ -6,6 +6,7 @@ pub mod Reading
 pub mod Tallying
 pub mod ReaderSteps
 pub mod Answered
+pub mod Asked
 pub mod Fewer
 pub mod Counted
 pub mod Releasing

@@ -5,7 +5,6 @@ use Rattle.std.specs.Option.{option_to_list}
 use Rattle.std.proofs.lemmas.Bool.{true≢false}
 use Rattle.flow_base.specs.declared.limits.Limits.{Limits}
 use Rattle.flow_base.specs.declared.limits.Full.{Full}
-use Rattle.flow_base.specs.declared.types.Flow.{Flow}
 use Rattle.audit_lex.specs.declared.header.EventKey.{EventKey}
 use Rattle.audit_record.specs.declared.types.Record.{Record}
 use Rattle.record_join.specs.Events.{Joining, enter, settled, ripe_key, event_of, event_at, left_at, next_event, next_left}
@@ -15,6 +14,7 @@ use Rattle.record_join.specs.declared.clock.JoinClock.{JoinClock}
 use Rattle.record_join.specs.declared.event.Event.{Event}
 use Rattle.acts.specs.Flows.{latest, TimesNeverFall}
 use Rattle.flow_events.specs.declared.tables.Tables.{Tables}
+use Rattle.kept_flows.specs.KeptFlows.{KeptFlows}
 use Rattle.ingest.specs.Owing.{IsOwed, OwesBy, NextPasses}
 use Rattle.ingest.specs.Parts.{Joined}
 use Rattle.ingest.specs.StandsFor.{IsInTime, JoinedStandsFor}
@@ -127,7 +127,7 @@ joined_at limits joined seen s released is stands = subst (λ (j : Joined). Join
 
 -- ---- in time
 
-module _ (limits : Limits) (join after : Joiner) (tables : Tables) (kept : List Flow) (w : IsInTime limits join tables kept) where
+module _ (limits : Limits) (join after : Joiner) (tables : Tables) (kept : KeptFlows) (w : IsInTime limits join tables kept) where
   in_time_at : (t : Joining) → JoinStandsFor limits after t → t.clock.effective ≡ w.s.clock.effective → IsInTime limits after tables kept
   in_time_at t stands same = record {
     s = t;
@@ -136,7 +136,7 @@ module _ (limits : Limits) (join after : Joiner) (tables : Tables) (kept : List 
     tables_are = w.tables_are;
     admitted = w.admitted;
     bounds = w.bounds;
-    flows_are = w.flows_are;
+    kept_are = w.kept_are;
     rise = w.rise;
     later = omega (arith, w.later, ap (λ (c : JoinClock). c.effective) w.join_is.clock, ap (λ (c : JoinClock). c.effective) stands.clock, same);
   }

@@ -1,20 +1,28 @@
 -- What the tables have taken, and what one more event adds.
-use Rattle.std.specs.Prelude.{◌++◌, List}
+use Rattle.std.specs.Prelude.{◌≤◌, ℕ, List}
 use Rattle.name_text.specs.Addresses.{text_of}
 use Rattle.flow_base.specs.declared.limits.Limits.{Limits}
 use Rattle.record_join.specs.declared.event.Event.{Event}
 use Rattle.acts.specs.declared.act.Taken.{Taken}
 use Rattle.acts.specs.Admitted.{Admitted}
-use Rattle.acts.specs.Flows.{acts_of}
+use Rattle.acts.specs.Flows.{acts_of, flows, latest, TimesNeverFall}
 use Rattle.flow_events.specs.declared.tables.Tables.{Tables}
 use Rattle.flow_events.specs.Drafts.{turned}
 use Rattle.flow_events.specs.Standing.{StandsFor as TablesStandFor}
+use Rattle.kept_flows.specs.KeptFlows.{KeptFlows, StandsFor as KeptStandsFor}
 use Rattle.ingest.specs.EventActs.{acts_of_event}
 
 -- the tables stand for these acts, each of which but a see and a birth names a live pid
 pub record HasTaken (tables : Tables) (taken : List Taken) : Type 0 where
   pub tables_are : TablesStandFor text_of tables taken
   pub admitted : Admitted (acts_of taken)
+
+-- the tables and the kept flows are those of these acts, after which an event of this time may come
+pub record MayComeAt (ms : ℕ) (tables : Tables) (kept : KeptFlows) (taken : List Taken) : Type 0 where
+  pub has : HasTaken tables taken
+  pub kept_are : KeptStandsFor kept (flows taken)
+  pub rise : TimesNeverFall taken
+  pub no_later : latest taken ≤ ms
 
 -- the acts of an event, the newest first
 abbrev pub turned_by : Limits → Event → List Taken

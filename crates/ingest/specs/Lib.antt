@@ -9,3 +9,4 @@ pub mod StandsFor
 pub mod Owing
 pub mod Ending
 pub mod Replies
+pub mod Faults

@@ -1,11 +1,11 @@
 -- What the two parts of an engine hold: the reader of lines, and the joiner with its flows.
-use Rattle.std.specs.Prelude.{ℕ, List}
+use Rattle.std.specs.Prelude.{ℕ}
 use Rattle.flow_base.specs.declared.limits.Limits.{Limits}
-use Rattle.flow_base.specs.declared.types.Flow.{Flow}
 use Rattle.audit_lex.specs.LineCut.{Cutter}
 use Rattle.audit_lex.specs.declared.tally.Tally.{Tally}
 use Rattle.record_join.specs.StandsFor.{Joiner}
 use Rattle.flow_events.specs.declared.tables.Tables.{Tables}
+use Rattle.kept_flows.specs.KeptFlows.{KeptFlows}
 use Rattle.ingest.specs.declared.event_counts.EventCounts.{EventCounts}
 
 -- the limits, the line that has begun, the counts of lines, and how many bytes were taken
@@ -15,13 +15,13 @@ pub record Reader : Type 0 where
   pub tally : Tally
   pub bytes : ℕ
 
--- the limits, what waits, the tables and flows of the events that were followed, and the counts of events and of records
--- in excess
+-- the limits, what waits, the tables and kept flows of the events that were followed, and the counts of events and of
+-- records in excess
 pub record Joined : Type 0 where
   pub limits : Limits
   pub join : Joiner
   pub tables : Tables
-  pub flows : List Flow
+  pub kept : KeptFlows
   pub counts : EventCounts
   pub excess : ℕ
 

@@ -7,12 +7,12 @@ use Rattle.audit_lex.specs.declared.tally.Tally.{Tally}
 use Rattle.record_join.specs.Events.{Joining}
 use Rattle.record_join.specs.StandsFor.{Joiner, StandsFor as JoinStandsFor}
 use Rattle.name_text.specs.Addresses.{text_of}
-use Rattle.flow_base.specs.declared.types.Flow.{Flow}
 use Rattle.acts.specs.declared.act.Taken.{Taken}
 use Rattle.acts.specs.Admitted.{Admitted}
 use Rattle.acts.specs.Flows.{acts_of, flows, latest, TimesNeverFall}
 use Rattle.flow_events.specs.declared.tables.Tables.{Tables}
 use Rattle.flow_events.specs.Standing.{StandsFor as TablesStandFor, HasLimits}
+use Rattle.kept_flows.specs.KeptFlows.{KeptFlows, StandsFor as KeptStandsFor}
 use Rattle.record_join.specs.declared.event.Event.{Event}
 use Rattle.ingest.specs.Counting.{bytes_in, tally_in, counts_in, total}
 use Rattle.ingest.specs.Events.{taken_in, flows_in, state_of, events_of}
@@ -42,18 +42,23 @@ pub record IsWithin (limits : Limits) (cut : Cutter) (tally : Tally) (bytes : �
   pub within : bytes ≤ limits.input
   pub input : limits.input ≤ 2 ^ 60
 
--- the joiner stands for something that waits, the tables and flows for acts that are admitted, and none of these is later
--- than what the joiner released last
-pub record IsInTime (limits : Limits) (join : Joiner) (tables : Tables) (kept : List Flow) : Type 0 where
+-- the joiner stands for something that waits, the tables and kept flows for acts that are admitted, and none of these is
+-- later than what the joiner released last
+pub record IsInTime (limits : Limits) (join : Joiner) (tables : Tables) (kept : KeptFlows) : Type 0 where
   pub s : Joining
   pub join_is : JoinStandsFor limits join s
   pub taken : List Taken
   pub tables_are : TablesStandFor text_of tables taken
   pub admitted : Admitted (acts_of taken)
   pub bounds : HasLimits limits tables
-  pub flows_are : kept ≡ flows taken
+  pub kept_are : KeptStandsFor kept (flows taken)
   pub rise : TimesNeverFall taken
   pub later : latest taken ≤ join.clock.effective
+
+-- the times of the acts never fall, and none is later than what was released last
+pub record AreInTime (taken : List Taken) (s : Joining) : Type 0 where
+  pub rise : TimesNeverFall taken
+  pub later : latest taken ≤ s.clock.effective
 
 -- this waits, and these events were released, counted and followed
 pub record JoinedStandsFor (limits : Limits) (joined : Joined) (s : Joining) (released : List Event) : Type 0 where
@@ -62,7 +67,8 @@ pub record JoinedStandsFor (limits : Limits) (joined : Joined) (s : Joining) (re
   pub excess : joined.excess ≡ s.excess
   pub counts : joined.counts ≡ counts_in released
   pub tables : TablesStandFor text_of joined.tables (taken_in limits released)
-  pub flows_are : joined.flows ≡ flows_in limits released
+  pub kept_are : KeptStandsFor joined.kept (flows_in limits released)
+  pub in_time : AreInTime (taken_in limits released) s
   pub fits : full_of limits released ≡ None
 
 -- the engine has read the history, joined its records and followed its events, and no limit is passed

@@ -1,26 +1,30 @@
 //! The engine.
-ghost use Rattle.std.specs.Prelude.{◌≡◌, ◌≤◌, ◌<◌, ◌+◌, ◌^◌, ◌++◌, ◌⊎◌, ◌∷◌, [], ℕ, List, Err, false, length, take, is_some, OnOk, OnErr, IfOk, IfErr};
+ghost use Rattle.std.specs.Prelude.{◌≡◌, ◌≤◌, ◌<◌, ◌+◌, ◌^◌, ◌++◌, ◌⊎◌, ◌∷◌, [], ℕ, List, Some, Err, false, length, take, is_some, OnOk, OnErr, IfOk, IfErr};
 ghost use Rattle.std.specs.List.{position_or_len};
 ghost use Rattle.memchr.specs.Find.{is_byte};
 ghost use Rattle.flow_base.specs.declared.limits.Full.{Full};
 ghost use Rattle.flow_base.specs.declared.limits.Limits.{Limits};
 ghost use Rattle.audit_lex.specs.History.{History, Settle, with_bytes};
 ghost use Rattle.record_join.specs.Events.{next_event};
+ghost use Rattle.kept_flows.specs.Answering.{NeverFail};
 ghost use Rattle.ingest.specs.Ending.{EndsLast};
 ghost use Rattle.ingest.specs.Events.{events_of};
 ghost use Rattle.ingest.specs.Owing.{MayOwe, Halts, HaltsSettling, OwesFor};
 ghost use Rattle.ingest.specs.Replies.{IsQuestion, IsReply};
 ghost use Rattle.ingest.specs.StandsFor.{StandsFor, HasNoTail};
 ghost use Rattle.ingest.specs.Stops.{Fits, Stops, StopsFor};
+ghost use Rattle.ingest.specs.declared.ask_fault.AskFault.TheVariants as fault;
 ghost use Rattle.ingest.specs.declared.stop.StopWhy.TheVariants as why;
 
+use crate::ask_fault::AskFault;
 use crate::event_flows::EventFlows;
 use crate::line_reader::LineReader;
-use crate::replies::{answer_back, answer_stat};
+use crate::replies::{answer_question, answer_stat};
 use crate::stop::{Stop, StopWhy};
 use flow_base::{Full, Limit, Limits, NoMemory};
 use memchr::memchr;
-use report_json::{Ask, Question, Reply};
+use reach_rows::{Keep, Reducer};
+use report_json::{Ask, Reply};
 use std::alloc::Global;
 use std::marker::Model;
 
@@ -29,13 +33,13 @@ use std::marker::Model;
 /// Where it stops, for want of memory or at a limit, it stands for the bytes that were done. An event that was refused is
 /// owed, with all that is ripe behind it, and the next call tries it again before anything else.
 #[derive(Drop)]
-pub struct Ingest {
+pub struct Ingest<R: Reducer, K: Keep> {
     alloc: Global,
     reader: LineReader,
-    joined: EventFlows,
+    joined: EventFlows<R, K>,
 }
 
-impl Model for Ingest {
+impl<R: Reducer, K: Keep> Model for Ingest<R, K> {
     ghost use Rattle.ingest.specs.Parts.{Engine};
 
     ghost Value = { Engine };
@@ -43,15 +47,20 @@ impl Model for Ingest {
     ghost view = { λ a. record { reader = a.reader; joined = a.joined } };
 }
 
-impl Ingest {
-    /// An engine that has taken nothing.
-    pub fn new(alloc: Global, limits: &Limits) -> Ingest
+impl<R: Reducer, K: Keep> Ingest<R, K> {
+    /// An engine that has taken nothing, by a new reducer and no rows.
+    pub fn new(alloc: Global, limits: &Limits, reducer: R, keep: K) -> Ingest<R, K>
+        requires stands { R.stands_for reducer [] }
+        requires holds { R.holds reducer [] }
+        requires told { K.rows keep ≡ Some [] }
+        requires count { K.count keep ≡ 0 }
+        requires known { K.known keep ≡ 0 }
         ensures { StandsFor limits.now result [] }
     {
         Ingest {
             alloc,
             reader: LineReader::new(alloc, limits),
-            joined: EventFlows::new(alloc, limits),
+            joined: EventFlows::new(alloc, limits, reducer, keep),
         }
     }
 
@@ -107,17 +116,19 @@ impl Ingest {
         self.joined.ripe()
     }
 
-    /// Answers a question about what was taken, where nothing is owed.
-    pub fn ask(&mut self, ask: &Ask) -> Result<Reply, NoMemory>
+    /// Answers a question about what was taken, where nothing is owed. Asking changes nothing.
+    pub fn ask(&mut self, ask: &Ask) -> Result<Reply, AskFault>
         requires asks { IsQuestion ask.now }
-        ensures reply { IfOk result (λ reply. (limits : Limits) (h : History) → StandsFor limits self.old h → IsReply limits h ask.now reply) }
+        ensures reply { IfOk result (λ reply. (limits : Limits) (h : History) → StandsFor limits self.old h → IsReply R.mode limits h ask.now reply) }
+        ensures never { NeverFail K.faults K.spent → IfErr result (λ why. why ≡ fault.NoMemory) }
         ensures same { self.new ≡ self.old }
     {
         match ask {
-            Ask::Question(Question::Back { of, until }) => {
-                answer_back(self.alloc, &self.joined, *of, *until)
-            }
-            Ask::Stat => answer_stat(self.alloc, &self.reader, &self.joined),
+            Ask::Question(question) => answer_question(&mut self.joined, question),
+            Ask::Stat => match answer_stat(self.alloc, &self.reader, &self.joined) {
+                Ok(reply) => Ok(reply),
+                Err(NoMemory) => Err(AskFault::NoMemory),
+            },
             Ask::Take(_) | Ask::Settle | Ask::End => unreachable!(),
         }
     }

@@ -1,23 +1,28 @@
 //! Records joined into events, and the flows of their acts.
 //!
-//! An event that is ripe is prepared by the tables, with all the memory for it, and then followed, which can't fail: so an
-//! event that is refused has changed nothing, and stays in the joiner.
-ghost use Rattle.std.specs.Prelude.{vec_len, vec_capacity, ◌≡◌, ◌≤◌, ◌<◌, ◌+◌, ◌^◌, ◌++◌, ◌∷◌, [], ℕ, suc, List, None, Some, Err, true, length, is_some, OnOk, IfOk, OnErr, IfErr};
+//! An event that is ripe is prepared by the tables, with all the memory for it. Then its flows are taken in, and last the
+//! tables follow it, which can't fail: so an event that is refused has changed nothing, and stays in the joiner.
+ghost use Rattle.std.specs.Prelude.{◌≡◌, ◌≤◌, ◌<◌, ◌+◌, ◌^◌, ◌++◌, ◌∷◌, [], ℕ, suc, List, None, Some, Err, true, length, is_some, OnOk, IfOk, OnErr, IfErr};
 ghost use Rattle.flow_base.specs.declared.limits.Full.{Full};
 ghost use Rattle.flow_base.specs.declared.limits.Limits.{Limits};
 ghost use Rattle.record_join.specs.Events.{Joining, enter, settled, count_keys, ripe_key, next_event, next_left};
 ghost use Rattle.record_join.specs.History.{start, released_after, left_after};
 ghost use Rattle.record_join.specs.StandsFor.{WhereStands, event_seen};
 ghost use Rattle.record_join.specs.declared.event.Event.{Event as TheEvent};
-ghost use Rattle.reach_model.specs.Numbers.{IsLawfulWith};
+ghost use Rattle.reach_rows.specs.Asked.{subject};
 ghost use Rattle.acts.specs.declared.act.Taken.{Taken};
 ghost use Rattle.acts.specs.Flows.{flows as flows_by};
 ghost use Rattle.acts.specs.LookBack.{full_at};
 ghost use Rattle.name_text.specs.Addresses.{text_of};
-ghost use Rattle.flow_events.specs.Standing.{StandsFor as TablesStandFor, HasLimits, IsReady, IsPlanOf};
+ghost use Rattle.flow_events.specs.Standing.{HasLimits, IsReady, IsPlanOf};
+ghost use Rattle.query_walk.specs.declared.fault.WalkFault.TheVariants as walk;
+ghost use Rattle.kept_flows.specs.Answering.{AnswersFor, NeverFail};
+ghost use Rattle.kept_flows.specs.KeptFlows.{StandsFor as KeptStandsFor};
 ghost use Rattle.ingest.specs.EventActs.{is_unmapped};
-ghost use Rattle.ingest.specs.Following.{HasTaken, turned_by};
+ghost use Rattle.ingest.specs.Events.{flows_in};
+ghost use Rattle.ingest.specs.Following.{HasTaken, MayComeAt, turned_by};
 ghost use Rattle.ingest.specs.Owing.{IsOwed, NextPasses};
+ghost use Rattle.ingest.specs.Replies.{KeepsSoMany};
 ghost use Rattle.ingest.specs.StandsFor.{JoinedStandsFor};
 ghost use Rattle.ingest.specs.Stops.{full_of};
 ghost use Rattle.ingest.specs.declared.stop.StopWhy.TheVariants as why;
@@ -28,8 +33,12 @@ use crate::stop::StopWhy;
 use acts::flows_of_acts_are_lawful;
 use audit_record::Record;
 use call_acts::{acts_are_few, acts_of_events_are_admitted, event_acts_are_admitted};
-use flow_base::{Flow, Limits, NoMemory};
+use flow_base::{EntityId, Limits, List, NoMemory};
 use flow_events::{Plan, PrepareFault, Tables};
+use kept_flows::KeptFlows;
+use query_walk::WalkFault;
+use reach_model::Mode;
+use reach_rows::{Keep, Question, Reducer};
 use record_join::{EventView, Join, Taken as Entered, releases_end};
 use std::alloc::Global;
 use std::marker::Model;
@@ -42,31 +51,36 @@ const MOST_RECORDS: usize = 1 << 60;
 
 /// Joins records into events, and follows their flows.
 #[derive(Drop)]
-pub struct EventFlows {
+pub struct EventFlows<R: Reducer, K: Keep> {
     alloc: Global,
     limits: Limits,
     join: Join,
     tables: Tables,
-    flows: Vec<Flow>,
+    kept: KeptFlows<R, K>,
     counts: EventCounts,
     /// The records that were dropped.
     excess: u64,
 }
 
-impl Model for EventFlows {
+impl<R: Reducer, K: Keep> Model for EventFlows<R, K> {
     ghost use Rattle.ingest.specs.Parts.{Joined};
     ghost use Rattle.ingest.specs.StandsFor.{IsInTime};
 
     ghost Value = { Joined };
 
-    ghost view = { λ a. record { limits = a.limits; join = a.join; tables = a.tables; flows = a.flows.items; counts = a.counts; excess = a.excess } };
+    ghost view = { λ a. record { limits = a.limits; join = a.join; tables = a.tables; kept = a.kept; counts = a.counts; excess = a.excess } };
 
-    ghost invariant = { λ a. IsInTime a.limits a.join a.tables a.flows.items };
+    ghost invariant = { λ a. IsInTime a.limits a.join a.tables a.kept };
 }
 
-impl EventFlows {
-    /// Nothing has come.
-    pub fn new(alloc: Global, limits: &Limits) -> EventFlows
+impl<R: Reducer, K: Keep> EventFlows<R, K> {
+    /// Nothing has come, by a new reducer and no rows.
+    pub fn new(alloc: Global, limits: &Limits, reducer: R, keep: K) -> EventFlows<R, K>
+        requires stands { R.stands_for reducer [] }
+        requires holds { R.holds reducer [] }
+        requires told { K.rows keep ≡ Some [] }
+        requires count { K.count keep ≡ 0 }
+        requires known { K.known keep ≡ 0 }
         ensures { JoinedStandsFor limits.now result start [] }
     {
         EventFlows {
@@ -74,7 +88,7 @@ impl EventFlows {
             limits: *limits,
             join: Join::new(alloc, limits),
             tables: Tables::new(alloc, limits),
-            flows: Vec::new(alloc),
+            kept: KeptFlows::new(reducer, keep),
             counts: EventCounts::new(),
             excess: 0,
         }
@@ -156,13 +170,39 @@ impl EventFlows {
         self.tables.entities().count()
     }
 
-    /// The flows in their order.
-    pub fn flows(&self) -> &[Flow]
-        ensures flows { result.now ≡ self.now.flows }
-        ensures lawful { IsLawfulWith (length self.now.tables.entities.keys) result.now }
+    /// How many flows there were.
+    pub fn flows(&self) -> u64
+        ensures { (limits : Limits) (s : Joining) (released : List TheEvent) → JoinedStandsFor limits self.now s released → result ≡ length (flows_in limits released) }
+    {
+        let _ = &self.join;
+        self.tables.flows()
+    }
+
+    /// The mode.
+    pub fn mode(&self) -> Mode
+        ensures { result ≡ R.mode }
+    {
+        let _ = &self.tables;
+        self.kept.mode()
+    }
+
+    /// How many rows are kept of the flows.
+    pub fn kept(&self) -> u64
+        ensures { (limits : Limits) (s : Joining) (released : List TheEvent) → JoinedStandsFor limits self.now s released → KeepsSoMany R.mode (flows_in limits released) result }
+    {
+        let _ = self.kept.mode();
+        self.kept.count()
+    }
+
+    /// The answer to a question about a known object, and none where the mode doesn't answer it. Asking changes nothing.
+    pub fn ask(&mut self, question: &Question) -> Result<Option<List<EntityId>>, WalkFault>
+        requires known { subject question.now < length self.old.tables.entities.keys }
+        ensures exact { IfOk result (λ found. (limits : Limits) (s : Joining) (released : List TheEvent) → JoinedStandsFor limits self.old s released → AnswersFor R.mode (flows_in limits released) question.now found) }
+        ensures never { NeverFail K.faults K.spent → IfErr result (λ why. why ≡ walk.NoMemory) }
+        ensures same { self.new ≡ self.old }
     {
         flows_of_acts_are_lawful();
-        self.flows.as_slice()
+        self.kept.ask(self.alloc, question)
     }
 
     // Follows the event that is released next. Where it is refused nothing has changed.
@@ -179,38 +219,67 @@ impl EventFlows {
         let Some(event) = self.join.peek() else {
             unreachable!()
         };
-        let plan = match plan_event(
+        let plan = match take_event(
             self.alloc,
             &self.limits,
             &mut self.tables,
-            &mut self.flows,
+            &mut self.kept,
             &event,
         ) {
             Ok(plan) => plan,
             Err(cause) => return Err(cause),
         };
         self.counts.count(event.late, plan.unmapped());
-        follow_plan(&mut self.tables, &mut self.flows, plan);
+        let _ = self.tables.apply(plan);
         let _ = self.join.next();
         Ok(())
     }
 }
 
-// Works out what an event does, with all the memory for it. The tables and flows say the same as before.
+// Works out what an event does, with all the memory for it, and takes its flows in. Where it is refused nothing has changed,
+// and the tables say the same as before in any case.
+fn take_event<R: Reducer, K: Keep>(
+    alloc: Global,
+    limits: &Limits,
+    tables: &mut Tables,
+    kept: &mut KeptFlows<R, K>,
+    event: &EventView<'_>,
+) -> Result<Plan, StopWhy>
+    requires taken { (taken : List Taken) × MayComeAt event.now.ms tables.old kept.old taken }
+    requires limits { HasLimits limits.now tables.old }
+    ensures same { (taken : List Taken) → HasTaken tables.old taken → HasTaken tables.new taken }
+    ensures limits { HasLimits limits.now tables.new }
+    ensures kept { IfOk result (λ plan. (taken : List Taken) → MayComeAt event.now.ms tables.old kept.old taken → KeptStandsFor kept.new (flows_by (turned_by limits.now (event_seen event.now) ++ taken))) }
+    ensures refused { OnErr result (kept.new ≡ kept.old) }
+    ensures ready { IfOk result (λ plan. IsReady tables.new plan) }
+    ensures unmapped { IfOk result (λ plan. plan.unmapped ≡ is_unmapped (event_seen event.now)) }
+    ensures plan { IfOk result (λ plan. (taken : List Taken) → HasTaken tables.old taken → IsPlanOf text_of plan taken (turned_by limits.now (event_seen event.now))) }
+    ensures fits { IfOk result (λ plan. (taken : List Taken) → HasTaken tables.old taken → full_at limits.now.entities limits.now.flows (turned_by limits.now (event_seen event.now) ++ taken) ≡ None) }
+    ensures full { (full : Full) → result ≡ Err (why.Full full) → (taken : List Taken) → HasTaken tables.old taken → full_at limits.now.entities limits.now.flows (turned_by limits.now (event_seen event.now) ++ taken) ≡ Some full }
+{
+    flows_of_acts_are_lawful();
+    let plan = match plan_event(alloc, limits, tables, event) {
+        Ok(plan) => plan,
+        Err(refused) => return Err(refused),
+    };
+    match kept.take(plan.flows()) {
+        Ok(()) => Ok(plan),
+        Err(NoMemory) => Err(StopWhy::NoMemory),
+    }
+}
+
+// Works out what an event does, with all the memory for it. The tables say the same as before.
 fn plan_event(
     alloc: Global,
     limits: &Limits,
     tables: &mut Tables,
-    flows: &mut Vec<Flow>,
     event: &EventView<'_>,
 ) -> Result<Plan, StopWhy>
     requires taken { (taken : List Taken) × HasTaken tables.old taken }
     requires limits { HasLimits limits.now tables.old }
     ensures same { (taken : List Taken) → HasTaken tables.old taken → HasTaken tables.new taken }
     ensures limits { HasLimits limits.now tables.new }
-    ensures flows { flows.new.items ≡ flows.old.items }
     ensures ready { IfOk result (λ plan. IsReady tables.new plan) }
-    ensures room { IfOk result (λ plan. vec_len flows.new + length plan.flows ≤ vec_capacity flows.new) }
     ensures unmapped { IfOk result (λ plan. plan.unmapped ≡ is_unmapped (event_seen event.now)) }
     ensures plan { IfOk result (λ plan. (taken : List Taken) → HasTaken tables.old taken → IsPlanOf text_of plan taken (turned_by limits.now (event_seen event.now))) }
     ensures fits { IfOk result (λ plan. (taken : List Taken) → HasTaken tables.old taken → full_at limits.now.entities limits.now.flows (turned_by limits.now (event_seen event.now) ++ taken) ≡ None) }
@@ -220,36 +289,9 @@ fn plan_event(
     if tables.acts() >= MOST_ACTS || event.records.len() >= MOST_RECORDS {
         return Err(StopWhy::NoMemory);
     }
-    let plan = match tables.prepare(alloc, event, limits) {
-        Ok(plan) => plan,
-        Err(fault) => return Err(why_of(fault)),
-    };
-    if flows.reserve(plan.flows().len()).is_err() {
-        return Err(StopWhy::NoMemory);
-    }
-    Ok(plan)
-}
-
-// Does what was planned, for which there is room.
-fn follow_plan(tables: &mut Tables, flows: &mut Vec<Flow>, plan: Plan)
-    requires ready { IsReady tables.old plan }
-    requires room { vec_len flows.old + length plan.flows ≤ vec_capacity flows.old }
-    requires plan { (before now : List Taken) × (TablesStandFor text_of tables.old before × IsPlanOf text_of plan before now) }
-    ensures next { (before now : List Taken) → TablesStandFor text_of tables.old before → IsPlanOf text_of plan before now → TablesStandFor text_of tables.new (now ++ before) }
-    ensures flows { (before now : List Taken) → IsPlanOf text_of plan before now → flows.old.items ≡ flows_by before → flows.new.items ≡ flows_by (now ++ before) }
-    ensures limits { (limits : Limits) → HasLimits limits tables.old → HasLimits limits tables.new }
-{
-    let made = tables.apply(plan);
-    put_flows(flows, made.as_slice());
-}
-
-// Puts flows last, for which there is room.
-fn put_flows(flows: &mut Vec<Flow>, made: &[Flow])
-    requires room { vec_len flows.old + length made.now ≤ vec_capacity flows.old }
-    ensures { flows.new.items ≡ flows.old.items ++ made.now }
-{
-    for flow in made {
-        flows.push_reserved(*flow);
+    match tables.prepare(alloc, event, limits) {
+        Ok(plan) => Ok(plan),
+        Err(fault) => Err(why_of(fault)),
     }
 }
 

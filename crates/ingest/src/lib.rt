@@ -1,11 +1,13 @@
 //! The engine over a log: lines in, events joined, flows followed, questions answered at any time.
 //!
 //! It takes a log piece by piece, in whatever pieces it comes. A piece's lines are cut, classed and counted; the record
-//! of a used line goes to the joiner; and while the joiner has a ripe event, the event is prepared, counted and followed. So
-//! each moment of the engine stands for the bytes and settles so far, and specs/ says what each part then holds by looking
-//! back over all of them. An event that is refused has changed nothing: it is owed, and tried again by the next call.
+//! of a used line goes to the joiner; and while the joiner has a ripe event, the event is prepared, its flows are taken in
+//! as the rows that a mode keeps, and it is counted and followed. So each moment of the engine stands for the bytes and
+//! settles so far, and specs/ says what each part then holds by looking back over all of them. An event that is refused
+//! has changed nothing: it is owed, and tried again by the next call.
 #![tactic(auto)]
 
+mod ask_fault;
 mod engine;
 mod event_counts;
 mod event_flows;
@@ -16,6 +18,7 @@ mod stop;
 #[cfg(test)]
 mod tests;
 
+pub use ask_fault::AskFault;
 pub use engine::Ingest;
 pub use laws::{
     fronts_fit, lines_spell_records, stops_stay, what_fits_never_stops, what_owes_nothing_stands,

@@ -15,7 +15,7 @@ ghost use Rattle.ingest.specs.LineRecords.{record_of};
 ghost use Rattle.ingest.specs.StandsFor.{ReaderStandsFor, HasNoTail};
 
 use audit_lex::{Lexed, LineCut, LineFault, Tally, lex};
-use audit_record::{Record, one_record_a_line, read_record};
+use audit_record::{Record, read_record};
 use flow_base::{Bytes, Limits, NoMemory};
 use std::alloc::Global;
 use std::marker::Model;
@@ -114,8 +114,15 @@ impl LineReader {
         ensures reads { IfOk result (λ r. (limits : Limits) (h : History) → ReaderStandsFor limits self.now h → r ≡ record_of limits.line (tail_of h ++ part.now)) }
         ensures nothing { HasNoTail self.now → part.now ≡ [] → IfOk result (λ r. r ≡ None) }
     {
-        let class = class_of_line(&self.cut, part, self.limits.line);
-        record_by(self.alloc, &class)
+        if self.cut.long() {
+            return Ok(None);
+        }
+        // A lexed line is large, so its record is read where it was lexed: no call hands it on.
+        let Lexed::Used(used) = lex(text_of_line(&self.cut, part), self.limits.line) else {
+            return Ok(None);
+        };
+        let item = read_record(self.alloc, &used)?;
+        Ok(Some(item))
     }
 
     /// Ends a used line with these bytes and a line feed.
@@ -216,23 +223,16 @@ fn class_of_line<'a>(cut: &'a LineCut, part: &'a [u8], limit: usize) -> Lexed<'a
     if cut.long() {
         return Lexed::Malformed(LineFault::TooLong);
     }
-    if cut.tail().is_empty() {
-        return lex(part, limit);
-    }
-    lex(cut.tail(), limit)
+    lex(text_of_line(cut, part), limit)
 }
 
-// The record of a used line.
-fn record_by(alloc: Global, class: &Lexed<'_>) -> Result<Option<Record>, NoMemory>
-    ensures reads { (limit : ℕ) (text : List ℕ) → class_seen class.now ≡ class_of limit text → LendsLine class.now text → IfOk result (λ r. r ≡ record_of limit text) }
-    ensures nothing { class_seen class.now ≡ Blank → IfOk result (λ r. r ≡ None) }
+// The text of the line that ends with these bytes, where it isn't too long.
+fn text_of_line<'a>(cut: &'a LineCut, part: &'a [u8]) -> &'a [u8]
+    requires whole { ((cut.now.tail ≡ []) × (cut.now.long ≡ false)) ⊎ (part.now ≡ []) }
+    ensures { result.now ≡ cut.now.tail ++ part.now }
 {
-    one_record_a_line();
-    match class {
-        Lexed::Used(used) => {
-            let item = read_record(alloc, used)?;
-            Ok(Some(item))
-        }
-        Lexed::Other | Lexed::Blank | Lexed::Malformed(_) => Ok(None),
+    if cut.tail().is_empty() {
+        return part;
     }
+    cut.tail()
 }

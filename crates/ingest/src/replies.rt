@@ -1,57 +1,83 @@
 //! Replies to what is asked.
-ghost use Rattle.std.specs.Prelude.{◌≡◌, ◌<◌, ℕ, List, length, IfOk};
+ghost use Rattle.std.specs.Prelude.{◌≡◌, List, length, IfOk, IfErr};
 ghost use Rattle.flow_base.specs.declared.limits.Limits.{Limits};
+ghost use Rattle.flow_base.specs.declared.types.Flow.{Flow};
 ghost use Rattle.audit_lex.specs.History.{History};
-ghost use Rattle.record_join.specs.Events.{Joining, count_keys};
-ghost use Rattle.report_json.specs.declared.reply.Reply.TheVariants as reply;
-ghost use Rattle.ingest.specs.Replies.{AnswersBack, counts_of};
+ghost use Rattle.record_join.specs.Events.{Joining};
+ghost use Rattle.record_join.specs.declared.event.Event.{Event};
+ghost use Rattle.reach_rows.specs.Asked.{subject};
+ghost use Rattle.kept_flows.specs.Answering.{AreAnswers, NeverFail};
+ghost use Rattle.ingest.specs.Replies.{AnswersQuestion, SaysAnswers, SaysCounts};
 ghost use Rattle.ingest.specs.StandsFor.{ReaderStandsFor, JoinedStandsFor};
-ghost use Rattle.ingest.specs.Events.{state_of, events_of};
+ghost use Rattle.ingest.specs.Events.{state_of, events_of, flows_in, objects_in};
+ghost use Rattle.ingest.specs.declared.ask_fault.AskFault.TheVariants as fault;
 
+use crate::ask_fault::{AskFault, fault_of};
 use crate::event_flows::EventFlows;
 use crate::line_reader::LineReader;
 use flow_base::{Bad, EntityId, List, NoMemory};
-use reach_model::scan_back;
+use reach_model::Mode;
+use reach_rows::{Keep, Question, Reducer};
 use report_json::{Counts, Reply};
 use std::alloc::Global;
 
-/// From which objects the contents of this one can have come.
-pub fn answer_back(
-    alloc: Global,
-    joined: &EventFlows,
-    of: EntityId,
-    until: Option<u64>,
-) -> Result<Reply, NoMemory>
-    ensures { IfOk result (AnswersBack (length joined.now.tables.entities.keys) joined.now.flows of until) }
+/// The reply to a question.
+pub fn answer_question<R: Reducer, K: Keep>(
+    joined: &mut EventFlows<R, K>,
+    question: &Question,
+) -> Result<Reply, AskFault>
+    ensures reply { IfOk result (λ said. (limits : Limits) (s : Joining) (released : List Event) → JoinedStandsFor limits joined.old s released → AnswersQuestion R.mode (length (objects_in limits released)) (flows_in limits released) question.now said) }
+    ensures never { NeverFail K.faults K.spent → IfErr result (λ why. why ≡ fault.NoMemory) }
+    ensures same { joined.new ≡ joined.old }
 {
-    let known = joined.known();
-    if of.0 >= known {
+    if subject_of(question).0 >= joined.known() {
         return Ok(Reply::Unknown);
     }
-    let ids = scan_back(alloc, joined.flows(), known, of, until)?;
-    Ok(Reply::Back { of, ids })
+    match joined.ask(question) {
+        Ok(None) => Ok(Reply::NotKept),
+        Ok(Some(ids)) => Ok(say(joined.mode(), question, ids)),
+        Err(fault) => Err(fault_of(fault)),
+    }
+}
+
+// The object that a question is about.
+fn subject_of(question: &Question) -> EntityId
+    ensures { result.0 ≡ subject question.now }
+{
+    match *question {
+        Question::Back { of, until: _ } | Question::Fore { of, since: _ } => of,
+    }
+}
+
+// The reply that has these answers. Backward in source mode they are sources.
+fn say(mode: Mode, question: &Question, ids: List<EntityId>) -> Reply
+    ensures { (flows : List Flow) → AreAnswers mode flows question.now ids → SaysAnswers mode flows question.now result }
+{
+    match (*question, mode) {
+        (Question::Back { of, until: _ }, Mode::Source) => Reply::Sources { of, ids },
+        (Question::Back { of, until: _ }, _) => Reply::Back { of, ids },
+        (Question::Fore { of, since: _ }, _) => Reply::Fore { of, ids },
+    }
 }
 
 /// The counts.
-pub fn answer_stat(
+pub fn answer_stat<R: Reducer, K: Keep>(
     alloc: Global,
     reader: &LineReader,
-    joined: &EventFlows,
+    joined: &EventFlows<R, K>,
 ) -> Result<Reply, NoMemory>
-    ensures { IfOk result (λ said. (limits : Limits) (h : History) → ReaderStandsFor limits reader.now h → JoinedStandsFor limits joined.now (state_of limits h) (events_of limits h) → said ≡ reply.Stat (counts_of limits h)) }
+    ensures { IfOk result (λ said. (limits : Limits) (h : History) → ReaderStandsFor limits reader.now h → JoinedStandsFor limits joined.now (state_of limits h) (events_of limits h) → SaysCounts R.mode limits h said) }
 {
     let tally = reader.tally();
     let counts = joined.counts();
-    let flows = joined.flows().len() as u64;
     let malformed_lines = copy_bad(alloc, tally.bad.as_slice())?;
     Ok(Reply::Stat(Counts {
         blank: tally.blank,
         bytes: reader.bytes(),
         events: counts.events,
         excess: joined.excess(),
-        flows,
-        // Every flow is kept as a row of its own.
-        kept: flows,
+        flows: joined.flows(),
+        kept: joined.kept(),
         known: u64::from(joined.known()),
         late: counts.late,
         lines: reader.lines(),

@@ -5,7 +5,9 @@ ghost use Rattle.ingest.specs.Replies.{IsQuestion};
 
 use crate::{Ingest, Stop, StopWhy};
 use flow_base::{EntityId, Full, Limit, Limits, NoMemory};
-use report_json::{Ask, Question, reply_text};
+use reach_rows::{Plain, Question, Reducer, VecRows};
+use reduce_continuous::Continuous;
+use report_json::{Ask, reply_text};
 use std::alloc::Global;
 use std::test::Fail;
 
@@ -29,13 +31,25 @@ const SEEN: &[u8] =
 const CHANGES: &[u8] =
     b"type=SYSCALL msg=audit(1.000:1): arch=c000003e syscall=90 success=yes exit=0 a0=0 a1=0 a2=0 a3=0 items=0 ppid=1 pid=100 comm=\"p\" exe=\"/p\"\ntype=PATH msg=audit(1.000:1): item=0 name=\"/f7\" inode=7 dev=08:01 nametype=NORMAL\ntype=EOE msg=audit(1.000:1): \ntype=SYSCALL msg=audit(2.000:2): arch=c000003e syscall=90 success=yes exit=0 a0=0 a1=0 a2=0 a3=0 items=0 ppid=1 pid=200 comm=\"p\" exe=\"/p\"\ntype=PATH msg=audit(2.000:2): item=0 name=\"/f7\" inode=7 dev=08:01 nametype=NORMAL\ntype=EOE msg=audit(2.000:2): \ntype=SYSCALL msg=audit(3.000:3): arch=c000003e syscall=90 success=yes exit=0 a0=0 a1=0 a2=0 a3=0 items=0 ppid=1 pid=100 comm=\"p\" exe=\"/p\"\ntype=PATH msg=audit(3.000:3): item=0 name=\"/f7\" inode=7 dev=08:01 nametype=NORMAL\ntype=EOE msg=audit(3.000:3): \n";
 
+/// An engine that keeps each flow.
+type Engine = Ingest<Plain, VecRows>;
+
 /// Whether an answer has this text.
-fn answers(alloc: Global, engine: &mut Ingest, ask: Ask, wanted: &[u8]) -> Result<bool, NoMemory>
+fn answers<R: Reducer>(
+    alloc: Global,
+    engine: &mut Ingest<R, VecRows>,
+    ask: Ask,
+    wanted: &[u8],
+) -> Result<bool, NoMemory>
     requires { IsQuestion ask }
 {
-    let reply = engine.ask(&ask)?;
-    let text = reply_text(alloc, &reply)?;
-    Ok(text.as_slice() == wanted)
+    match engine.ask(&ask) {
+        Ok(reply) => {
+            let text = reply_text(alloc, &reply)?;
+            Ok(text.as_slice() == wanted)
+        }
+        Err(_) => Ok(false),
+    }
 }
 
 fn back(of: u32) -> Ask
@@ -47,8 +61,17 @@ fn back(of: u32) -> Ask
     })
 }
 
+fn fore(of: u32, since: u64) -> Ask
+    ensures { IsQuestion result }
+{
+    Ask::Question(Question::Fore {
+        of: EntityId(of),
+        since: Some(since),
+    })
+}
+
 /// Takes a log in pieces of this size.
-fn take_in_pieces(engine: &mut Ingest, log: &[u8], size: usize) -> bool {
+fn take_in_pieces<R: Reducer>(engine: &mut Ingest<R, VecRows>, log: &[u8], size: usize) -> bool {
     let mut rest = log;
     for _ in 0..log.len() {
         let (piece, later) = rest.split_at(rest.len().min(size));
@@ -81,11 +104,11 @@ enum Course {
 
 /// Whether a new engine within these limits goes that course as it should.
 fn goes(alloc: Global, limits: &Limits, course: Course) -> Result<bool, NoMemory> {
-    let mut engine = Ingest::new(alloc, limits);
+    let mut engine = Ingest::new(alloc, limits, Plain::new(), VecRows::new(alloc));
     goes_on(alloc, &mut engine, course)
 }
 
-fn goes_on(alloc: Global, engine: &mut Ingest, course: Course) -> Result<bool, NoMemory> {
+fn goes_on(alloc: Global, engine: &mut Engine, course: Course) -> Result<bool, NoMemory> {
     match course {
         Course::Nothing => knows_nothing(alloc, engine),
         Course::Pieces(size) => joins_pieces(alloc, engine, size),
@@ -97,7 +120,7 @@ fn goes_on(alloc: Global, engine: &mut Ingest, course: Course) -> Result<bool, N
     }
 }
 
-fn knows_nothing(alloc: Global, engine: &mut Ingest) -> Result<bool, NoMemory> {
+fn knows_nothing(alloc: Global, engine: &mut Engine) -> Result<bool, NoMemory> {
     let stat = answers(
         alloc,
         engine,
@@ -113,7 +136,7 @@ fn knows_nothing(alloc: Global, engine: &mut Ingest) -> Result<bool, NoMemory> {
     Ok(stat && unknown && !engine.owed())
 }
 
-fn joins_pieces(alloc: Global, engine: &mut Ingest, size: usize) -> Result<bool, NoMemory> {
+fn joins_pieces(alloc: Global, engine: &mut Engine, size: usize) -> Result<bool, NoMemory> {
     let taken = take_in_pieces(engine, TWO_FLOWS, size);
     let answered = answers(
         alloc,
@@ -124,7 +147,7 @@ fn joins_pieces(alloc: Global, engine: &mut Ingest, size: usize) -> Result<bool,
     Ok(taken && answered && engine.events() == 2)
 }
 
-fn counts_lines(alloc: Global, engine: &mut Ingest) -> Result<bool, NoMemory> {
+fn counts_lines(alloc: Global, engine: &mut Engine) -> Result<bool, NoMemory> {
     let taken = take_in_pieces(engine, ENRICHED, 100);
     let stat = answers(
         alloc,
@@ -135,7 +158,7 @@ fn counts_lines(alloc: Global, engine: &mut Ingest) -> Result<bool, NoMemory> {
     Ok(taken && stat)
 }
 
-fn releases_late_groups(alloc: Global, engine: &mut Ingest) -> Result<bool, NoMemory> {
+fn releases_late_groups(alloc: Global, engine: &mut Engine) -> Result<bool, NoMemory> {
     let first = engine.feed(&FORKS[..280]).is_ok();
     let none = answers(
         alloc,
@@ -166,7 +189,7 @@ fn releases_late_groups(alloc: Global, engine: &mut Ingest) -> Result<bool, NoMe
     Ok(first && none && second && one && no_more && settled && all && engine.events() == 3)
 }
 
-fn owes_a_refused_event(engine: &mut Ingest) -> bool {
+fn owes_a_refused_event(engine: &mut Engine) -> bool {
     let why = objects_full(2);
     let first = engine.feed(CHANGES) == Err(Stop { done: 500, why });
     let owed = engine.owed() && engine.events() == 1;
@@ -176,14 +199,14 @@ fn owes_a_refused_event(engine: &mut Ingest) -> bool {
 }
 
 // The first event is released by its end, and the second waits for a settle.
-fn closes_what_waits(engine: &mut Ingest) -> bool {
+fn closes_what_waits(engine: &mut Engine) -> bool {
     let taken = engine.feed(&CHANGES[..470]).is_ok();
     let waits = !engine.owed() && engine.events() == 1;
     let settled = engine.settle() == Err(objects_full(2));
     taken && waits && settled && engine.owed() && engine.events() == 1
 }
 
-fn stops_at_a_byte(engine: &mut Ingest) -> bool {
+fn stops_at_a_byte(engine: &mut Engine) -> bool {
     let full = Full {
         limit: Limit::Input,
         number: 5,
@@ -196,6 +219,49 @@ fn stops_at_a_byte(engine: &mut Ingest) -> bool {
                 done: 2,
                 why: StopWhy::Full(full),
             })
+}
+
+/// Whether continuous mode keeps one row of two changes by one process, and answers by its last flow forward.
+fn keeps_less(alloc: Global) -> Result<bool, NoMemory> {
+    let mut engine = Ingest::new(
+        alloc,
+        &Limits::standard(),
+        Continuous::new(alloc),
+        VecRows::new(alloc),
+    );
+    joins_changes(alloc, &mut engine)
+}
+
+fn joins_changes(
+    alloc: Global,
+    engine: &mut Ingest<Continuous, VecRows>,
+) -> Result<bool, NoMemory> {
+    let taken = take_in_pieces(engine, CHANGES, 100);
+    let stat = answers(
+        alloc,
+        engine,
+        Ask::Stat,
+        b"{\"blank\":0,\"bytes\":750,\"events\":3,\"excess\":0,\"flows\":3,\"kept\":2,\"known\":3,\"late\":0,\"lines\":9,\"malformed\":0,\"malformed_lines\":[],\"other\":0,\"unmapped\":0,\"used\":9,\"waiting\":0}\n".as_slice(),
+    )?;
+    let backward = answers(
+        alloc,
+        engine,
+        back(1),
+        b"{\"back\":1,\"ids\":[0,1,2]}\n".as_slice(),
+    )?;
+    let forward = answers(
+        alloc,
+        engine,
+        fore(0, 2500),
+        b"{\"fore\":0,\"ids\":[0,1]}\n".as_slice(),
+    )?;
+    Ok(taken && stat && backward && forward)
+}
+
+#[test]
+fn continuous_mode_keeps_less_than_all_flows(rt: HostRuntime) -> Result<(), Fail> {
+    assert!(rt; keeps_less(rt.alloc())?);
+    Ok(())
 }
 
 #[test]
@@ -230,11 +296,11 @@ fn a_byte_past_the_limit_stops(rt: HostRuntime) -> Result<(), Fail> {
 
 /// How a run over the log ends within these limits.
 fn stop_of(alloc: Global, limits: &Limits, log: &[u8]) -> Result<(), StopWhy> {
-    let mut engine = Ingest::new(alloc, limits);
+    let mut engine = Ingest::new(alloc, limits, Plain::new(), VecRows::new(alloc));
     ends(&mut engine, log)
 }
 
-fn ends(engine: &mut Ingest, log: &[u8]) -> Result<(), StopWhy> {
+fn ends(engine: &mut Engine, log: &[u8]) -> Result<(), StopWhy> {
     match engine.feed(log) {
         Ok(()) => engine.settle(),
         Err(stop) => Err(stop.why),

@@ -4,7 +4,6 @@ pub mod PathLemmas
 pub mod Numbering
 pub mod Ascending
 pub mod SameIds
-pub mod ScanLemmas
 pub mod Shadow
 pub mod RowFacts
 pub mod Twins

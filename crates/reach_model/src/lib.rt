@@ -8,7 +8,6 @@
 mod laws;
 mod lists;
 mod modes;
-mod scan;
 
 pub use laws::{
     first_flows_are_kept, first_flows_ascend, full_keeps_each_path, inflows_open_versions,
@@ -17,4 +16,3 @@ pub use laws::{
 };
 pub use lists::{ascending_ids_are_one, lawful_flows_grow};
 pub use modes::{Mode, Verdict};
-pub use scan::scan_back;

@@ -10,9 +10,9 @@ use Rattle.std.proofs.lemmas.Slice.Eq.{bytes_eq-Decides}
 use Rattle.flow_base.specs.declared.types.EntityId.{EntityId}
 use Rattle.report_json.specs.declared.ask.Ask.{Ask}
 use Rattle.report_json.specs.declared.ask.Ask.TheVariants as ask
-use Rattle.report_json.specs.declared.questions.Question.TheVariants as question
+use Rattle.reach_rows.specs.declared.questions.Question.TheVariants as question
 use Rattle.report_json.specs.Asks.{Spells, IsId, IsTime, IsBounded, IsAsk}
-use Rattle.report_json.specs.Reading.{cut_at, number_of, id_from, id_of, time_from, time_in, time_of, bounded_from, bounded_in, bounded_of, word_of, back_from, words_of, ask_in, ask_of}
+use Rattle.report_json.specs.Reading.{cut_at, number_of, id_from, id_of, time_from, time_in, time_of, bounded_from, bounded_in, bounded_of, word_of, back_from, fore_from, words_of, ask_in, ask_of}
 use Rattle.report_json.proofs.Cuts.{HasNo, passing_has_no, cut_here, no_cut, chosen_some, cut_is}
 use Rattle.report_json.proofs.DigitLemmas.{digits_are, digits_pass}
 
@@ -61,6 +61,7 @@ pub read_where_written : (line : List ℕ) (asked : Ask) → IsAsk line asked �
 read_where_written line (ask.Take count) is = worded (codes "take") line is.0 refl is.1 ∙ ap (option_map ask.Take) (spelled 15 is.0 count is.2)
 read_where_written line ask.Settle is = ap ask_of is
 read_where_written line (ask.Question (question.Back of until)) is = worded (codes "back") line is.0 refl is.1 ∙ ap (option_map back_from) (bounded_read is.0 of until is.2)
+read_where_written line (ask.Question (question.Fore of since)) is = worded (codes "fore") line is.0 refl is.1 ∙ ap (option_map fore_from) (bounded_read is.0 of since is.2)
 read_where_written line ask.Stat is = ap ask_of is
 read_where_written line ask.End is = ap ask_of is
 
@@ -177,18 +178,34 @@ take_written : (found : Option ℕ) (line rest : List ℕ) (asked : Ask) → Beh
 take_written None line rest asked is found made = cc made
 take_written (Some count) line rest asked is found made = word_asks line (ask.Take count) asked (rest, is, number_written 15 rest count found) made
 
-back_written : (found : Option (EntityId × Option ℕ)) (line rest : List ℕ) (asked : Ask) → Behind line (codes "back") rest → bounded_of rest ≡ found
-    → option_map back_from found ≡ Some asked → IsAsk line asked
-back_written None line rest asked is found made = cc made
-back_written (Some bounded) line rest asked is found made = word_asks line (back_from bounded) asked (rest, is, bounded_written rest bounded found) made
+-- what is asked of an object, with a time or without
+bounded_asks : (from : EntityId × Option ℕ → Ask) (found : Option (EntityId × Option ℕ)) (line rest : List ℕ) (asked : Ask)
+    → ((bounded : EntityId × Option ℕ) → IsBounded rest bounded.0 bounded.1 → IsAsk line (from bounded)) → bounded_of rest ≡ found
+    → option_map from found ≡ Some asked → IsAsk line asked
+bounded_asks from None line rest asked asks found made = cc made
+bounded_asks from (Some bounded) line rest asked asks found made =
+    word_asks line (from bounded) asked (asks bounded (bounded_written rest bounded found)) made
+
+back_written : (line rest : List ℕ) (asked : Ask) → Behind line (codes "back") rest → option_map back_from (bounded_of rest) ≡ Some asked → IsAsk line asked
+back_written line rest asked is made = bounded_asks back_from (bounded_of rest) line rest asked (λ bounded written. (rest, is, written)) refl made
+
+fore_written : (line rest : List ℕ) (asked : Ask) → Behind line (codes "fore") rest → option_map fore_from (bounded_of rest) ≡ Some asked → IsAsk line asked
+fore_written line rest asked is made = bounded_asks fore_from (bounded_of rest) line rest asked (λ bounded written. (rest, is, written)) refl made
+
+-- the line behind this word, where the first word is the same
+behind_same : (line word known rest : List ℕ) → Behind line word rest → bytes_eq word known ≡ true → Behind line known rest
+behind_same line word known rest is same = is ∙ ap (λ w. w ++ 32 ∷ rest) (same_word word known same)
 
 words_written : (line word rest : List ℕ) (asked : Ask) → Behind line word rest → words_of word rest ≡ Some asked → IsAsk line asked
 words_written line word rest asked is made =
     elim (chosen_or (bytes_eq word (codes "take")) _ _ asked made) [
-      | inl take ↦ take_written (number_of 15 rest) line rest asked (is ∙ ap (λ w. w ++ 32 ∷ rest) (same_word _ _ take.0)) refl take.1
-      | inr others ↦
-          let chosen = if_some (bytes_eq word (codes "back")) (option_map back_from (bounded_of rest)) asked others in
-          back_written (bounded_of rest) line rest asked (is ∙ ap (λ w. w ++ 32 ∷ rest) (same_word _ _ chosen.0)) refl chosen.1
+      | inl take ↦ take_written (number_of 15 rest) line rest asked (behind_same line word _ rest is take.0) refl take.1
+      | inr others ↦ elim (chosen_or (bytes_eq word (codes "back")) _ _ asked others) [
+        | inl back ↦ back_written line rest asked (behind_same line word _ rest is back.0) back.1
+        | inr last ↦
+            let fore = if_some (bytes_eq word (codes "fore")) (option_map fore_from (bounded_of rest)) asked last in
+            fore_written line rest asked (behind_same line word _ rest is fore.0) fore.1
+      ]
     ]
 
 ask_written : (found : Option (List ℕ × List ℕ)) (line : List ℕ) (asked : Ask) → cut_at 32 line ≡ found → ask_in line found ≡ Some asked → IsAsk line asked

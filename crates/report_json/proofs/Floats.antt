@@ -20,7 +20,10 @@ pub no_float : (said : Reply) → has_float (data_of said) ≡ false
 no_float (reply.Take count) = refl
 no_float (reply.Settle count) = refl
 no_float (reply.Back of ids) = rw (no_float_in_ids ids) refl
+no_float (reply.Fore of ids) = rw (no_float_in_ids ids) refl
+no_float (reply.Sources of ids) = rw (no_float_in_ids ids) refl
 no_float (reply.Stat counts) = rw (no_float_in_bads counts.malformed_lines) refl
 no_float reply.End = refl
 no_float reply.BadQuestion = refl
 no_float reply.Unknown = refl
+no_float reply.NotKept = refl

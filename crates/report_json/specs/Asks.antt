@@ -4,8 +4,8 @@ use Rattle.std.specs.Str.Parse.{IsNumeral, digits_value}
 use Rattle.flow_base.specs.declared.types.EntityId.{EntityId}
 use Rattle.report_json.specs.declared.ask.Ask.{Ask}
 use Rattle.report_json.specs.declared.ask.Ask.TheVariants as ask
-use Rattle.report_json.specs.declared.questions.Question.{Question}
-use Rattle.report_json.specs.declared.questions.Question.TheVariants as question
+use Rattle.reach_rows.specs.declared.questions.Question.{Question}
+use Rattle.reach_rows.specs.declared.questions.Question.TheVariants as question
 
 -- from one to `most` decimal digits that spell the number, with zeros in front or without
 pub record Spells (most : ℕ) (text : List ℕ) (number : ℕ) : Type 0 where
@@ -36,6 +36,7 @@ IsBounded text of (Some ms) = (id time : List ℕ) × (text ≡ id ++ (codes " "
 -- the line asks this question
 abbrev pub IsQuestion : List ℕ → Question → Type 0
 IsQuestion line (question.Back of until) = (rest : List ℕ) × (line ≡ codes "back " ++ rest) × IsBounded rest of until
+IsQuestion line (question.Fore of since) = (rest : List ℕ) × (line ≡ codes "fore " ++ rest) × IsBounded rest of since
 
 -- the line asks this
 abbrev pub IsAsk : List ℕ → Ask → Type 0

@@ -9,7 +9,7 @@ use Rattle.memchr.specs.Find.{is_byte}
 use Rattle.flow_base.specs.declared.types.EntityId.{EntityId}
 use Rattle.report_json.specs.declared.ask.Ask.{Ask}
 use Rattle.report_json.specs.declared.ask.Ask.TheVariants as ask
-use Rattle.report_json.specs.declared.questions.Question.TheVariants as question
+use Rattle.reach_rows.specs.declared.questions.Question.TheVariants as question
 
 -- what stands before the first such byte and behind it, where there is one
 abbrev pub cut_at : ℕ → List ℕ → Option (List ℕ × List ℕ)
@@ -71,11 +71,16 @@ word_of word =
 abbrev pub back_from : EntityId × Option ℕ → Ask
 back_from asked = ask.Question (question.Back asked.0 asked.1)
 
+-- the question for what an object reaches from a time on
+abbrev pub fore_from : EntityId × Option ℕ → Ask
+fore_from asked = ask.Question (question.Fore asked.0 asked.1)
+
 -- what a line asks with more behind its first word
 abbrev pub words_of : List ℕ → List ℕ → Option Ask
 words_of word rest =
     if bytes_eq word (codes "take") then option_map ask.Take (number_of 15 rest) else
-    if bytes_eq word (codes "back") then option_map back_from (bounded_of rest) else None
+    if bytes_eq word (codes "back") then option_map back_from (bounded_of rest) else
+    if bytes_eq word (codes "fore") then option_map fore_from (bounded_of rest) else None
 
 -- what a line asks by its parts around the first space
 abbrev pub ask_in : List ℕ → Option (List ℕ × List ℕ) → Option Ask

@@ -34,6 +34,14 @@ ids_data ids = array (items_of (map id_data ids))
 abbrev pub back_data : EntityId → List EntityId → Data
 back_data of ids = object (member (codes "back") (id_data of) (member (codes "ids") (ids_data ids) no_members))
 
+-- an object and the objects that it reaches
+abbrev pub fore_data : EntityId → List EntityId → Data
+fore_data of ids = object (member (codes "fore") (id_data of) (member (codes "ids") (ids_data ids) no_members))
+
+-- an object and the sources that reach it
+abbrev pub sources_data : EntityId → List EntityId → Data
+sources_data of ids = object (member (codes "back") (id_data of) (member (codes "sources") (ids_data ids) no_members))
+
 -- a malformed line as its number and its fault
 abbrev pub bad_data : Bad → Data
 bad_data bad = array (item (count_data bad.line) (item (count_data bad.fault) no_items))
@@ -91,10 +99,13 @@ abbrev pub data_of : Reply → Data
 data_of (reply.Take count) = take_data count
 data_of (reply.Settle count) = settle_data count
 data_of (reply.Back of ids) = back_data of ids
+data_of (reply.Fore of ids) = fore_data of ids
+data_of (reply.Sources of ids) = sources_data of ids
 data_of (reply.Stat counts) = stat_data counts
 data_of reply.End = end_data
 data_of reply.BadQuestion = error_data (codes "BadQuestion")
 data_of reply.Unknown = error_data (codes "Unknown")
+data_of reply.NotKept = error_data (codes "NotKept")
 
 -- the compact text of a value, and a line feed
 abbrev pub line_of : Data → List ℕ

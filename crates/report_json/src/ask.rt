@@ -4,6 +4,8 @@
 //!     settle           all that waits is released
 //!     back ID          what the object can have come from
 //!     back ID TIME     the same, by flows with times at most TIME
+//!     fore ID          what can have come from the object
+//!     fore ID TIME     the same, by flows with times at least TIME
 //!     stat             the counts
 //!     end              the questions end here
 //!
@@ -15,8 +17,8 @@ ghost use Rattle.report_json.specs.Reading.{ask_of, word_of, words_of, bounded_o
 
 use crate::numbers::{count, id, time};
 use crate::parts::parts_at;
-use crate::questions::Question;
 use flow_base::EntityId;
+use reach_rows::Question;
 
 /// What a line of the questions asks.
 #[derive(Clone, Copy, Debug, PartialEq, Eq)]
@@ -79,6 +81,10 @@ fn asked_by_words(word: &[u8], rest: &[u8]) -> Option<Ask>
         b"back" => {
             let (of, until) = id_and_time(rest)?;
             Some(Ask::Question(Question::Back { of, until }))
+        }
+        b"fore" => {
+            let (of, since) = id_and_time(rest)?;
+            Some(Ask::Question(Question::Fore { of, since }))
         }
         _ => None,
     }

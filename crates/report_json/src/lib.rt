@@ -5,12 +5,10 @@ mod ask;
 mod counts;
 mod numbers;
 mod parts;
-mod questions;
 mod reply;
 #[cfg(test)]
 mod tests;
 
 pub use ask::{Ask, BadQuestion, a_line_asks_one_thing, read_question, what_is_found_is_asked};
 pub use counts::Counts;
-pub use questions::Question;
 pub use reply::{Reply, replies_are_lines, reply_text};

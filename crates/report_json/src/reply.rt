@@ -3,7 +3,7 @@ ghost use Rattle.std.specs.Prelude.{◌≡◌, IfOk, false, codes};
 ghost use Rattle.serde_json.specs.Data.{string, object, member, no_members};
 ghost use Rattle.serde_json.specs.View.{view};
 ghost use Rattle.serde_json.specs.Written.{has_float};
-ghost use Rattle.report_json.specs.Replies.{id_data, ids_data, back_data, take_data, settle_data, end_data, error_data, data_of, line_of, text_of, IsLine};
+ghost use Rattle.report_json.specs.Replies.{id_data, ids_data, back_data, fore_data, sources_data, take_data, settle_data, end_data, error_data, data_of, line_of, text_of, IsLine};
 
 use crate::counts::{Counts, stat_value};
 use flow_base::{Bytes, EntityId, List, NoMemory};
@@ -19,6 +19,10 @@ pub enum Reply {
     Settle(u64),
     /// The objects from which the contents of this one can have come, ascending.
     Back { of: EntityId, ids: List<EntityId> },
+    /// The objects to which the contents of this one can have come, ascending.
+    Fore { of: EntityId, ids: List<EntityId> },
+    /// The sources from which the contents of this object can have come, ascending.
+    Sources { of: EntityId, ids: List<EntityId> },
     Stat(Counts),
     /// The questions have ended.
     End,
@@ -26,6 +30,8 @@ pub enum Reply {
     BadQuestion,
     /// An object in the question isn't known.
     Unknown,
+    /// What is kept of the flows doesn't tell the answer.
+    NotKept,
 }
 
 /// The line of a reply.
@@ -44,10 +50,13 @@ fn reply_value(alloc: Global, reply: &Reply) -> Result<Value, AllocError>
         Reply::Take(count) => take_value(alloc, *count),
         Reply::Settle(count) => settle_value(alloc, *count),
         Reply::Back { of, ids } => back_value(alloc, *of, ids.as_slice()),
+        Reply::Fore { of, ids } => fore_value(alloc, *of, ids.as_slice()),
+        Reply::Sources { of, ids } => sources_value(alloc, *of, ids.as_slice()),
         Reply::Stat(counts) => stat_value(alloc, counts),
         Reply::End => end_value(alloc),
         Reply::BadQuestion => error_value(alloc, "BadQuestion"),
         Reply::Unknown => error_value(alloc, "Unknown"),
+        Reply::NotKept => error_value(alloc, "NotKept"),
     }
 }
 
@@ -74,6 +83,32 @@ fn back_object(alloc: Global, of: EntityId, ids: Value) -> Result<Value, AllocEr
     ensures { IfOk result (λ value. view value ≡ object (member (codes "back") (id_data of) (member (codes "ids") (view ids) no_members))) }
 {
     json!(in alloc; {"back": of.0, "ids": ids})
+}
+
+fn fore_value(alloc: Global, of: EntityId, ids: &[EntityId]) -> Result<Value, AllocError>
+    ensures { IfOk result (λ value. view value ≡ fore_data of ids.now) }
+{
+    let ids = ids_value(alloc, ids)?;
+    fore_object(alloc, of, ids)
+}
+
+fn fore_object(alloc: Global, of: EntityId, ids: Value) -> Result<Value, AllocError>
+    ensures { IfOk result (λ value. view value ≡ object (member (codes "fore") (id_data of) (member (codes "ids") (view ids) no_members))) }
+{
+    json!(in alloc; {"fore": of.0, "ids": ids})
+}
+
+fn sources_value(alloc: Global, of: EntityId, ids: &[EntityId]) -> Result<Value, AllocError>
+    ensures { IfOk result (λ value. view value ≡ sources_data of ids.now) }
+{
+    let ids = ids_value(alloc, ids)?;
+    sources_object(alloc, of, ids)
+}
+
+fn sources_object(alloc: Global, of: EntityId, ids: Value) -> Result<Value, AllocError>
+    ensures { IfOk result (λ value. view value ≡ object (member (codes "back") (id_data of) (member (codes "sources") (view ids) no_members))) }
+{
+    json!(in alloc; {"back": of.0, "sources": ids})
 }
 
 // The numbers of objects.

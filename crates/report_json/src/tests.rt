@@ -1,6 +1,7 @@
 //! Lines and replies. What is expected was worked out by hand from the formats.
 use crate::*;
 use flow_base::{Bad, EntityId, List, NoMemory};
+use reach_rows::Question;
 use std::alloc::Global;
 use std::test::Fail;
 
@@ -8,6 +9,13 @@ fn back(of: u32, until: Option<u64>) -> Result<Ask, BadQuestion> {
     Ok(Ask::Question(Question::Back {
         of: EntityId(of),
         until,
+    }))
+}
+
+fn fore(of: u32, since: Option<u64>) -> Result<Ask, BadQuestion> {
+    Ok(Ask::Question(Question::Fore {
+        of: EntityId(of),
+        since,
     }))
 }
 
@@ -36,6 +44,19 @@ fn lines_ask_what_they_spell(rt: HostRuntime) {
         (
             b"back 1 999999999999999.999".as_slice(),
             back(1, Some(999_999_999_999_999_999)),
+        ),
+        (b"fore 2".as_slice(), fore(2, None)),
+        (b"fore 0000000002".as_slice(), fore(2, None)),
+        (b"fore 4294967295".as_slice(), fore(4_294_967_295, None)),
+        (b"fore 1 1.000".as_slice(), fore(1, Some(1_000))),
+        (b"fore 1 0.007".as_slice(), fore(1, Some(7))),
+        (
+            b"fore 1 01700000000.250".as_slice(),
+            fore(1, Some(1_700_000_000_250)),
+        ),
+        (
+            b"fore 1 999999999999999.999".as_slice(),
+            fore(1, Some(999_999_999_999_999_999)),
         ),
     ] {
         assert_eq!(rt; read_question(line), want);
@@ -84,6 +105,18 @@ fn other_lines_are_bad_questions(rt: HostRuntime) {
         b"back 1 1000000000000000.000".as_slice(),
         b"back 1.000".as_slice(),
         b"back x".as_slice(),
+        b"fore".as_slice(),
+        b"fore ".as_slice(),
+        b"fore 4294967296".as_slice(),
+        b"fore 00000000002".as_slice(),
+        b"fore  1".as_slice(),
+        b"fore 1 ".as_slice(),
+        b"fore 1 1".as_slice(),
+        b"fore 1 1.0000".as_slice(),
+        b"fore 1 1.000 2".as_slice(),
+        b"fore x".as_slice(),
+        b"fork 1".as_slice(),
+        b"Fore 1".as_slice(),
         b"\xff".as_slice(),
     ] {
         assert_eq!(rt; read_question(line), Err(BadQuestion));
@@ -163,6 +196,34 @@ fn replies_have_these_texts(rt: HostRuntime) -> Result<(), Fail> {
             "{\"back\":4294967295,\"ids\":[]}\n",
         ),
         (
+            Reply::Fore {
+                of: EntityId(2),
+                ids: ids(alloc, 3)?,
+            },
+            "{\"fore\":2,\"ids\":[0,1,2]}\n",
+        ),
+        (
+            Reply::Fore {
+                of: EntityId(4_294_967_295),
+                ids: ids(alloc, 0)?,
+            },
+            "{\"fore\":4294967295,\"ids\":[]}\n",
+        ),
+        (
+            Reply::Sources {
+                of: EntityId(3),
+                ids: ids(alloc, 2)?,
+            },
+            "{\"back\":3,\"sources\":[0,1]}\n",
+        ),
+        (
+            Reply::Sources {
+                of: EntityId(4_294_967_295),
+                ids: ids(alloc, 0)?,
+            },
+            "{\"back\":4294967295,\"sources\":[]}\n",
+        ),
+        (
             Reply::Stat(no_counts(List::new(alloc))),
             "{\"blank\":0,\"bytes\":0,\"events\":0,\"excess\":0,\"flows\":0,\"kept\":0,\"known\":0,\"late\":0,\"lines\":0,\"malformed\":0,\"malformed_lines\":[],\"other\":0,\"unmapped\":0,\"used\":0,\"waiting\":0}\n",
         ),
@@ -173,6 +234,7 @@ fn replies_have_these_texts(rt: HostRuntime) -> Result<(), Fail> {
         (Reply::End, "{\"end\":true}\n"),
         (Reply::BadQuestion, "{\"error\":\"BadQuestion\"}\n"),
         (Reply::Unknown, "{\"error\":\"Unknown\"}\n"),
+        (Reply::NotKept, "{\"error\":\"NotKept\"}\n"),
     ] {
         let text = reply_text(alloc, &reply)?;
         assert_eq!(rt; text.as_slice(), want.as_bytes());

@@ -8,12 +8,8 @@
 //! its row and from a question to its ids is one about all flows.
 #![tactic(auto)]
 
-mod one_flow;
-mod one_question;
 mod table;
 
-pub use one_flow::take;
-pub use one_question::ask;
 pub use table::Table;
 
 #[cfg(test)]

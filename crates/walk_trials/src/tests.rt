@@ -1,11 +1,10 @@
 ghost use Rattle.std.specs.Prelude.{◌≡◌, IfOk};
 
-use crate::one_question::ask;
 use crate::table::Table;
 use flow_base::{EntityId, Flow, How, List, NoMemory, Stamp};
 use query_walk::{WalkFault, backward, forward};
 use reach_model::Verdict;
-use reach_rows::{Mark, Plain, Question, Reducer, Row};
+use reach_rows::{Mark, Plain, Reducer, Row};
 use reduce_continuous::Continuous;
 use std::alloc::Global;
 use std::test::Fail;
@@ -134,36 +133,6 @@ fn a_fault_of_a_row_is_handed_on_by_its_cause(rt: HostRuntime) -> Result<(), Fai
         forward(alloc, &mut bad, EntityId(0), None).err(),
         Some(WalkFault::BadStore(1))
     );
-    Ok(())
-}
-
-#[test]
-fn a_question_that_the_mode_allows_is_answered(rt: HostRuntime) -> Result<(), Fail> {
-    let alloc = rt.alloc();
-    // 0 writes to 1, then 1 to 2.
-    let written = [(0, 1, 10, 0, 10, 0), (1, 2, 30, 1, 30, 1)].as_slice();
-    let of = EntityId(1);
-    let cases: [(Question, &[u32]); 4] = [
-        (Question::Back { of, until: None }, [0, 1].as_slice()),
-        (Question::Back { of, until: Some(9) }, [1].as_slice()),
-        (Question::Fore { of, since: None }, [1, 2].as_slice()),
-        (
-            Question::Fore {
-                of,
-                since: Some(31),
-            },
-            [1].as_slice(),
-        ),
-    ];
-    for (question, expected) in cases {
-        let mut rows = table(alloc, written, 3)?;
-        let (Question::Back { of, until: _ } | Question::Fore { of, since: _ }) = question;
-        assert!(rt; of.0 < 3);
-        let Ok(Some(found)) = ask(alloc, &Plain::new(), &mut rows, &question) else {
-            return Err(Fail::new("a question got no answer"));
-        };
-        assert!(rt; are(&found, expected));
-    }
     Ok(())
 }
 

@@ -1,9 +1,8 @@
-use Rattle.std.proofs.Common.{◌≡◌, ◌<◌, ◌≤◌, ◌∙◌, ℕ, List, [], take, ap, Some, inl, inr, refl}
+use Rattle.std.proofs.Common.{◌∙◌, [], take, ap, Some, inl, inr, refl}
 use Rattle.std.proofs.lemmas.Result.{err_from_is_err_and}
-use Rattle.flow_base.specs.declared.limits.Limits.{Limits}
 use Rattle.report_json.specs.declared.ask.Ask.TheVariants as ask
 use Rattle.report_json.specs.Replies.{text_of}
-use Rattle.audit_cli.specs.Dialogue.{Moment, after, begin}
+use Rattle.audit_cli.specs.Dialogue.{after, begin}
 use Rattle.audit_cli.specs.Course.{never}
 use Rattle.audit_cli.proofs.MomentLemmas.{due_weaker}
 use Rattle.audit_cli.proofs.TalkLemmas.{appends_none}
@@ -14,10 +13,10 @@ pub returns-in_err-_taken-clause-talked : goal.returns-in_err-_taken-clause-talk
 returns-in_err-_taken-clause-talked g c = λ limits bytes small h.
     let p = err_from_is_err_and c.from_residual.result c.from_residual.ensures.1 in
     rw (p.1, p.2) (record {
-      to = begin bytes;
+      to = begin g.R.Reducer.mode bytes;
       bytes = [];
       wrote = appends_none _;
-      course = (inl refl, due_weaker _ _ _ (λ full. take_stops c.stops_stay.ensures limits c.args.of.0 bytes full) (c.in_err-_taken.ensures.due limits _ h));
+      course = (inl refl, due_weaker _ _ _ (λ full. take_stops c.stops_stay.ensures _ limits c.args.of.0 bytes full) (c.in_err-_taken.ensures.due limits _ h));
       at = tt;
     })
 
@@ -27,10 +26,10 @@ returns-in_err-_settled-clause-talked g c = λ limits bytes small h.
     let at = c.in_ok-_taken.ensures.moves limits _ h in
     let a = c.in_ok-_taken.ensures.answers limits _ h in
     rw (p.1, p.2) (record {
-      to = begin bytes;
+      to = begin g.R.Reducer.mode bytes;
       bytes = [];
       wrote = appends_none _;
-      course = (inl refl, due_weaker _ _ _ (λ full. settle_stops limits c.args.of.0 bytes c.in_ok-_taken._taken full small at.stands.fits a) (c.in_err-_settled.ensures.due limits _ at));
+      course = (inl refl, due_weaker _ _ _ (λ full. settle_stops _ limits c.args.of.0 bytes c.in_ok-_taken._taken full small at.stands.fits a) (c.in_err-_settled.ensures.due limits _ at));
       at = tt;
     })
 
@@ -41,10 +40,10 @@ returns-in_err-reply-clause-talked g c = λ limits bytes small h.
     let a = c.in_ok-_taken.ensures.answers limits _ h in
     let settled = c.in_ok-_settled.ensures.moves limits _ at in
     rw (p.1, p.2) (record {
-      to = begin bytes;
+      to = begin g.R.Reducer.mode bytes;
       bytes = [];
       wrote = appends_none _;
-      course = (inl refl, due_weaker _ _ _ (λ full. settle_stops limits c.args.of.0 bytes c.in_ok-_taken._taken full small at.stands.fits a) (c.in_err-reply.ensures.due limits _ settled));
+      course = (inl refl, due_weaker _ _ _ (λ full. settle_stops _ limits c.args.of.0 bytes c.in_ok-_taken._taken full small at.stands.fits a) (c.in_err-reply.ensures.due limits _ settled));
       at = tt;
     })
 
@@ -58,10 +57,10 @@ returns-in_err-say-clause-talked g c = λ limits bytes small h.
     let r = c.in_ok-reply.ensures.answers limits _ settled in
     let cut = c.in_err-say.ensures.cut in
     rw (p.1, p.2) (record {
-      to = begin bytes;
+      to = begin g.R.Reducer.mode bytes;
       bytes = take cut.0 (text_of c.in_ok-reply.reply);
       wrote = cut.1;
-      course = (inr (last_cut limits c.args.of.0 bytes _ _ c.in_ok-reply.reply cut.0 small at.stands.fits a b r), due_weaker _ never _ (λ full none. absurd none) c.in_err-say.ensures.due);
+      course = (inr (last_cut _ limits c.args.of.0 bytes _ _ c.in_ok-reply.reply cut.0 small at.stands.fits a b r), due_weaker _ never _ (λ full none. absurd none) c.in_err-say.ensures.due);
       at = tt;
     })
 
@@ -73,10 +72,10 @@ returns-clause-talked g c = λ limits bytes small h.
     let b = c.in_ok-_settled.ensures.answers limits _ at in
     let r = c.in_ok-reply.ensures.answers limits _ settled in
     record {
-      to = after (Some ask.Settle) (taken bytes);
+      to = after (Some ask.Settle) (taken g.R.Reducer.mode bytes);
       bytes = text_of c.in_ok-reply.reply;
       wrote = c.in_ok-say.ensures.said;
-      course = last_said limits c.args.of.0 bytes _ _ c.in_ok-reply.reply _ small at.stands.fits a b r refl;
+      course = last_said _ limits c.args.of.0 bytes _ _ c.in_ok-reply.reply _ small at.stands.fits a b r refl;
       at = c.in_ok-reply.ensures.moves limits _ settled;
     }
 
@@ -85,4 +84,4 @@ returns-clause-whole g c = λ limits bytes small h.
     let at = c.in_ok-_taken.ensures.moves limits _ h in
     let settled = c.in_ok-_settled.ensures.moves limits _ at in
     let asked = c.in_ok-reply.ensures.moves limits _ settled in
-    asked.told ∙ ap Some (nothing_left limits bytes small at.stands.fits)
+    asked.told ∙ ap Some (nothing_left g.R.Reducer.mode limits bytes small at.stands.fits)

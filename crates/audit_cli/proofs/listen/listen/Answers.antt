@@ -1,4 +1,4 @@
-use Rattle.std.proofs.Common.{◌≡◌, ◌<◌, ◌≤◌, ◌-◌, ℕ, List, [], ◌++◌, length, take, drop, sym, subst, arith, rules, ap, ◌∙◌, Some, Ok, Err}
+use Rattle.std.proofs.Common.{◌≡◌, ◌<◌, ◌-◌, ℕ, List, [], ◌++◌, length, take, drop, sym, subst, arith, rules, ap, ◌∙◌, Some, Ok, Err}
 use Rattle.std.proofs.lemmas.List.{take-append-drop}
 use Rattle.std.proofs.lemmas.Result.{err_from_is_err_and}
 use Rattle.audit_cli.specs.declared.halt.Turn.TheVariants as turn
@@ -12,10 +12,10 @@ use Rattle.audit_cli.proofs.HearLemmas.{heard_none, heard_nothing, heard_longer,
 use Rattle.audit_cli.proofs.listen.listen.Goals as goal
 
 pub returns-in-Err-clause-heard : goal.returns-in-Err-clause-heard
-returns-in-Err-clause-heard g c = λ m h q at holds told. heard_nothing c.lines_stay.ensures.stay c.args.limits.now _ _ _ _ _ halt.ReadFault m h q tt
+returns-in-Err-clause-heard g c = λ m h q at holds told. heard_nothing c.lines_stay.ensures.stay _ c.args.limits.now _ _ _ _ _ halt.ReadFault m h q tt
 
 pub returns-then-count-eq0-clause-heard : goal.returns-then-count-eq0-clause-heard
-returns-then-count-eq0-clause-heard g c = λ m h q at holds told. heard_none c.args.limits.now _ _ _ _ _ m h at holds
+returns-then-count-eq0-clause-heard g c = λ m h q at holds told. heard_none _ c.args.limits.now _ _ _ _ _ m h at holds
 
 pub returns-in_err-hear-clause-heard : goal.returns-in_err-hear-clause-heard
 returns-in_err-hear-clause-heard g c = λ m h q at holds told.
@@ -25,9 +25,9 @@ returns-in_err-hear-clause-heard g c = λ m h q at holds told.
     let read = told_read _ _ q _ c.in-Ok.count told c.in-Ok.ensures.bytes.0 (sym c.in-Ok.ensures.bound.1) in
     let same = front_told c.read.new.buf q c.min-allowed.result c.in-Ok.count read.1 (omega (arith, c.min-allowed.ensures)) in
     let heard = c.in_err-hear.ensures.heard limits m h at holds in
-    let longer = heard_longer c.lines_stay.ensures.stay limits _ _ _ _ _ _ _ m h _ (drop c.min-allowed.result q) tt (heard_weaker limits never (PassesRoom limits room m h q) _ _ _ _ _ _ m h _ (λ full none. absurd none) heard) in
+    let longer = heard_longer c.lines_stay.ensures.stay _ limits _ _ _ _ _ _ _ m h _ (drop c.min-allowed.result q) tt (heard_weaker _ limits never (PassesRoom limits room m h q) _ _ _ _ _ _ m h _ (λ full none. absurd none) heard) in
     let whole : take c.min-allowed.result c.read.new.buf ++ drop c.min-allowed.result q ≡ q = rw same (take-append-drop c.min-allowed.result q) in
-    rw (p.1, p.2) (subst (λ (xs : List ℕ). Heard limits (PassesRoom limits room m h q) c.hear.new.cut c.hear.new.engine (g.L.Source.left c.hear.new.log) (g.O.Sink.written c.args.out.now) (g.O.Sink.written c.hear.new.out) (Err c.in_err-hear.field-0.0) m h xs) whole longer)
+    rw (p.1, p.2) (subst (λ (xs : List ℕ). Heard g.R.Reducer.mode limits (PassesRoom limits room m h q) c.hear.new.cut c.hear.new.engine (g.L.Source.left c.hear.new.log) (g.O.Sink.written c.args.out.now) (g.O.Sink.written c.hear.new.out) (Err c.in_err-hear.field-0.0) m h xs) whole longer)
 
 pub returns-then-allowed-count-clause-heard : goal.returns-then-allowed-count-clause-heard
 returns-then-allowed-count-clause-heard g c = λ m h q at holds told.
@@ -39,10 +39,10 @@ returns-then-allowed-count-clause-heard g c = λ m h q at holds told.
     let over : room < length q = omega (arith, c.min-allowed.ensures) in
     let all : c.min-allowed.result ≡ room = omega (arith, c.min-allowed.ensures) in
     let heard = rw c.in-More.is at c.in_ok-hear.ensures.heard limits m h at holds in
-    let passes = questions_pass limits _ _ _ _ _ m h (take c.min-allowed.result c.read.new.buf) q room (same ∙ ap (λ (n : ℕ). take n q) all) over heard in
-    let full = heard_full c.lines_stay.ensures.stay limits (PassesRoom limits room m h q) _ _ _ _ _ m h _ (drop c.min-allowed.result q) passes heard in
+    let passes = questions_pass _ limits _ _ _ _ _ m h (take c.min-allowed.result c.read.new.buf) q room (same ∙ ap (λ (n : ℕ). take n q) all) over heard in
+    let full = heard_full c.lines_stay.ensures.stay _ limits (PassesRoom limits room m h q) _ _ _ _ _ m h _ (drop c.min-allowed.result q) passes heard in
     let whole : take c.min-allowed.result c.read.new.buf ++ drop c.min-allowed.result q ≡ q = rw same (take-append-drop c.min-allowed.result q) in
-    subst (λ (xs : List ℕ). Heard limits (PassesRoom limits room m h q) c.hear.new.cut c.hear.new.engine (g.L.Source.left c.hear.new.log) (g.O.Sink.written c.args.out.now) (g.O.Sink.written c.hear.new.out) (Err (halt.Full (input_full limits))) m h xs) whole full
+    subst (λ (xs : List ℕ). Heard g.R.Reducer.mode limits (PassesRoom limits room m h q) c.hear.new.cut c.hear.new.engine (g.L.Source.left c.hear.new.log) (g.O.Sink.written c.args.out.now) (g.O.Sink.written c.hear.new.out) (Err (halt.Full (input_full limits))) m h xs) whole full
 
 pub returns-in-Ended-clause-heard : goal.returns-in-Ended-clause-heard
 returns-in-Ended-clause-heard g c = λ m h q at holds told.
@@ -51,9 +51,9 @@ returns-in-Ended-clause-heard g c = λ m h q at holds told.
     let read = told_read _ _ q _ c.in-Ok.count told c.in-Ok.ensures.bytes.0 (sym c.in-Ok.ensures.bound.1) in
     let same = front_told c.read.new.buf q c.min-allowed.result c.in-Ok.count read.1 (omega (arith, c.min-allowed.ensures)) in
     let heard = rw c.in-Ended.is at c.in_ok-hear.ensures.heard limits m h at holds in
-    let longer = heard_longer c.lines_stay.ensures.stay limits _ _ _ _ _ _ _ m h _ (drop c.min-allowed.result q) tt (heard_weaker limits never (PassesRoom limits room m h q) _ _ _ _ _ _ m h _ (λ full none. absurd none) heard) in
+    let longer = heard_longer c.lines_stay.ensures.stay _ limits _ _ _ _ _ _ _ m h _ (drop c.min-allowed.result q) tt (heard_weaker _ limits never (PassesRoom limits room m h q) _ _ _ _ _ _ m h _ (λ full none. absurd none) heard) in
     let whole : take c.min-allowed.result c.read.new.buf ++ drop c.min-allowed.result q ≡ q = rw same (take-append-drop c.min-allowed.result q) in
-    subst (λ (xs : List ℕ). Heard limits (PassesRoom limits room m h q) c.hear.new.cut c.hear.new.engine (g.L.Source.left c.hear.new.log) (g.O.Sink.written c.args.out.now) (g.O.Sink.written c.hear.new.out) (Ok turn.Ended) m h xs) whole longer
+    subst (λ (xs : List ℕ). Heard g.R.Reducer.mode limits (PassesRoom limits room m h q) c.hear.new.cut c.hear.new.engine (g.L.Source.left c.hear.new.log) (g.O.Sink.written c.args.out.now) (g.O.Sink.written c.hear.new.out) (Ok turn.Ended) m h xs) whole longer
 
 pub returns-else-allowed-count-clause-heard : goal.returns-else-allowed-count-clause-heard
 returns-else-allowed-count-clause-heard g c = λ m h q at holds told.
@@ -63,9 +63,9 @@ returns-else-allowed-count-clause-heard g c = λ m h q at holds told.
     let all : c.min-allowed.result ≡ c.in-Ok.count = omega (arith, c.min-allowed.ensures) in
     let same = front_told c.read.new.buf q c.min-allowed.result c.in-Ok.count read.1 (omega (arith, c.min-allowed.ensures)) in
     let heard = rw c.in-More.is at c.in_ok-hear.ensures.heard limits m h at holds in
-    let weaker = heard_weaker limits never (PassesRoom limits room m h q) _ _ _ _ _ _ m h _ (λ full none. absurd none) heard in
+    let weaker = heard_weaker _ limits never (PassesRoom limits room m h q) _ _ _ _ _ _ m h _ (λ full none. absurd none) heard in
     let whole : take c.min-allowed.result c.read.new.buf ≡ take c.in-Ok.count q = same ∙ ap (λ (n : ℕ). take n q) all in
-    subst (λ (xs : List ℕ). Heard limits (PassesRoom limits room m h q) c.hear.new.cut c.hear.new.engine (g.L.Source.left c.hear.new.log) (g.O.Sink.written c.args.out.now) (g.O.Sink.written c.hear.new.out) (Ok turn.More) m h xs) whole weaker
+    subst (λ (xs : List ℕ). Heard g.R.Reducer.mode limits (PassesRoom limits room m h q) c.hear.new.cut c.hear.new.engine (g.L.Source.left c.hear.new.log) (g.O.Sink.written c.args.out.now) (g.O.Sink.written c.hear.new.out) (Ok turn.More) m h xs) whole weaker
 
 pub returns-in-Ended-clause-closes : goal.returns-in-Ended-clause-closes
 returns-in-Ended-clause-closes g c = λ m h q at holds told.
@@ -73,7 +73,7 @@ returns-in-Ended-clause-closes g c = λ m h q at holds told.
     let read = told_read _ _ q _ c.in-Ok.count told c.in-Ok.ensures.bytes.0 (sym c.in-Ok.ensures.bound.1) in
     let same = front_told c.read.new.buf q c.min-allowed.result c.in-Ok.count read.1 (omega (arith, c.min-allowed.ensures)) in
     let heard = rw c.in-Ended.is at c.in_ok-hear.ensures.heard limits m h at holds in
-    questions_closed c.lines_stay.ensures.stay limits _ _ _ _ _ m h _ q c.min-allowed.result (limits.input - c.args.heard) same (no_more _ _ _ c.min-allowed.ensures) heard
+    questions_closed c.lines_stay.ensures.stay _ limits _ _ _ _ _ m h _ q c.min-allowed.result (limits.input - c.args.heard) same (no_more _ _ _ c.min-allowed.ensures) heard
 
 pub returns-in-Ended-clause-left : goal.returns-in-Ended-clause-left
 returns-in-Ended-clause-left g c = λ q told.

@@ -1,10 +1,10 @@
-use Rattle.std.proofs.Common.{◌≡◌, ◌≤◌, ◌<◌, ◌+◌, ℕ, List, [], length, take, drop, arith, sym, ◌∙◌, ap, subst, Some, rules}
+use Rattle.std.proofs.Common.{◌≡◌, ◌≤◌, ◌+◌, ℕ, length, take, arith, ◌∙◌, ap, subst, Some, rules}
 use Rattle.std.proofs.lemmas.List.{length-take, length-drop}
 use Rattle.std.proofs.lemmas.Result.{err_from_is_err_and}
 use Rattle.report_json.specs.declared.ask.Ask.TheVariants as ask
 use Rattle.ingest.specs.Stops.{Stops}
 use Rattle.audit_cli.specs.Dialogue.{Moment, after}
-use Rattle.audit_cli.specs.Course.{At, GoesUp}
+use Rattle.audit_cli.specs.Course.{At}
 use Rattle.audit_cli.proofs.MomentLemmas.{take_both, take_all, take_none, due_weaker, stop_later, left_none}
 use Rattle.audit_cli.proofs.log.take_log.Goals as goal
 
@@ -28,7 +28,7 @@ returns-then-taken-eq0-clause-took g c = λ limits m h.
     let all = left_none m count none in
     let whole : length m.log ≤ c.args.most = omega (arith, all) in
     let e = ap (λ (n : ℕ). after (Some (ask.Take n)) (after (Some (ask.Take count)) m)) c.if-taken-eq0.true ∙ take_none (after (Some (ask.Take count)) m) ∙ take_all m count c.args.most all whole in
-    subst (λ (x : Moment). At limits c.take_piece.new.engine (g.L.Source.left c.take_piece.new.log) x) e took
+    subst (λ (x : Moment). At g.R.Reducer.mode limits c.take_piece.new.engine (g.L.Source.left c.take_piece.new.log) x) e took
 
 pub returns-then-taken-eq0-clause-count : goal.returns-then-taken-eq0-clause-count
 returns-then-taken-eq0-clause-count g c = λ limits m h.
@@ -48,7 +48,7 @@ loop-count-preserved g c =
       at = λ limits m h.
           let here = c.loop-count.invariant.at limits m h in
           let took = c.in_ok-taken.ensures.took limits _ here in
-          subst (λ (x : Moment). At limits c.take_piece.new.engine (g.L.Source.left c.take_piece.new.log) x) (take_both m count taken) took;
+          subst (λ (x : Moment). At g.R.Reducer.mode limits c.take_piece.new.engine (g.L.Source.left c.take_piece.new.log) x) (take_both m count taken) took;
       part = λ limits m h.
           let here = c.loop-count.invariant.at limits m h in
           omega (arith, (c.in_ok-taken.ensures.some limits _ here).within, c.loop-count.invariant.part limits m h, length-drop count m.log);
@@ -58,7 +58,7 @@ loop-count-preserved g c =
 pub returns-clause-took : goal.returns-clause-took
 returns-clause-took g c = λ limits m h.
     let all : c.loop-count.count ≡ c.args.most = omega arith in
-    subst (λ (n : ℕ). At limits c.loop-count.engine (g.L.Source.left c.loop-count.log) (after (Some (ask.Take n)) m)) all (c.loop-count.invariant.at limits m h)
+    subst (λ (n : ℕ). At g.R.Reducer.mode limits c.loop-count.engine (g.L.Source.left c.loop-count.log) (after (Some (ask.Take n)) m)) all (c.loop-count.invariant.at limits m h)
 
 pub returns-clause-count : goal.returns-clause-count
 returns-clause-count g c = λ limits m h.

@@ -1,4 +1,4 @@
-use Rattle.std.proofs.Common.{◌≡◌, ◌≤◌, ℕ, List, subst, length, arith, sym, Some}
+use Rattle.std.proofs.Common.{◌≤◌, ℕ, List, subst, length, arith, sym, Some}
 use Rattle.report_json.specs.declared.ask.Ask.TheVariants as ask
 use Rattle.audit_lex.specs.History.{with_bytes}
 use Rattle.ingest.specs.StandsFor.{StandsFor}
@@ -11,7 +11,7 @@ pub returns-in-Ok-feed-clause-took : goal.returns-in-Ok-feed-clause-took
 returns-in-Ok-feed-clause-took g c = λ limits m h.
     let fed = c.in-Ok-feed.ensures.ok limits m.history h.stands in
     let read = told_read _ _ m.log _ c.in-Ok.count h.told c.in-Ok.ensures.bytes.0 (sym c.in-Ok.ensures.bound.1) in
-    record { stands = subst (λ (bytes : List ℕ). StandsFor limits c.feed.new.self (with_bytes m.history bytes)) read.1 fed; told = read.0 }
+    record { in_mode = h.in_mode; stands = subst (λ (bytes : List ℕ). StandsFor limits c.feed.new.self (with_bytes m.history bytes)) read.1 fed; told = read.0 }
 
 pub returns-in-Err-feed-clause-due : goal.returns-in-Err-feed-clause-due
 returns-in-Err-feed-clause-due g c = λ limits m h.

@@ -1,4 +1,4 @@
-use Rattle.std.proofs.Common.{◌≡◌, ℕ, List, Some, sym, subst, ⊎_elim, ◌∙◌}
+use Rattle.std.proofs.Common.{sym, subst, ⊎_elim, ◌∙◌}
 use Rattle.audit_cli.specs.declared.words.Job.{Job}
 use Rattle.audit_cli.specs.Headline.{Tells}
 use Rattle.audit_cli.proofs.JobLemmas.{headline, front_written, nothing_written, full_exact, complete, job_same, ended_within, done_only}

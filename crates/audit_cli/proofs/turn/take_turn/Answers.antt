@@ -1,7 +1,7 @@
-use Rattle.std.proofs.Common.{◌≡◌, ℕ, List, ◌∷◌, [], take, sym, inl, Ok, Err}
+use Rattle.std.proofs.Common.{[], take, inl}
 use Rattle.std.proofs.lemmas.Result.{err_from_is_err_and}
 use Rattle.report_json.specs.Replies.{text_of}
-use Rattle.audit_cli.specs.Dialogue.{Moment, after}
+use Rattle.audit_cli.specs.Dialogue.{after}
 use Rattle.audit_cli.specs.Course.{never}
 use Rattle.audit_cli.proofs.MomentLemmas.{due_weaker}
 use Rattle.audit_cli.proofs.TalkLemmas.{appends_none, nothing_said, stops_now, half_said, one_turn}

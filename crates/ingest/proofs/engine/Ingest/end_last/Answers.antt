@@ -6,7 +6,7 @@ use Rattle.ingest.proofs.EngineSteps.{engine_own, few_excess, last_came, last_pa
 use Rattle.ingest.proofs.engine.Ingest.end_last.Goals as goal
 
 pub returns-in_ok-enter-in-Some-clause-ok : goal.returns-in_ok-enter-in-Some-clause-ok
-returns-in_ok-enter-in-Some-clause-ok c = λ limits h stands.
+returns-in_ok-enter-in-Some-clause-ok g c = λ limits h stands.
     let own = engine_own limits _ _ h c.self.view_is stands in
     let is = sym c.in-Some.is ∙ c.in_ok-item.ensures.reads limits h own.reader ∙ ap (record_of limits.line) (append-nil (tail_of h)) in
     last_came limits _ h c.in-Some.item is
@@ -14,7 +14,7 @@ returns-in_ok-enter-in-Some-clause-ok c = λ limits h stands.
     (c.in_ok-enter-in-Some.ensures.ok limits _ _ own.joined (few_excess limits h own.fits))
 
 pub returns-in-None-clause-ok : goal.returns-in-None-clause-ok
-returns-in-None-clause-ok c =
+returns-in-None-clause-ok g c =
     on_ok_so _ (SettlesOther c.self.inside.reader c.settle_other.new.self) _ (λ reads limits h stands.
     let own = engine_own limits _ _ h c.self.view_is stands in
     let is = sym c.in-None.is ∙ c.in_ok-item.ensures.reads limits h own.reader ∙ ap (record_of limits.line) (append-nil (tail_of h)) in

@@ -6,11 +6,11 @@ use Rattle.ingest.proofs.engine.Ingest.end_line.Goals as goal
 use Rattle.ingest.proofs.engine.Ingest.end_line.Goals.{in-Ok-release, in-Err-release}
 
 pub returns-in-Err-clause-halts : goal.returns-in-Err-clause-halts
-returns-in-Err-clause-halts c = λ limits h stands.
+returns-in-Err-clause-halts g c = λ limits h stands.
     halts_memory limits _ h (c.args.part.now ++ 10 ∷ []) (at_rest limits _ h (engine_own limits _ _ h c.in-Err.ensures.err stands))
 
 pub returns-clause-ok : goal.returns-clause-ok
-returns-clause-ok c =
+returns-clause-ok g c =
     elim c.match-release.branch [
       | in-Ok-release w ↦ rw w.result-is (λ limits h stands.
           let owes = owes_own limits _ _ _ c.self.view_is (c.in-Ok.ensures.ok limits h stands) in
@@ -19,7 +19,7 @@ returns-clause-ok c =
     ]
 
 pub returns-clause-stop : goal.returns-clause-stop
-returns-clause-stop c =
+returns-clause-stop g c =
     elim c.match-release.branch [
       | in-Ok-release w ↦ rw w.result-is tt
       | in-Err-release w ↦ rw w.result-is (λ limits h stands.
@@ -29,7 +29,7 @@ returns-clause-stop c =
     ]
 
 pub returns-clause-halts : goal.returns-clause-halts
-returns-clause-halts c =
+returns-clause-halts g c =
     elim c.match-release.branch [
       | in-Ok-release w ↦ rw w.result-is tt
       | in-Err-release w ↦ rw w.result-is (λ limits h stands.

@@ -7,7 +7,7 @@ use Rattle.ingest.proofs.engine.Ingest.feed_bounded.Goals as goal
 use Rattle.ingest.proofs.engine.Ingest.feed_bounded.Goals.{in-Ok, in-Err}
 
 pub returns-clause-stop : goal.returns-clause-stop
-returns-clause-stop c =
+returns-clause-stop g c =
     elim c.match-feed_within.branch [
       | in-Ok w ↦ rw w.result-is (λ limits h stands.
           let own = engine_own limits _ _ h c.self.view_is stands in
@@ -23,7 +23,7 @@ returns-clause-stop c =
     ]
 
 pub returns-clause-halts : goal.returns-clause-halts
-returns-clause-halts c =
+returns-clause-halts g c =
     elim c.match-feed_within.branch [
       | in-Ok w ↦ rw w.result-is (λ limits h stands.
           let own = engine_own limits _ _ h c.self.view_is stands in

@@ -11,16 +11,16 @@ use Rattle.ingest.proofs.StopLemmas.{feed_taken, stop_whole, halts_whole, stop_f
 use Rattle.ingest.proofs.engine.Ingest.feed_line.Goals as goal
 
 pub hold-requires-clause-no_feed : goal.hold-requires-clause-no_feed
-hold-requires-clause-no_feed c = none_before c.args.piece.now c.end_of_line-end.result c.end_of_line-end.ensures.place
+hold-requires-clause-no_feed g c = none_before c.args.piece.now c.end_of_line-end.result c.end_of_line-end.ensures.place
 
 pub returns-in_err-hold-clause-halts : goal.returns-in_err-hold-clause-halts
-returns-in_err-hold-clause-halts c =
+returns-in_err-hold-clause-halts g c =
     let p = err_from_is_err_and c.from_residual.result c.from_residual.ensures.1 in
     rw (p.1, p.2, c.in_err-hold.ensures.none) (λ limits h stands.
     halts_memory limits _ h c.args.piece.now (at_rest limits _ h (engine_own limits _ _ h c.in_err-hold.ensures.err stands)))
 
 pub returns-in-Ok-clause-ok : goal.returns-in-Ok-clause-ok
-returns-in-Ok-clause-ok c = λ limits h stands.
+returns-in-Ok-clause-ok g c = λ limits h stands.
     let end = c.end_of_line-end.result in
     let piece = c.args.piece.now in
     let below : end < length piece = omega (arith, c.end_of_line-end.ensures.within, c.if-end-piece-2.false) in
@@ -28,7 +28,7 @@ returns-in-Ok-clause-ok c = λ limits h stands.
     (c.in-Ok.ensures.ok limits (with_bytes h (take end piece)) (c.in_ok-hold.ensures.ok limits h stands))
 
 pub returns-in-Err-clause-stop : goal.returns-in-Err-clause-stop
-returns-in-Err-clause-stop c = λ limits h stands.
+returns-in-Err-clause-stop g c = λ limits h stands.
     let end = c.end_of_line-end.result in
     let piece = c.args.piece.now in
     let below : end < length piece = omega (arith, c.end_of_line-end.ensures.within, c.if-end-piece-2.false) in
@@ -36,7 +36,7 @@ returns-in-Err-clause-stop c = λ limits h stands.
     (stop_feed limits h piece end c.in-Err.stop c.end_of_line-end.ensures.place below (c.in-Err.ensures.stop limits (with_bytes h (take end piece)) (c.in_ok-hold.ensures.ok limits h stands)))
 
 pub returns-in-Err-clause-halts : goal.returns-in-Err-clause-halts
-returns-in-Err-clause-halts c = λ limits h stands.
+returns-in-Err-clause-halts g c = λ limits h stands.
     let end = c.end_of_line-end.result in
     let piece = c.args.piece.now in
     let below : end < length piece = omega (arith, c.end_of_line-end.ensures.within, c.if-end-piece-2.false) in
@@ -44,10 +44,10 @@ returns-in-Err-clause-halts c = λ limits h stands.
     (halts_feed limits c.end_line.new.self h piece end c.in-Err.stop c.end_of_line-end.ensures.place below (c.in-Err.ensures.halts limits (with_bytes h (take end piece)) (c.in_ok-hold.ensures.ok limits h stands)))
 
 pub end_line-requires-2-clause-no_feed : goal.end_line-requires-2-clause-no_feed
-end_line-requires-2-clause-no_feed c = none_before c.args.piece.now c.end_of_line-end.result c.end_of_line-end.ensures.place
+end_line-requires-2-clause-no_feed g c = none_before c.args.piece.now c.end_of_line-end.result c.end_of_line-end.ensures.place
 
 pub returns-in_err-end_line-clause-stop : goal.returns-in_err-end_line-clause-stop
-returns-in_err-end_line-clause-stop c =
+returns-in_err-end_line-clause-stop g c =
     let end = c.end_of_line-end.result in
     let below : end < length c.args.piece.now = omega (arith, c.end_of_line-end.ensures.within, c.if-end-piece.false) in
     let p = err_from_is_err_and c.from_residual-in_err-end_line.result c.from_residual-in_err-end_line.ensures.1 in
@@ -55,7 +55,7 @@ returns-in_err-end_line-clause-stop c =
     stop_whole limits h c.args.piece.now end _ c.end_of_line-end.ensures.place below (c.in_err-end_line.ensures.stop limits h stands))
 
 pub returns-in_err-end_line-clause-halts : goal.returns-in_err-end_line-clause-halts
-returns-in_err-end_line-clause-halts c =
+returns-in_err-end_line-clause-halts g c =
     let end = c.end_of_line-end.result in
     let below : end < length c.args.piece.now = omega (arith, c.end_of_line-end.ensures.within, c.if-end-piece.false) in
     let p = err_from_is_err_and c.from_residual-in_err-end_line.result c.from_residual-in_err-end_line.ensures.1 in
@@ -63,7 +63,7 @@ returns-in_err-end_line-clause-halts c =
     halts_whole limits _ h c.args.piece.now end _ c.end_of_line-end.ensures.place below (c.in_err-end_line.ensures.halts limits h stands))
 
 pub returns-clause-ok : goal.returns-clause-ok
-returns-clause-ok c = λ limits h stands.
+returns-clause-ok g c = λ limits h stands.
     let end = c.end_of_line-end.result in
     let below : end < length c.args.piece.now = omega (arith, c.end_of_line-end.ensures.within, c.if-end-piece.false) in
     subst (λ (l : List ℕ). StandsFor limits c.end_line-2.new.self (with_bytes h l)) (sym (with_feed c.args.piece.now end c.end_of_line-end.ensures.place below))

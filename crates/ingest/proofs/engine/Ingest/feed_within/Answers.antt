@@ -8,7 +8,7 @@ use Rattle.ingest.proofs.StopLemmas.{more_taken, stop_later, halts_later}
 use Rattle.ingest.proofs.engine.Ingest.feed_within.Goals as goal
 
 pub loop-done-preserved : goal.loop-done-preserved
-loop-done-preserved c =
+loop-done-preserved g c =
     let piece = c.args.piece.now in
     let w = c.loop-done.invariant in
     record {
@@ -21,7 +21,7 @@ loop-done-preserved c =
     }
 
 pub returns-in-Err-clause-stop : goal.returns-in-Err-clause-stop
-returns-in-Err-clause-stop c = λ limits h stands.
+returns-in-Err-clause-stop g c = λ limits h stands.
     let piece = c.args.piece.now in
     let w = c.loop-done.invariant in
     let before = with_bytes h (take c.loop-done.done piece) in
@@ -29,7 +29,7 @@ returns-in-Err-clause-stop c = λ limits h stands.
     subst (λ (s : Stop). StopsFor limits h piece s) (sym c.later.ensures) (stop_later limits h piece c.loop-done.done c.in-Err.stop w.within here)
 
 pub returns-in-Err-clause-halts : goal.returns-in-Err-clause-halts
-returns-in-Err-clause-halts c = λ limits h stands.
+returns-in-Err-clause-halts g c = λ limits h stands.
     let piece = c.args.piece.now in
     let w = c.loop-done.invariant in
     let before = with_bytes h (take c.loop-done.done piece) in

@@ -6,7 +6,7 @@ use Rattle.ingest.proofs.engine.Ingest.feed_within.Given as goal
 
 -- the bytes before `done` were taken
 abbrev pub invariant-loop-done : goal.invariant-loop-done
-invariant-loop-done l = record {
+invariant-loop-done g l = record {
   within : l.done ≤ length l.piece;
   bytes : l.self.reader.bytes ≡ l.initial.self.reader.bytes + l.done;
   limits : l.self.reader.limits ≡ l.initial.self.reader.limits;
@@ -14,4 +14,4 @@ invariant-loop-done l = record {
 }
 
 abbrev pub decreases-loop-done : goal.decreases-loop-done
-decreases-loop-done l = length l.piece - l.done
+decreases-loop-done g l = length l.piece - l.done

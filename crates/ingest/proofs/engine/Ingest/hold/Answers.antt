@@ -3,7 +3,7 @@ use Rattle.ingest.proofs.engine.Ingest.hold.Goals as goal
 use Rattle.ingest.proofs.engine.Ingest.hold.Goals.{in-Ok, in-Err}
 
 pub returns-clause-ok : goal.returns-clause-ok
-returns-clause-ok c =
+returns-clause-ok g c =
     elim c.match-hold.branch [
       | in-Ok w ↦ rw w.result-is (λ limits h stands.
           let own = engine_own limits _ _ h c.self.view_is stands in

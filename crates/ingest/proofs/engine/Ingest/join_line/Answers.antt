@@ -4,7 +4,7 @@ use Rattle.ingest.proofs.EngineSteps.{engine_own, room_so, few_excess, line_came
 use Rattle.ingest.proofs.engine.Ingest.join_line.Goals as goal
 
 pub returns-in_ok-enter-in-Some-clause-ok : goal.returns-in_ok-enter-in-Some-clause-ok
-returns-in_ok-enter-in-Some-clause-ok c = λ limits h stands.
+returns-in_ok-enter-in-Some-clause-ok g c = λ limits h stands.
     let own = engine_own limits _ _ h c.self.view_is stands in
     let is = sym c.in-Some.is ∙ c.in_ok-item.ensures.reads limits h own.reader in
     line_came limits _ h c.args.part.now c.in-Some.item c.requires.no_feed (room_so limits _ h _ stands.reader c.requires.room) is
@@ -12,7 +12,7 @@ returns-in_ok-enter-in-Some-clause-ok c = λ limits h stands.
     (c.in_ok-enter-in-Some.ensures.ok limits _ _ own.joined (few_excess limits h own.fits))
 
 pub returns-in-None-clause-ok : goal.returns-in-None-clause-ok
-returns-in-None-clause-ok c =
+returns-in-None-clause-ok g c =
     on_ok_so _ (EndsOther c.self.inside.reader c.end_other.new.self c.args.part.now) _ (λ reads limits h stands.
     let own = engine_own limits _ _ h c.self.view_is stands in
     let is = sym c.in-None.is ∙ c.in_ok-item.ensures.reads limits h own.reader in

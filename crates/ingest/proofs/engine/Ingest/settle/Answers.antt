@@ -5,21 +5,21 @@ use Rattle.ingest.proofs.EngineSteps.{engine_own, owes_own, ends_own, at_rest, a
 use Rattle.ingest.proofs.engine.Ingest.settle.Goals as goal
 
 pub returns-in-Err-clause-full : goal.returns-in-Err-clause-full
-returns-in-Err-clause-full c = λ full is limits h stands.
+returns-in-Err-clause-full g c = λ full is limits h stands.
     let owes = owes_own limits _ _ h c.self.view_is (at_rest limits _ h stands) in
     absurd (never_full limits _ h c.in-Err.why full (one_why _ _ is) stands.fits (still_owes limits _ _ _ h c.in-Err.why owes (c.in-Err.ensures.owed limits)))
 
 pub returns-in-Err-clause-halts : goal.returns-in-Err-clause-halts
-returns-in-Err-clause-halts c = λ limits h w.
+returns-in-Err-clause-halts g c = λ limits h w.
     inl (still_owes limits _ _ _ h c.in-Err.why (owes_own limits _ _ h c.self.view_is w) (c.in-Err.ensures.owed limits))
 
 pub returns-in-Err-end_last-clause-halts : goal.returns-in-Err-end_last-clause-halts
-returns-in-Err-end_last-clause-halts c = λ limits h w.
+returns-in-Err-end_last-clause-halts g c = λ limits h w.
     let released = all_released limits _ _ _ h (owes_own limits _ _ h c.self.view_is w) (c.in-Ok.ensures.ok limits) in
     inl (record { stands = at_rest limits _ h (engine_own limits _ _ h c.in-Err-end_last.ensures.err released); by = tt })
 
 pub returns-clause-ok : goal.returns-clause-ok
-returns-clause-ok c =
+returns-clause-ok g c =
     on_ok_so c.release-2.result (Releases c.close.new.self c.release-2.new.self) _ (λ releases limits h stands.
     let released = all_released limits _ _ _ h (owes_own limits _ _ h c.self.view_is (at_rest limits _ h stands)) (c.in-Ok.ensures.ok limits) in
     let last = ends_own limits _ _ h c.self-2.view_is (c.in-Ok-end_last.ensures.ok limits h released) in
@@ -27,7 +27,7 @@ returns-clause-ok c =
     c.release-2.ensures.ok
 
 pub returns-clause-again : goal.returns-clause-again
-returns-clause-again c =
+returns-clause-again g c =
     on_ok_so c.release-2.result (Releases c.close.new.self c.release-2.new.self) _ (λ releases limits h w.
     let released = all_released limits _ _ _ h (owes_own limits _ _ h c.self.view_is w) (c.in-Ok.ensures.ok limits) in
     let last = ends_own limits _ _ h c.self-2.view_is (c.in-Ok-end_last.ensures.ok limits h released) in
@@ -35,7 +35,7 @@ returns-clause-again c =
     c.release-2.ensures.ok
 
 pub returns-clause-full : goal.returns-clause-full
-returns-clause-full c = λ full is limits h stands.
+returns-clause-full g c = λ full is limits h stands.
     let released = all_released limits _ _ _ h (owes_own limits _ _ h c.self.view_is (at_rest limits _ h stands)) (c.in-Ok.ensures.ok limits) in
     let last = ends_own limits _ _ h c.self-2.view_is (c.in-Ok-end_last.ensures.ok limits h released) in
     let owes = closed_owes limits _ _ _ h released.fits.input last (c.close.ensures limits) in
@@ -43,7 +43,7 @@ returns-clause-full c = λ full is limits h stands.
     settle_full limits _ h full released.fits (still_owes limits _ _ c.release-2.new.self (h ++ Settle ∷ []) _ owes (owed limits))
 
 pub returns-clause-halts : goal.returns-clause-halts
-returns-clause-halts c =
+returns-clause-halts g c =
     if_err_so c.release-2.result (OwesSome c.close.new.self c.release-2.new.self) _ (λ cause owed limits h w.
     let released = all_released limits _ _ _ h (owes_own limits _ _ h c.self.view_is w) (c.in-Ok.ensures.ok limits) in
     let last = ends_own limits _ _ h c.self-2.view_is (c.in-Ok-end_last.ensures.ok limits h released) in

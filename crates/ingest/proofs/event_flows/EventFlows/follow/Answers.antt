@@ -1,57 +1,66 @@
-use Rattle.std.proofs.Common.{◌≡◌, ◌∙◌, sym, refl, ap, Err, Some, subst}
+use Rattle.std.proofs.Common.{◌≡◌, ◌∙◌, sym, refl, ap, Err, Some}
+use Rattle.name_text.specs.Addresses.{text_of}
 use Rattle.record_join.specs.StandsFor.{event_seen}
 use Rattle.ingest.specs.Events.{taken_in}
-use Rattle.ingest.specs.Following.{HasTaken, turned_by}
 use Rattle.ingest.proofs.Releasing.{joined_at}
-use Rattle.ingest.proofs.Following.{same_err, same_some, ripe_so, never_none, on_some, has_taken, stands_still, full_then, stands_next, same_event, in_time_next, length_seen}
+use Rattle.ingest.proofs.Following.{same_err, same_some, ripe_so, never_none, on_some, has_taken, may_come, may_come_own, stands_still, full_then, stands_next, same_event, in_time_next, length_seen}
 use Rattle.ingest.proofs.event_flows.EventFlows.follow.Goals as goal
 
 pub unreachable-requires : goal.unreachable-requires
-unreachable-requires c =
+unreachable-requires g c =
     let w = c.self.invariant in
     never_none c.self.inside.limits w.s (ripe_so c.self.inside.limits _ _ w.s c.self.view_is c.requires.ripe w.join_is) (c.in_default.ensures _ w.s w.join_is)
 
+pub take_event-requires-clause-taken : goal.take_event-requires-clause-taken
+take_event-requires-clause-taken g c =
+    let w = c.self.invariant in
+    (w.taken, may_come_own _ _ _ _ (event_seen c.in-Some.event) w (c.in-Some.ensures _ w.s w.join_is))
+
 pub returns-in-Err-clause-refused : goal.returns-in-Err-clause-refused
-returns-in-Err-clause-refused c = λ limits s released stands.
+returns-in-Err-clause-refused g c = λ limits s released stands.
     let own = joined_at limits _ _ s released c.self.view_is stands in
     let has = has_taken c.acts_of_events_are_admitted.ensures limits _ s released own in
-    stands_still limits _ _ s released own refl refl refl refl (c.in-Err.ensures.same (taken_in limits released) has) c.in-Err.ensures.flows
+    stands_still limits _ _ s released own refl refl refl refl (c.in-Err.ensures.same (taken_in limits released) has) c.in-Err.ensures.refused
 
 pub returns-in-Err-clause-full : goal.returns-in-Err-clause-full
-returns-in-Err-clause-full c = λ full is limits s released stands.
+returns-in-Err-clause-full g c = λ full is limits s released stands.
     let own = joined_at limits _ _ s released c.self.view_is stands in
     let has = has_taken c.acts_of_events_are_admitted.ensures limits _ s released own in
     let next = c.in-Some.ensures limits s own.join in
     (event_seen c.in-Some.event, sym next, full_then limits c.self.inside.limits released (event_seen c.in-Some.event) (Some full) own.limits_are (c.in-Err.ensures.full full (ap Err (same_err _ _ is)) (taken_in limits released) has))
 
+pub apply-requires-clause-stands : goal.apply-requires-clause-stands
+apply-requires-clause-stands g c =
+    let w = c.self.invariant in
+    let may = may_come_own _ _ _ _ (event_seen c.in-Some.event) w (c.in-Some.ensures _ w.s w.join_is) in
+    record { text = text_of; taken = w.taken; stands = (c.in-Ok.ensures.same w.taken may.has).tables_are }
+
 pub invariant_of-self-2 : goal.invariant_of-self-2
-invariant_of-self-2 c =
+invariant_of-self-2 g c =
     let w = c.self.invariant in
     let event = event_seen c.in-Some.event in
     let next = c.in-Some.ensures _ w.s w.join_is in
-    let has : HasTaken c.self.inside.tables w.taken = record { tables_are = w.tables_are; admitted = w.admitted } in
-    let plan = c.in-Ok.ensures.plan w.taken has in
+    let may = may_come_own _ _ _ _ event w next in
     in_time_next c.event_acts_are_admitted.ensures _ _ _ _ _ _ _ event w next (c.next.ensures.stands _ w.s w.join_is)
-    (c.follow_plan.ensures.next w.taken _ (c.in-Ok.ensures.same w.taken has).tables_are plan)
-    (c.follow_plan.ensures.limits _ c.in-Ok.ensures.limits)
-    (c.follow_plan.ensures.flows w.taken _ plan (c.in-Ok.ensures.flows ∙ w.flows_are))
+    (c.apply.ensures.next text_of w.taken _ (c.in-Ok.ensures.same w.taken may.has).tables_are (c.in-Ok.ensures.plan w.taken may.has))
+    (c.apply.ensures.limits _ c.in-Ok.ensures.limits)
+    (c.in-Ok.ensures.kept w.taken may)
 
 pub returns-clause-next : goal.returns-clause-next
-returns-clause-next c = λ limits s released event stands few next.
+returns-clause-next g c = λ limits s released event stands few next.
     let own = joined_at limits _ _ s released c.self.view_is stands in
-    let has = has_taken c.acts_of_events_are_admitted.ensures limits _ s released own in
-    let plan = c.in-Ok.ensures.plan (taken_in limits released) has in
     let peeked = c.in-Some.ensures limits s own.join in
     let seen = event_seen c.in-Some.event in
+    let may = may_come c.acts_of_events_are_admitted.ensures limits _ s released seen own peeked in
     let event_is : seen ≡ event = same_some _ _ (peeked ∙ next) in
     same_event limits _ _ released seen event event_is
     (stands_next limits _ _ s released seen own peeked refl (c.next.ensures.stands limits s own.join) refl
     (c.count.ensures released seen own.counts few refl (c.unmapped.ensures ∙ c.in-Ok.ensures.unmapped))
-    (c.follow_plan.ensures.next (taken_in limits released) _ (c.in-Ok.ensures.same (taken_in limits released) has).tables_are plan)
-    (c.follow_plan.ensures.flows (taken_in limits released) _ plan (c.in-Ok.ensures.flows ∙ own.flows_are))
-    (c.in-Ok.ensures.fits (taken_in limits released) has))
+    (c.apply.ensures.next text_of (taken_in limits released) _ (c.in-Ok.ensures.same (taken_in limits released) may.has).tables_are (c.in-Ok.ensures.plan (taken_in limits released) may.has))
+    (c.in-Ok.ensures.kept (taken_in limits released) may)
+    (c.in-Ok.ensures.fits (taken_in limits released) may.has))
 
 pub returns-clause-less : goal.returns-clause-less
-returns-clause-less c =
+returns-clause-less g c =
     let w = c.self.invariant in
     length_seen _ _ _ c.self.view_is (on_some c.next.result _ _ (c.next.ensures.event _ w.s w.join_is ∙ sym (c.in-Some.ensures _ w.s w.join_is)) c.next.ensures.some)

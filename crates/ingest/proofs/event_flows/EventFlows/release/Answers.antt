@@ -3,19 +3,19 @@ use Rattle.ingest.proofs.Releasing.{Ends, joined_at, goes_on, owed, all_done}
 use Rattle.ingest.proofs.event_flows.EventFlows.release.Goals as goal
 
 pub loop-self-preserved : goal.loop-self-preserved
-loop-self-preserved c = λ limits s released stands few.
+loop-self-preserved g c = λ limits s released stands few.
     let w = c.loop-self.invariant limits s released stands few in
     let ends : Ends = record { events = c.releases_end.ensures.events; left = c.releases_end.ensures.left } in
     let own = joined_at limits _ _ w.rest _ c.self.view_is w.stands in
     goes_on limits s released _ _ w ends (sym (c.ripe.ensures limits w.rest own.join) ∙ c.loop-self-test.true) c.in-Ok.ensures.next
 
 pub returns-in-Err-clause-owed : goal.returns-in-Err-clause-owed
-returns-in-Err-clause-owed c = λ limits s released stands few.
+returns-in-Err-clause-owed g c = λ limits s released stands few.
     let w = c.loop-self.invariant limits s released stands few in
     owed limits s released _ _ c.in-Err.why w c.in-Err.ensures.refused (λ full is. c.in-Err.ensures.full full (ap Err is))
 
 pub returns-clause-ok : goal.returns-clause-ok
-returns-clause-ok c = λ limits s released stands few.
+returns-clause-ok g c = λ limits s released stands few.
     let w = c.loop-self.invariant limits s released stands few in
     let own = joined_at limits _ _ w.rest _ c.self.view_is w.stands in
     all_done limits s released _ w (sym (c.ripe.ensures limits w.rest own.join) ∙ c.loop-self-test.false)

@@ -8,7 +8,7 @@ use Rattle.ingest.proofs.event_flows.EventFlows.release.Given as goal
 
 -- part of what is ripe was released and followed, and the joiner stands for the rest
 abbrev pub invariant-loop-self : goal.invariant-loop-self
-invariant-loop-self l = (limits : Limits) (s : Joining) (released : List Event) → JoinedStandsFor limits l.fn.self s released → length released + length s.waiting ≤ 2 ^ 61 → IsUnderWay limits s released l.self
+invariant-loop-self g l = (limits : Limits) (s : Joining) (released : List Event) → JoinedStandsFor limits l.fn.self s released → length released + length s.waiting ≤ 2 ^ 61 → IsUnderWay limits s released l.self
 
 abbrev pub decreases-loop-self : goal.decreases-loop-self
-decreases-loop-self l = length l.self.join.groups
+decreases-loop-self g l = length l.self.join.groups

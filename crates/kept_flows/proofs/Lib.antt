@@ -1,0 +1,5 @@
+pub mod Tied
+pub mod Next
+pub mod Room
+pub mod Those
+pub mod Answered

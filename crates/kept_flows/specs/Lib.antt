@@ -1,0 +1,3 @@
+pub mod KeptFlows
+pub mod Answering
+pub mod Taking

@@ -1,0 +1,15 @@
+//! The flows of a log, kept as the rows of a mode.
+//!
+//! A reducer decides of each flow that comes whether it makes a row, goes on with one or is dropped, and the rows hold
+//! what is kept. Together they stand for all flows: each answer to a question that the mode allows is the one over all
+//! flows, which are kept nowhere.
+#![tactic(auto)]
+
+mod kept_flows;
+mod one_flow;
+mod one_question;
+
+pub use kept_flows::KeptFlows;
+
+#[cfg(test)]
+mod tests;

@@ -1,0 +1,112 @@
+//! Flows on their way from the verdict to the rows and the tables.
+ghost use Rattle.std.specs.Prelude.{◌≡◌, ◌<◌, ◌≤◌, ◌+◌, ◌^◌, ◌∷◌, ◌++◌, [], ℕ, List, length, OnErr, OnOk, IsTrue};
+ghost use Rattle.flow_base.specs.declared.types.Flow.{Flow as AFlow};
+ghost use Rattle.reach_model.specs.Rows.{Row as ARow, rows_after};
+ghost use Rattle.reach_rows.specs.Kept.{ComesAfter, GoesOn};
+ghost use Rattle.reach_rows.specs.Verdicts.{FitsRows};
+ghost use Rattle.kept_flows.specs.KeptFlows.{ComeNext};
+ghost use Rattle.kept_flows.specs.Taking.{AreTold, HasRoomFor, IsNextOf, StandFor};
+
+use flow_base::{Flow, NoMemory};
+use reach_model::Verdict;
+use reach_rows::{Keep, Reducer, verdicts_make_the_rows};
+
+/// Fewer rows than this are counted, and fewer flows at once. No memory holds as many.
+const MOST: u64 = 1 << 62;
+
+/// Takes in the flows that come next. Where no memory is found the tables and the rows are as before: room for all of
+/// them is made first, and from there on nothing fails.
+pub fn take_all<M: Reducer, K: Keep>(
+    reducer: &mut M,
+    rows: &mut K,
+    flows: &[Flow],
+) -> Result<(), NoMemory>
+    requires next { (F : List AFlow) × StandFor M.mode (M.stands_for reducer.old) (M.holds reducer.old) (K.rows rows.old) (K.count rows.old) (K.known rows.old) F × ComeNext F flows.now }
+    ensures taken { OnOk result ((F : List AFlow) → StandFor M.mode (M.stands_for reducer.old) (M.holds reducer.old) (K.rows rows.old) (K.count rows.old) (K.known rows.old) F → ComeNext F flows.now
+        → StandFor M.mode (M.stands_for reducer.new) (M.holds reducer.new) (K.rows rows.new) (K.count rows.new) (K.known rows.new) (F ++ flows.now)) }
+    ensures tables { OnErr result ((F : List AFlow) → StandFor M.mode (M.stands_for reducer.old) (M.holds reducer.old) (K.rows rows.old) (K.count rows.old) (K.known rows.old) F
+        → StandFor M.mode (M.stands_for reducer.new) (M.holds reducer.new) (K.rows rows.new) (K.count rows.new) (K.known rows.new) F) }
+    ensures same { OnErr result ((K.rows rows.new ≡ K.rows rows.old) × (K.count rows.new ≡ K.count rows.old) × (K.known rows.new ≡ K.known rows.old)) }
+{
+    // Most events make no flow.
+    if flows.is_empty() {
+        return Ok(());
+    }
+    if !are_few(rows.count(), flows.len() as u64) {
+        return Err(NoMemory);
+    }
+    make_room(reducer, rows, flows)?;
+    put_all(reducer, rows, flows);
+    Ok(())
+}
+
+/// Whether so many more flows can be counted after so many rows.
+fn are_few(rows: u64, flows: u64) -> bool
+    ensures { IsTrue result → rows + flows < 2 ^ 63 }
+{
+    rows < MOST && flows < MOST
+}
+
+/// Makes room for these flows. The tables and the rows stay as they are.
+fn make_room<M: Reducer, K: Keep>(
+    reducer: &mut M,
+    rows: &mut K,
+    flows: &[Flow],
+) -> Result<(), NoMemory>
+    ensures covers { OnOk result (M.covers reducer.new flows.now) }
+    ensures room { OnOk result (K.has_room rows.new (length flows.now)) }
+    ensures stands { (R : List ARow) → M.stands_for reducer.old R → M.stands_for reducer.new R }
+    ensures holds { (R : List ARow) → M.holds reducer.old R → M.holds reducer.new R }
+    ensures same { (K.rows rows.new ≡ K.rows rows.old) × (K.count rows.new ≡ K.count rows.old) × (K.known rows.new ≡ K.known rows.old) }
+{
+    reducer.reserve(flows)?;
+    rows.reserve(flows.len())
+}
+
+/// Puts each of these flows, for which there is room.
+fn put_all<M: Reducer, K: Keep>(reducer: &mut M, rows: &mut K, flows: &[Flow])
+    requires next { (F : List AFlow) × StandFor M.mode (M.stands_for reducer.old) (M.holds reducer.old) (K.rows rows.old) (K.count rows.old) (K.known rows.old) F × ComeNext F flows.now }
+    requires few { K.count rows.old + length flows.now < 2 ^ 63 }
+    requires covers { M.covers reducer.old flows.now }
+    requires room { K.has_room rows.old (length flows.now) }
+    ensures { (F : List AFlow) → StandFor M.mode (M.stands_for reducer.old) (M.holds reducer.old) (K.rows rows.old) (K.count rows.old) (K.known rows.old) F → ComeNext F flows.now
+        → StandFor M.mode (M.stands_for reducer.new) (M.holds reducer.new) (K.rows rows.new) (K.count rows.new) (K.known rows.new) (F ++ flows.now) }
+{
+    for flow in flows {
+        put(reducer, rows, flow);
+    }
+}
+
+/// Puts the flow that comes next, by the verdict on it.
+fn put<M: Reducer, K: Keep>(reducer: &mut M, rows: &mut K, flow: &Flow)
+    requires next { (F : List AFlow) × StandFor M.mode (M.stands_for reducer.old) (M.holds reducer.old) (K.rows rows.old) (K.count rows.old) (K.known rows.old) F × IsNextOf F flow.now }
+    requires few { K.count rows.old < 2 ^ 63 }
+    requires covers { (rest : List AFlow) × M.covers reducer.old (flow.now ∷ rest) }
+    requires room { HasRoomFor (K.has_room rows.old) 1 }
+    ensures taken { (F : List AFlow) → StandFor M.mode (M.stands_for reducer.old) (M.holds reducer.old) (K.rows rows.old) (K.count rows.old) (K.known rows.old) F → IsNextOf F flow.now
+        → StandFor M.mode (M.stands_for reducer.new) (M.holds reducer.new) (K.rows rows.new) (K.count rows.new) (K.known rows.new) (F ++ flow.now ∷ []) }
+    ensures count { K.count rows.new ≤ K.count rows.old + 1 }
+    ensures covers { (rest : List AFlow) → M.covers reducer.old (flow.now ∷ rest) → M.covers reducer.new rest }
+    ensures room { (n : ℕ) → HasRoomFor (K.has_room rows.old) (n + 1) → HasRoomFor (K.has_room rows.new) n }
+{
+    verdicts_make_the_rows();
+    let verdict = reducer.decide(flow);
+    put_row(rows, flow, verdict);
+    reducer.note(flow, verdict);
+}
+
+/// Does to the rows what a verdict says.
+fn put_row<K: Keep>(rows: &mut K, flow: &Flow, verdict: Verdict)
+    requires room { HasRoomFor (K.has_room rows.old) 1 }
+    requires goes_on { GoesOn (K.known rows.old) flow.now }
+    requires rows { (R : List ARow) × AreTold (K.rows rows.old) (K.count rows.old) (K.known rows.old) R × ComesAfter R flow.now × FitsRows R flow.now verdict }
+    ensures rows { (R : List ARow) → AreTold (K.rows rows.old) (K.count rows.old) (K.known rows.old) R → AreTold (K.rows rows.new) (K.count rows.new) (K.known rows.new) (rows_after R flow.now verdict) }
+    ensures count { K.count rows.new ≤ K.count rows.old + 1 }
+    ensures room { (n : ℕ) → HasRoomFor (K.has_room rows.old) (n + 1) → HasRoomFor (K.has_room rows.new) n }
+{
+    match verdict {
+        Verdict::Drop => {}
+        Verdict::Add => rows.add(flow),
+        Verdict::Extend { row } => rows.extend(row, flow),
+    }
+}

@@ -1,0 +1,157 @@
+//! One question, from the mode's leave to the ids.
+ghost use Rattle.std.specs.Prelude.{◌≡◌, ◌↔◌, ◌<◌, ◌∷◌, ◌++◌, [], ℕ, List, Some, IfOk, IfErr, IfSome, IsTrue, OnOk};
+ghost use Rattle.std.specs.List.{Contains};
+ghost use Rattle.flow_base.specs.declared.types.Flow.{Flow as AFlow};
+ghost use Rattle.reach_model.specs.Flows.{IsLawful};
+ghost use Rattle.reach_model.specs.Ids.{IsAscending, numbers};
+ghost use Rattle.reach_model.specs.Rows.{Row as ARow, Keeps, firsts};
+ghost use Rattle.reach_model.specs.Sources.{IsSource};
+ghost use Rattle.reach_rows.specs.Asked.{IsAnswer, IsAnsweredFor, counted, subject};
+ghost use Rattle.query_walk.specs.declared.fault.WalkFault.TheVariants as fault;
+ghost use Rattle.query_walk.specs.Fault.{IsWalk};
+ghost use Rattle.kept_flows.specs.Answering.{AnswersFor, AreFound, AreThose, NeverFail, is_for_sources};
+
+use flow_base::{EntityId, List, NoMemory};
+use query_walk::{WalkFault, backward, forward};
+use reach_model::{Mode, first_flows_are_kept};
+use reach_rows::{
+    Question, Reducer, Rows, first_flows_are_told, what_is_allowed_is_answerable,
+    what_is_allowed_is_answered,
+};
+use std::alloc::Global;
+
+/// The answer to a question, where the mode that kept the rows allows it.
+pub fn answer<M: Reducer, W: Rows>(
+    alloc: Global,
+    reducer: &M,
+    rows: &mut W,
+    question: &Question,
+) -> Result<Option<List<EntityId>>, WalkFault>
+    requires known { subject question.now < W.known rows.old }
+    ensures exact { IfOk result (λ found. (F : List AFlow) (R : List ARow) → W.rows rows.old ≡ Some R → IsLawful F → Keeps M.mode F R → AnswersFor M.mode F question.now found) }
+    ensures never { NeverFail W.faults W.spent → (R : List ARow) → W.rows rows.old ≡ Some R → IfErr result (λ why. why ≡ fault.NoMemory) }
+    ensures same { (W.rows rows.new ≡ W.rows rows.old) × (W.count rows.new ≡ W.count rows.old) × (W.known rows.new ≡ W.known rows.old) }
+{
+    first_flows_are_kept();
+    first_flows_are_told();
+    what_is_allowed_is_answerable();
+    what_is_allowed_is_answered();
+    let first = rows.first(object_of(question));
+    let allowed = reducer.allowed(question, first);
+    if !allowed {
+        return Ok(None);
+    }
+    let ids = found(alloc, reducer.mode(), rows, question)?;
+    Ok(Some(ids))
+}
+
+/// What is found over the rows, among the objects for which the mode answers.
+fn found<W: Rows>(
+    alloc: Global,
+    mode: Mode,
+    rows: &mut W,
+    question: &Question,
+) -> Result<List<EntityId>, WalkFault>
+    requires known { subject question.now < W.known rows.old }
+    ensures exact { IfOk result (λ ids. IfSome (W.rows rows.old) (λ R. AreFound mode R question.now ids)) }
+    ensures cause { IsWalk (W.rows rows.old) (W.faults rows.old) (W.faults rows.new) (W.spent rows.old) (W.spent rows.new) result }
+    ensures same { (W.rows rows.new ≡ W.rows rows.old) × (W.count rows.new ≡ W.count rows.old) × (W.known rows.new ≡ W.known rows.old) }
+{
+    let ids = walk(alloc, rows, question)?;
+    let those = chosen(alloc, mode, rows, question, ids)?;
+    Ok(those)
+}
+
+/// The walk that a question asks for.
+fn walk<W: Rows>(
+    alloc: Global,
+    rows: &mut W,
+    question: &Question,
+) -> Result<List<EntityId>, WalkFault>
+    requires known { subject question.now < W.known rows.old }
+    ensures ascending { IfOk result (λ ids. IsAscending (numbers ids)) }
+    ensures exact { IfOk result (λ ids. IfSome (W.rows rows.old) (λ R. (x : ℕ) → Contains (numbers ids) x ↔ IsAnswer question.now (counted question.now R) x)) }
+    ensures cause { IsWalk (W.rows rows.old) (W.faults rows.old) (W.faults rows.new) (W.spent rows.old) (W.spent rows.new) result }
+    ensures same { (W.rows rows.new ≡ W.rows rows.old) × (W.count rows.new ≡ W.count rows.old) × (W.known rows.new ≡ W.known rows.old) }
+{
+    match *question {
+        Question::Back { of, until } => backward(alloc, rows, of, until),
+        Question::Fore { of, since } => forward(alloc, rows, of, since),
+    }
+}
+
+/// Those of the ids for which the mode answers.
+fn chosen<W: Rows>(
+    alloc: Global,
+    mode: Mode,
+    rows: &W,
+    question: &Question,
+    ids: List<EntityId>,
+) -> Result<List<EntityId>, NoMemory>
+    ensures { IfOk result (λ those. IfSome (W.rows rows.now) (λ R. AreThose (IsAnsweredFor mode (firsts R) question.now) (numbers ids) (numbers those))) }
+{
+    if asks_for_sources(mode, question) {
+        sources(alloc, rows, &ids)
+    } else {
+        Ok(ids)
+    }
+}
+
+/// Whether the mode answers a question for sources alone.
+fn asks_for_sources(mode: Mode, question: &Question) -> bool
+    ensures { result ≡ is_for_sources mode question.now }
+{
+    match (mode, *question) {
+        (Mode::Plain, _) => false,
+        (Mode::Continuous, _) => false,
+        (Mode::Full, _) => false,
+        (Mode::Source, Question::Back { of: _, until: _ }) => true,
+        (Mode::Source, Question::Fore { of: _, since: _ }) => false,
+    }
+}
+
+/// The sources among the ids.
+fn sources<W: Rows>(
+    alloc: Global,
+    rows: &W,
+    ids: &List<EntityId>,
+) -> Result<List<EntityId>, NoMemory>
+    ensures { IfOk result (λ those. IfSome (W.rows rows.now) (λ R. AreThose (IsSource (firsts R)) (numbers ids.now) (numbers those))) }
+{
+    let mut those = List::new(alloc);
+    for id in ids.as_slice() {
+        push_source(&mut those, rows, *id)?;
+    }
+    Ok(those)
+}
+
+/// Puts an id last if it is one of a source.
+fn push_source<W: Rows>(those: &mut List<EntityId>, rows: &W, id: EntityId) -> Result<(), NoMemory>
+    ensures { OnOk result (IfSome (W.rows rows.now) (λ R. (xs : List ℕ) → AreThose (IsSource (firsts R)) xs (numbers those.old) → AreThose (IsSource (firsts R)) (xs ++ id.0 ∷ []) (numbers those.new))) }
+{
+    if is_source(rows, id) {
+        those.push(id)
+    } else {
+        Ok(())
+    }
+}
+
+/// Whether the first flow of an object leaves it.
+fn is_source<W: Rows>(rows: &W, id: EntityId) -> bool
+    ensures { IfSome (W.rows rows.now) (λ R. IsTrue result ↔ IsSource (firsts R) id.0) }
+{
+    if id.0 >= rows.known() {
+        return false;
+    }
+    rows.first(id).out
+}
+
+/// The object that a question is about.
+fn object_of(question: &Question) -> EntityId
+    ensures { result.0 ≡ subject question.now }
+{
+    match *question {
+        Question::Back { of, until: _ } => of,
+        Question::Fore { of, since: _ } => of,
+    }
+}
