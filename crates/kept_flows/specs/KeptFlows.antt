@@ -13,6 +13,10 @@ pub record KeptFlows : Type 0 where
   pub count : ℕ
   pub objects : ℕ
 
+-- a mode with the rows that it keeps, as a value
+abbrev pub kept_by : Mode → Option (List Row) → (count objects : ℕ) → KeptFlows
+kept_by mode told count objects = record { mode = mode; told = told; count = count; objects = objects }
+
 -- the rows are told, and they are those that the mode keeps of the flows F
 pub record StandsFor (kept : KeptFlows) (F : List Flow) : Type 0 where
   pub rows : List Row
@@ -28,13 +32,12 @@ pub record ComeNext (F more : List Flow) : Type 0 where
   pub numbered : IsNumbered (F ++ more)
   pub few_objects : known (F ++ more) < 2 ^ 32
 
--- the tables of the mode are those of the rows R, of which there are so many, with so many objects
-pub record IsTied (stands holds : List Row → Type 0) (count objects : ℕ) (R : List Row) : Type 0 where
-  pub in_tables : stands R
-  pub held : holds R
+-- the rows R are told: there are so many of them, with so many objects
+pub record AreTold (told : Option (List Row)) (count objects : ℕ) (R : List Row) : Type 0 where
+  pub rows : told ≡ Some R
   pub counted : length R ≡ count
   pub objects_known : known (firsts R) ≡ objects
 
--- where the rows are told, the tables of the mode are theirs
+-- where rows are told, the tables of the mode are theirs
 abbrev pub AreTied : (stands holds : List Row → Type 0) → Option (List Row) → (count objects : ℕ) → Type 0
-AreTied stands holds told count objects = IfSome told (IsTied stands holds count objects)
+AreTied stands holds told count objects = IfSome told (λ R. AreTold told count objects R × stands R × holds R)

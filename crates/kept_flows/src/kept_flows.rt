@@ -11,7 +11,7 @@ use crate::one_flow::take_all;
 use crate::one_question::answer;
 use flow_base::{EntityId, Flow, List, NoMemory};
 use query_walk::WalkFault;
-use reach_model::{Mode, first_flows_are_kept, lawful_flows_grow};
+use reach_model::{Mode, lawful_flows_grow};
 use reach_rows::{Keep, Question, Reducer, verdicts_make_the_rows};
 use std::alloc::Global;
 use std::marker::Model;
@@ -80,7 +80,6 @@ impl<R: Reducer, K: Keep> KeptFlows<R, K> {
         ensures taken { OnOk result ((F : List AFlow) → StandsFor self.old F → ComeNext F flows.now → StandsFor self.new (F ++ flows.now)) }
         ensures same { OnErr result (self.new ≡ self.old) }
     {
-        first_flows_are_kept();
         take_all(&mut self.reducer, &mut self.rows, flows)
     }
 

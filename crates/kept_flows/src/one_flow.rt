@@ -4,11 +4,11 @@ ghost use Rattle.flow_base.specs.declared.types.Flow.{Flow as AFlow};
 ghost use Rattle.reach_model.specs.Rows.{Row as ARow, rows_after};
 ghost use Rattle.reach_rows.specs.Kept.{ComesAfter, GoesOn};
 ghost use Rattle.reach_rows.specs.Verdicts.{FitsRows};
-ghost use Rattle.kept_flows.specs.KeptFlows.{ComeNext};
-ghost use Rattle.kept_flows.specs.Taking.{AreTold, HasRoomFor, IsNextOf, StandFor};
+ghost use Rattle.kept_flows.specs.KeptFlows.{AreTied, AreTold, ComeNext, StandsFor, kept_by};
+ghost use Rattle.kept_flows.specs.Taking.{HasRoomFor, IsNextOf};
 
 use flow_base::{Flow, NoMemory};
-use reach_model::Verdict;
+use reach_model::{Verdict, first_flows_are_kept};
 use reach_rows::{Keep, Reducer, verdicts_make_the_rows};
 
 /// Fewer rows than this are counted, and fewer flows at once. No memory holds as many.
@@ -21,11 +21,11 @@ pub fn take_all<M: Reducer, K: Keep>(
     rows: &mut K,
     flows: &[Flow],
 ) -> Result<(), NoMemory>
-    requires next { (F : List AFlow) × StandFor M.mode (M.stands_for reducer.old) (M.holds reducer.old) (K.rows rows.old) (K.count rows.old) (K.known rows.old) F × ComeNext F flows.now }
-    ensures taken { OnOk result ((F : List AFlow) → StandFor M.mode (M.stands_for reducer.old) (M.holds reducer.old) (K.rows rows.old) (K.count rows.old) (K.known rows.old) F → ComeNext F flows.now
-        → StandFor M.mode (M.stands_for reducer.new) (M.holds reducer.new) (K.rows rows.new) (K.count rows.new) (K.known rows.new) (F ++ flows.now)) }
-    ensures tables { OnErr result ((F : List AFlow) → StandFor M.mode (M.stands_for reducer.old) (M.holds reducer.old) (K.rows rows.old) (K.count rows.old) (K.known rows.old) F
-        → StandFor M.mode (M.stands_for reducer.new) (M.holds reducer.new) (K.rows rows.new) (K.count rows.new) (K.known rows.new) F) }
+    requires tied { AreTied (M.stands_for reducer.old) (M.holds reducer.old) (K.rows rows.old) (K.count rows.old) (K.known rows.old) }
+    requires next { (F : List AFlow) × StandsFor (kept_by M.mode (K.rows rows.old) (K.count rows.old) (K.known rows.old)) F × ComeNext F flows.now }
+    ensures tied { AreTied (M.stands_for reducer.new) (M.holds reducer.new) (K.rows rows.new) (K.count rows.new) (K.known rows.new) }
+    ensures taken { OnOk result ((F : List AFlow) → StandsFor (kept_by M.mode (K.rows rows.old) (K.count rows.old) (K.known rows.old)) F → ComeNext F flows.now
+        → StandsFor (kept_by M.mode (K.rows rows.new) (K.count rows.new) (K.known rows.new)) (F ++ flows.now)) }
     ensures same { OnErr result ((K.rows rows.new ≡ K.rows rows.old) × (K.count rows.new ≡ K.count rows.old) × (K.known rows.new ≡ K.known rows.old)) }
 {
     // Most events make no flow.
@@ -65,12 +65,14 @@ fn make_room<M: Reducer, K: Keep>(
 
 /// Puts each of these flows, for which there is room.
 fn put_all<M: Reducer, K: Keep>(reducer: &mut M, rows: &mut K, flows: &[Flow])
-    requires next { (F : List AFlow) × StandFor M.mode (M.stands_for reducer.old) (M.holds reducer.old) (K.rows rows.old) (K.count rows.old) (K.known rows.old) F × ComeNext F flows.now }
+    requires tied { AreTied (M.stands_for reducer.old) (M.holds reducer.old) (K.rows rows.old) (K.count rows.old) (K.known rows.old) }
+    requires next { (F : List AFlow) × StandsFor (kept_by M.mode (K.rows rows.old) (K.count rows.old) (K.known rows.old)) F × ComeNext F flows.now }
     requires few { K.count rows.old + length flows.now < 2 ^ 63 }
     requires covers { M.covers reducer.old flows.now }
     requires room { K.has_room rows.old (length flows.now) }
-    ensures { (F : List AFlow) → StandFor M.mode (M.stands_for reducer.old) (M.holds reducer.old) (K.rows rows.old) (K.count rows.old) (K.known rows.old) F → ComeNext F flows.now
-        → StandFor M.mode (M.stands_for reducer.new) (M.holds reducer.new) (K.rows rows.new) (K.count rows.new) (K.known rows.new) (F ++ flows.now) }
+    ensures tied { AreTied (M.stands_for reducer.new) (M.holds reducer.new) (K.rows rows.new) (K.count rows.new) (K.known rows.new) }
+    ensures taken { (F : List AFlow) → StandsFor (kept_by M.mode (K.rows rows.old) (K.count rows.old) (K.known rows.old)) F → ComeNext F flows.now
+        → StandsFor (kept_by M.mode (K.rows rows.new) (K.count rows.new) (K.known rows.new)) (F ++ flows.now) }
 {
     for flow in flows {
         put(reducer, rows, flow);
@@ -79,16 +81,19 @@ fn put_all<M: Reducer, K: Keep>(reducer: &mut M, rows: &mut K, flows: &[Flow])
 
 /// Puts the flow that comes next, by the verdict on it.
 fn put<M: Reducer, K: Keep>(reducer: &mut M, rows: &mut K, flow: &Flow)
-    requires next { (F : List AFlow) × StandFor M.mode (M.stands_for reducer.old) (M.holds reducer.old) (K.rows rows.old) (K.count rows.old) (K.known rows.old) F × IsNextOf F flow.now }
+    requires tied { AreTied (M.stands_for reducer.old) (M.holds reducer.old) (K.rows rows.old) (K.count rows.old) (K.known rows.old) }
+    requires next { (F : List AFlow) × StandsFor (kept_by M.mode (K.rows rows.old) (K.count rows.old) (K.known rows.old)) F × IsNextOf F flow.now }
     requires few { K.count rows.old < 2 ^ 63 }
     requires covers { (rest : List AFlow) × M.covers reducer.old (flow.now ∷ rest) }
     requires room { HasRoomFor (K.has_room rows.old) 1 }
-    ensures taken { (F : List AFlow) → StandFor M.mode (M.stands_for reducer.old) (M.holds reducer.old) (K.rows rows.old) (K.count rows.old) (K.known rows.old) F → IsNextOf F flow.now
-        → StandFor M.mode (M.stands_for reducer.new) (M.holds reducer.new) (K.rows rows.new) (K.count rows.new) (K.known rows.new) (F ++ flow.now ∷ []) }
+    ensures tied { AreTied (M.stands_for reducer.new) (M.holds reducer.new) (K.rows rows.new) (K.count rows.new) (K.known rows.new) }
+    ensures taken { (F : List AFlow) → StandsFor (kept_by M.mode (K.rows rows.old) (K.count rows.old) (K.known rows.old)) F → IsNextOf F flow.now
+        → StandsFor (kept_by M.mode (K.rows rows.new) (K.count rows.new) (K.known rows.new)) (F ++ flow.now ∷ []) }
     ensures count { K.count rows.new ≤ K.count rows.old + 1 }
     ensures covers { (rest : List AFlow) → M.covers reducer.old (flow.now ∷ rest) → M.covers reducer.new rest }
     ensures room { (n : ℕ) → HasRoomFor (K.has_room rows.old) (n + 1) → HasRoomFor (K.has_room rows.new) n }
 {
+    first_flows_are_kept();
     verdicts_make_the_rows();
     let verdict = reducer.decide(flow);
     put_row(rows, flow, verdict);

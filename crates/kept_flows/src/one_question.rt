@@ -36,7 +36,7 @@ pub fn answer<M: Reducer, W: Rows>(
     first_flows_are_told();
     what_is_allowed_is_answerable();
     what_is_allowed_is_answered();
-    let first = rows.first(object_of(question));
+    let first = rows.first(question.subject());
     let allowed = reducer.allowed(question, first);
     if !allowed {
         return Ok(None);
@@ -144,14 +144,4 @@ fn is_source<W: Rows>(rows: &W, id: EntityId) -> bool
         return false;
     }
     rows.first(id).out
-}
-
-/// The object that a question is about.
-fn object_of(question: &Question) -> EntityId
-    ensures { result.0 ≡ subject question.now }
-{
-    match *question {
-        Question::Back { of, until: _ } => of,
-        Question::Fore { of, since: _ } => of,
-    }
 }

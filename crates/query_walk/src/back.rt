@@ -1,7 +1,6 @@
 //! What reaches an object.
-ghost use Rattle.std.specs.Prelude.{◌≡◌, ◌↔◌, ℕ, ◌<◌, IfOk, IfSome, IsTrue, vec_len, length};
+ghost use Rattle.std.specs.Prelude.{◌≡◌, ◌↔◌, ℕ, ◌<◌, IfOk, IfSome, IsTrue, vec_len};
 ghost use Rattle.std.specs.List.{Contains};
-ghost use Rattle.flow_base.specs.declared.types.Flow.{Flow as AFlow};
 ghost use Rattle.reach_model.specs.Ids.{IsAscending, numbers};
 ghost use Rattle.reach_model.specs.Marks.{IsMarked};
 ghost use Rattle.reach_model.specs.Paths.{Back, IsUntil};

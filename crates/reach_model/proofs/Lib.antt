@@ -27,3 +27,4 @@ pub mod RowNumbers
 pub mod SourceSets
 pub mod Currents
 pub mod TheLaws
+pub mod PairLemmas

@@ -9,3 +9,4 @@ pub mod ByRows
 pub mod Versions
 pub mod SourceSets
 pub mod Laws
+pub mod Pairs

@@ -19,7 +19,7 @@ pub use laws::{
     what_is_allowed_is_answered,
 };
 pub use plain::Plain;
-pub use questions::{First, Question};
+pub use questions::{First, Question, starts_by};
 pub use reducer::Reducer;
 pub use rows::{Keep, Mark, Row, RowFault, Rows};
 pub use vec_rows::VecRows;

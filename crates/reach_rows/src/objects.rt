@@ -1,5 +1,5 @@
 //! What rows in memory keep of each object: its first flow, and the greatest rows that enter and leave it.
-ghost use Rattle.std.specs.Prelude.{◌≡◌, ◌≢◌, ℕ, suc, ◌<◌, ◌≤◌, max, List, ◌∷◌, ◌++◌, [], length, slice_index_or, vec_len, vec_capacity};
+ghost use Rattle.std.specs.Prelude.{◌≡◌, ◌≢◌, suc, ◌<◌, ◌≤◌, max, List, ◌∷◌, ◌++◌, [], length, vec_len, vec_capacity};
 ghost use Rattle.flow_base.specs.declared.types.Flow.{Flow as AFlow};
 ghost use Rattle.reach_model.specs.Flows.{source, target};
 ghost use Rattle.reach_model.specs.Numbers.{known};

@@ -1,5 +1,5 @@
 //! Plain mode: each flow is a row, so there is nothing to remember.
-ghost use Rattle.std.specs.Prelude.{⊤, [], List};
+ghost use Rattle.std.specs.Prelude.{⊤, []};
 ghost use Rattle.reach_model.specs.declared.modes.Mode.TheVariants.{Plain as PlainMode};
 
 use crate::questions::{First, Question};

@@ -4,7 +4,7 @@ ghost use Rattle.std.specs.Option.{option_map, ForSome};
 ghost use Rattle.reach_model.specs.declared.modes.Verdict.TheVariants as Verdict;
 ghost use Rattle.reach_model.specs.Numbers.{known as known_of, beyond};
 ghost use Rattle.reach_model.specs.Rows.{Row as ARow, firsts, row_of, rows_after, SamePair};
-ghost use Rattle.reach_rows.specs.Kept.{AreRows, IsRowAt, IsFirstOf, IsLastOf, Enters, Leaves, ComesAfter, GoesOn};
+ghost use Rattle.reach_rows.specs.Kept.{AreRows, IsRowAt, IsFirstOf, IsLastOf, Enters, Leaves, ComesAfter, GoesOn, row_of_kept};
 ghost use Rattle.reach_rows.specs.Reading.{IsReading};
 
 use crate::questions::First;
@@ -28,6 +28,21 @@ pub struct Row {
     pub last: Mark,
     pub before_to: Option<u64>,
     pub before_from: Option<u64>,
+}
+
+impl Row {
+    /// The first flow of the row.
+    pub fn first_flow(&self) -> Flow
+        ensures { result ≡ (row_of_kept self.now).first }
+    {
+        Flow {
+            from: self.from,
+            to: self.to,
+            how: self.first.how,
+            at: self.first.at,
+            serial: self.first.serial,
+        }
+    }
 }
 
 /// Why a row wasn't read: the store failed, or at this place of it stands no row.

@@ -1,10 +1,8 @@
 -- What the tables say after a flow.
-use Rattle.std.proofs.Common.{◌≡◌, ℕ, ◌<◌, ◌≤◌, List, [], ◌∷◌, ◌++◌, length, get_or, Option, Some, None, false, ◌&&◌, ◌⊎◌, refl, sym, ap, subst, ◌∙◌, arith, inl, inr}
+use Rattle.std.proofs.Common.{◌≡◌, ℕ, ◌<◌, ◌≤◌, List, [], ◌∷◌, ◌++◌, length, get_or, Option, Some, None, refl, sym, ap, subst, ◌∙◌, arith, inl, inr}
 use Rattle.std.specs.List.{Contains}
-use Rattle.std.specs.Prelude.{nat_eq}
 use Rattle.std.proofs.lemmas.List.{get_or_append_left, get_or_push, length-append, length-set, get_or-set_same, get_or-set_other, get_or_default}
 use Rattle.std.proofs.lemmas.List.Elements.{Contains-push_cases, Contains-append_left}
-use Rattle.std.proofs.lemmas.Bool.{cases_Bool, cases_eq, eqb-true}
 use Rattle.flow_base.specs.declared.types.Flow.{Flow}
 use Rattle.reach_model.specs.declared.modes.Verdict.TheVariants.{Extend}
 use Rattle.reach_model.specs.Flows.{source, target, place}
@@ -14,19 +12,6 @@ use Rattle.reach_model.proofs.Redundant.{set_cases}
 use Rattle.reduce_continuous.specs.declared.places.Run.{Run}
 use Rattle.reduce_continuous.specs.Tables.{IsGreatest, IsRun, MayName, Takes, Names}
 use Rattle.reach_rows.specs.Kept.{ComesAfter}
-
--- a pair of numbers is another one, or isn't
-pub pair_cases : (a b u v : ℕ) → ((a ≡ u) × (b ≡ v)) ⊎ ¬ ((a ≡ u) × (b ≡ v))
-pair_cases a b u v = elim (cases_eq a u) [
-  | inl e ↦ elim (cases_eq b v) [ inl e' ↦ inl (e, e') | inr n ↦ inr (λ p. n p.1) ]
-  | inr n ↦ inr (λ p. n p.0)
-]
-
-pub pairs_apart : (a b u v : ℕ) → ¬ ((a ≡ u) × (b ≡ v)) → (nat_eq a u && nat_eq b v) ≡ false
-pairs_apart a b u v n = elim (cases_Bool (nat_eq a u)) [
-  | inl t ↦ rw t (elim (cases_Bool (nat_eq b v)) [ inl t' ↦ absurd (n (eqb-true a u t, eqb-true b v t')) | inr f ↦ f ])
-  | inr f ↦ rw f refl
-]
 
 pub adds : (R : List Row) (f : Flow) → Takes R (R ++ row_of f ∷ []) f (length R)
 adds R f = record {

@@ -1,9 +1,10 @@
 -- What the tables of continuous mode say of the rows.
-use Rattle.std.specs.Prelude.{◌≡◌, ℕ, max, cond, nat_lt, nat_eq, ◌<◌, ◌≤◌, ◌&&◌, Bool, List, length, slice_index_or, Option, Some, None, ◌⊎◌}
+use Rattle.std.specs.Prelude.{◌≡◌, ℕ, max, cond, nat_lt, nat_eq, ◌<◌, ◌≤◌, List, length, slice_index_or, Option, Some, None, ◌⊎◌}
 use Rattle.std.specs.List.{Contains}
 use Rattle.indexmap.specs.IndexMap as index
 use Rattle.flow_base.specs.declared.types.Flow.{Flow}
 use Rattle.reach_model.specs.Flows.{source, target, place}
+use Rattle.reach_model.specs.Pairs.{pair_eq}
 use Rattle.reach_model.specs.Rows.{Row, SamePair}
 use Rattle.reduce_continuous.specs.declared.places.Run.{Run}
 use Rattle.reduce_continuous.specs.declared.tables.Continuous.{Continuous}
@@ -56,10 +57,6 @@ pub record IsRunOf (R : List Row) (u v : ℕ) (run : Run) : Type 0 where
 abbrev pub IsRun : List Row → ℕ → ℕ → Option Run → Type 0
 IsRun R u v None = (s : Row) → Contains R s → ¬ ((source s.last ≡ u) × (target s.last ≡ v))
 IsRun R u v (Some run) = IsRunOf R u v run
-
--- two pairs of numbers are one
-abbrev pub pair_eq : ℕ × ℕ → ℕ × ℕ → Bool
-pair_eq a b = nat_eq a.0 b.0 && nat_eq a.1 b.1
 
 -- the tables are those of the rows R
 pub record HasTables (c : Continuous) (R : List Row) : Type 0 where

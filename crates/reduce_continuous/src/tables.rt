@@ -1,12 +1,12 @@
 //! The tables of continuous mode.
 ghost use Rattle.std.specs.Prelude.{◌≡◌, ◌≢◌, ℕ, ◌≤◌, ◌+◌, ◌∷◌, ◌++◌, [], List, length, Some, OnOk, nat_eq};
-ghost use Rattle.flow_base.specs.declared.types.Flow.{Flow as AFlow};
 ghost use Rattle.indexmap.specs.IndexMap.{IsUnchanged, get, spare};
 ghost use Rattle.reach_model.specs.Rows.{Row as ARow};
 ghost use Rattle.reach_model.specs.declared.modes.Mode.TheVariants.{Continuous as ContinuousMode};
+ghost use Rattle.reach_model.specs.Pairs.{pair_eq};
 ghost use Rattle.reach_rows.specs.Kept.{ComesAfter, row_of_kept};
 ghost use Rattle.reach_rows.specs.Verdicts.{AreFew};
-ghost use Rattle.reduce_continuous.specs.Tables.{StandsFor, Holds, HasTables, HasRuns, HasRoom, Takes, Names, pair_eq};
+ghost use Rattle.reduce_continuous.specs.Tables.{StandsFor, Holds, HasTables, HasRuns, HasRoom, Takes, Names};
 
 use crate::places::{Run, is_after, later, raise};
 use flow_base::{Flow, NoMemory};

@@ -1,14 +1,12 @@
 //! The reducer of full mode.
-ghost use Rattle.std.specs.Prelude.{◌≡◌, ◌↔◌, [], List, length, IsTrue};
+ghost use Rattle.std.specs.Prelude.{[], length};
 ghost use Rattle.reach_model.specs.declared.modes.Mode.TheVariants.{Full as FullMode};
-ghost use Rattle.reach_rows.specs.Kept.{row_of_kept};
-ghost use Rattle.reach_rows.specs.Questions.{IsStartBy};
 ghost use Rattle.version_graph.specs.Tables.{HasRoom};
 ghost use Rattle.reduce_full.specs.Tables.{StandsFor, Holds};
 
 use flow_base::{Flow, NoMemory};
 use reach_model::{Mode, Verdict};
-use reach_rows::{First, Question, Reducer, Row};
+use reach_rows::{First, Question, Reducer, Row, starts_by};
 use std::alloc::Global;
 use version_graph::Versions;
 
@@ -71,32 +69,9 @@ impl Reducer for Full {
     }
 
     fn recall(&mut self, row: &Row) -> Result<(), NoMemory> {
-        let flow = first_of(row);
+        let flow = row.first_flow();
         self.versions.reserve([flow].as_slice())?;
         self.versions.keep(&flow);
         Ok(())
-    }
-}
-
-/// Whether a start leaves out no flow of an object with this first flow.
-fn starts_by(first: First, since: Option<u64>) -> bool
-    ensures { IsTrue result ↔ IsStartBy first since }
-{
-    match since {
-        None => true,
-        Some(since) => since <= first.at.ms,
-    }
-}
-
-/// The first flow of a row.
-fn first_of(row: &Row) -> Flow
-    ensures { result ≡ (row_of_kept row.now).first }
-{
-    Flow {
-        from: row.from,
-        to: row.to,
-        how: row.first.how,
-        at: row.first.at,
-        serial: row.first.serial,
     }
 }

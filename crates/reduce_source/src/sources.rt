@@ -1,15 +1,13 @@
 //! The reducer of source mode.
-ghost use Rattle.std.specs.Prelude.{◌≡◌, ◌↔◌, [], IsTrue};
+ghost use Rattle.std.specs.Prelude.{[]};
 ghost use Rattle.reach_model.specs.declared.modes.Mode.TheVariants.{Source as SourceMode};
-ghost use Rattle.reach_rows.specs.Kept.{row_of_kept};
-ghost use Rattle.reach_rows.specs.Questions.{IsStartBy};
 ghost use Rattle.reduce_source.specs.Sets.{HasRoom};
 ghost use Rattle.reduce_source.specs.Tables.{StandsFor, Holds};
 
 use crate::sets::SourceSets;
 use flow_base::{Flow, NoMemory};
 use reach_model::{Mode, Verdict};
-use reach_rows::{First, Question, Reducer, Row};
+use reach_rows::{First, Question, Reducer, Row, starts_by};
 use std::alloc::Global;
 
 /// The sets of sources over the kept flows.
@@ -79,32 +77,9 @@ impl Reducer for Sources {
     }
 
     fn recall(&mut self, row: &Row) -> Result<(), NoMemory> {
-        let flow = first_of(row);
+        let flow = row.first_flow();
         self.sets.reserve([flow].as_slice())?;
         self.sets.union(flow.to, flow.from);
         Ok(())
-    }
-}
-
-/// Whether a start leaves out no flow of an object with this first flow.
-fn starts_by(first: First, since: Option<u64>) -> bool
-    ensures { IsTrue result ↔ IsStartBy first since }
-{
-    match since {
-        None => true,
-        Some(since) => since <= first.at.ms,
-    }
-}
-
-/// The first flow of a row.
-fn first_of(row: &Row) -> Flow
-    ensures { result ≡ (row_of_kept row.now).first }
-{
-    Flow {
-        from: row.from,
-        to: row.to,
-        how: row.first.how,
-        at: row.first.at,
-        serial: row.first.serial,
     }
 }

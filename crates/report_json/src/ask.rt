@@ -11,7 +11,7 @@
 //!
 //! N is 1 to 15 decimal digits. ID is 1 to 10, for a number of 32 bits. TIME is seconds: 1 to 15 digits, a point and
 //! 3 digits. Words are parted by exactly one space. Every other line is a bad question.
-ghost use Rattle.std.specs.Prelude.{◌≡◌, ◌↔◌, IfOk, IfErr, List, ℕ, Some, option_map};
+ghost use Rattle.std.specs.Prelude.{◌≡◌, ◌↔◌, IfOk, IfErr, List, ℕ, Some};
 ghost use Rattle.report_json.specs.Asks.{IsAsk};
 ghost use Rattle.report_json.specs.Reading.{ask_of, word_of, words_of, bounded_of};
 

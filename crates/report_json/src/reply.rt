@@ -1,6 +1,6 @@
 //! Replies, and their lines: compact JSON with keys in ascending order, and a line feed.
 ghost use Rattle.std.specs.Prelude.{◌≡◌, IfOk, false, codes};
-ghost use Rattle.serde_json.specs.Data.{string, object, member, no_members};
+ghost use Rattle.serde_json.specs.Data.{object, member, no_members};
 ghost use Rattle.serde_json.specs.View.{view};
 ghost use Rattle.serde_json.specs.Written.{has_float};
 ghost use Rattle.report_json.specs.Replies.{id_data, ids_data, back_data, fore_data, sources_data, take_data, settle_data, end_data, error_data, data_of, line_of, text_of, IsLine};

@@ -1,8 +1,7 @@
 -- What the tables say after one more flow.
-use Rattle.std.proofs.Common.{◌≡◌, ◌≢◌, ℕ, ◌+◌, ◌<◌, ◌≤◌, List, [], ◌∷◌, ◌++◌, length, reverse, Option, Some, None, true, false, cond, refl, sym, ap, ◌∙◌, arith, ◌⊎◌, inl, inr, ◌==◌, ◌&&◌}
-use Rattle.std.specs.Prelude.{nat_eq}
+use Rattle.std.proofs.Common.{◌≡◌, ◌≢◌, ℕ, ◌+◌, ◌<◌, ◌≤◌, List, [], ◌∷◌, ◌++◌, length, reverse, Option, Some, None, true, false, cond, refl, sym, ap, ◌∙◌, arith, inl, inr, ◌==◌, ◌&&◌}
 use Rattle.std.proofs.lemmas.List.{reverse-append, get_or_append_left, get_or_push, length-append}
-use Rattle.std.proofs.lemmas.Bool.{cases_Bool, cases_lt, cases_eq, eq-eqb, ne_eqb, eqb-true, and_from, and_left, and_right, both_ways}
+use Rattle.std.proofs.lemmas.Bool.{cases_Bool, cases_lt, cases_eq, eq-eqb, ne_eqb, and_from, and_left, and_right, both_ways}
 use Rattle.flow_base.specs.declared.types.Flow.{Flow}
 use Rattle.reach_model.specs.Flows.{source, target}
 use Rattle.reach_model.specs.Sources.{touches, first_at}
@@ -10,19 +9,6 @@ use Rattle.reach_model.specs.Versions.{leaves, is_sealed, opened, version}
 use Rattle.reach_model.proofs.VersionFacts.{opened_push}
 use Rattle.version_graph.specs.Links.{HasLink}
 use Rattle.version_graph.specs.Tables.{IsLeft, IsLeftOf}
-
--- a pair of numbers is another one, or isn't
-pub pair_cases : (a b u v : ℕ) → ((a ≡ u) × (b ≡ v)) ⊎ ¬ ((a ≡ u) × (b ≡ v))
-pair_cases a b u v = elim (cases_eq a u) [
-  | inl e ↦ elim (cases_eq b v) [ inl e' ↦ inl (e, e') | inr n ↦ inr (λ p. n p.1) ]
-  | inr n ↦ inr (λ p. n p.0)
-]
-
-pub pairs_apart : (a b u v : ℕ) → ¬ ((a ≡ u) × (b ≡ v)) → (nat_eq a u && nat_eq b v) ≡ false
-pairs_apart a b u v n = elim (cases_Bool (nat_eq a u)) [
-  | inl t ↦ rw t (elim (cases_Bool (nat_eq b v)) [ inl t' ↦ absurd (n (eqb-true a u t, eqb-true b v t')) | inr f ↦ f ])
-  | inr f ↦ rw f refl
-]
 
 -- a version is no greater than the number of flows
 few_opened : (done K : List Flow) (x : ℕ) → opened done K x ≤ length K

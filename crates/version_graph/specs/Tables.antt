@@ -1,7 +1,8 @@
 -- What the tables of versions say of the kept flows.
-use Rattle.std.specs.Prelude.{◌≡◌, ℕ, ◌*◌, ◌<◌, ◌≤◌, ◌^◌, ◌↔◌, ◌&&◌, nat_eq, Bool, true, false, List, length, Option, Some, None}
+use Rattle.std.specs.Prelude.{◌≡◌, ℕ, ◌*◌, ◌<◌, ◌≤◌, ◌^◌, ◌↔◌, nat_eq, true, false, List, length, Option, Some, None}
 use Rattle.indexmap.specs.IndexMap as index
 use Rattle.flow_base.specs.declared.types.Flow.{Flow}
+use Rattle.reach_model.specs.Pairs.{pair_eq}
 use Rattle.reach_model.specs.Versions.{version, is_sealed}
 use Rattle.version_graph.specs.Links.{HasLink}
 use Rattle.version_graph.specs.declared.version.Version.{Version}
@@ -11,10 +12,6 @@ use Rattle.version_graph.specs.declared.versions.Versions.{Versions}
 abbrev pub version_or : Option Version → Version
 version_or None = record { number = 0; sealed = false }
 version_or (Some current) = current
-
--- two pairs of numbers are one
-abbrev pub pair_eq : ℕ × ℕ → ℕ × ℕ → Bool
-pair_eq a b = nat_eq a.0 b.0 && nat_eq a.1 b.1
 
 -- a flow from u to v left the version n of u, no later one than the current one. It is linked exactly where that version is
 -- the current one, which is sealed then.

@@ -1,10 +1,11 @@
 //! The tables of versions and links.
-ghost use Rattle.std.specs.Prelude.{◌≡◌, ◌≢◌, ◌↔◌, ℕ, ◌≤◌, ◌+◌, ◌∷◌, ◌++◌, [], List, length, Some, OnOk, IsTrue, nat_eq};
+ghost use Rattle.std.specs.Prelude.{◌≡◌, ◌↔◌, ℕ, ◌≤◌, ◌+◌, ◌∷◌, ◌++◌, [], List, length, Some, OnOk, IsTrue};
 ghost use Rattle.flow_base.specs.declared.types.Flow.{Flow as AFlow};
 ghost use Rattle.indexmap.specs.IndexMap.{get, spare};
 ghost use Rattle.reach_model.specs.Versions.{version, is_sealed};
+ghost use Rattle.reach_model.specs.Pairs.{pair_eq};
 ghost use Rattle.version_graph.specs.Links.{HasLink};
-ghost use Rattle.version_graph.specs.Tables.{AreFew, HasRoom, StandsFor, pair_eq};
+ghost use Rattle.version_graph.specs.Tables.{AreFew, HasRoom, StandsFor};
 
 use crate::version::{Version, current_of, enter, leave};
 use flow_base::{EntityId, Flow, NoMemory};

@@ -2,7 +2,8 @@ use Rattle.std.proofs.Common.{◌≡◌, ◌<◌, ◌+◌, ◌-◌, ◌++◌, le
 use Rattle.std.proofs.lemmas.List.{drop_more}
 use Rattle.flow_base.specs.declared.types.Flow.{Flow}
 use Rattle.flow_base.specs.declared.types.How.TheVariants.{Fork}
-use Rattle.kept_flows.specs.Taking.{HasRoomFor, StandFor}
+use Rattle.kept_flows.specs.KeptFlows.{StandsFor, kept_by}
+use Rattle.kept_flows.specs.Taking.{HasRoomFor}
 use Rattle.kept_flows.proofs.Next.{next_of, one_more}
 use Rattle.kept_flows.proofs.one_flow.put_all.Goals as goal
 
@@ -36,7 +37,8 @@ loop-flow-preserved g c =
     let before = c.loop-flow.invariant in
     let after = c.put.new in
     record {
-      taken = λ F s n. subst (StandFor R.mode (R.stands_for after.reducer) (R.holds after.reducer) (K.rows after.rows) (K.count after.rows) (K.known after.rows)) (one_more F more i no_flow h)
+      tied = c.put.ensures.tied;
+      taken = λ F s n. subst (StandsFor (kept_by R.mode (K.rows after.rows) (K.count after.rows) (K.known after.rows))) (one_more F more i no_flow h)
           (c.put.ensures.taken (F ++ take i more) (before.taken F s n) (next_of F more i no_flow h n));
       count = omega (arith, before.count, c.put.ensures.count);
       covers = c.put.ensures.covers (drop (i + 1) more) (subst (R.covers c.loop-flow.reducer) (drop_more more i no_flow h) before.covers);

@@ -1,14 +1,15 @@
 use Rattle.std.proofs.Common.{◌≤◌, ◌+◌, ◌-◌, ◌++◌, List, length, take, drop}
 use Rattle.flow_base.specs.declared.types.Flow.{Flow}
-use Rattle.kept_flows.specs.KeptFlows.{ComeNext}
-use Rattle.kept_flows.specs.Taking.{HasRoomFor, StandFor}
+use Rattle.kept_flows.specs.KeptFlows.{AreTied, ComeNext, StandsFor, kept_by}
+use Rattle.kept_flows.specs.Taking.{HasRoomFor}
 use Rattle.kept_flows.proofs.one_flow.put_all.Given as goal
 
 -- the flows so far are put, and there is room for the others
 abbrev pub invariant-loop-flow : goal.invariant-loop-flow
 invariant-loop-flow g l = record {
-  taken : (F : List Flow) → StandFor g.M.Reducer.mode (g.M.Reducer.stands_for l.initial.reducer) (g.M.Reducer.holds l.initial.reducer) (g.K.Rows.rows l.initial.rows) (g.K.Rows.count l.initial.rows) (g.K.Rows.known l.initial.rows) F → ComeNext F l.flows
-      → StandFor g.M.Reducer.mode (g.M.Reducer.stands_for l.reducer) (g.M.Reducer.holds l.reducer) (g.K.Rows.rows l.rows) (g.K.Rows.count l.rows) (g.K.Rows.known l.rows) (F ++ take l.flow-index l.flows);
+  tied : AreTied (g.M.Reducer.stands_for l.reducer) (g.M.Reducer.holds l.reducer) (g.K.Rows.rows l.rows) (g.K.Rows.count l.rows) (g.K.Rows.known l.rows);
+  taken : (F : List Flow) → StandsFor (kept_by g.M.Reducer.mode (g.K.Rows.rows l.initial.rows) (g.K.Rows.count l.initial.rows) (g.K.Rows.known l.initial.rows)) F → ComeNext F l.flows
+      → StandsFor (kept_by g.M.Reducer.mode (g.K.Rows.rows l.rows) (g.K.Rows.count l.rows) (g.K.Rows.known l.rows)) (F ++ take l.flow-index l.flows);
   count : g.K.Rows.count l.rows ≤ g.K.Rows.count l.initial.rows + l.flow-index;
   covers : g.M.Reducer.covers l.reducer (drop l.flow-index l.flows);
   room : HasRoomFor (g.K.Keep.has_room l.rows) (length l.flows - l.flow-index);

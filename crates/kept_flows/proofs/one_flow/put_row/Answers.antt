@@ -6,7 +6,7 @@ use Rattle.reach_model.specs.declared.modes.Verdict.TheVariants.{Extend}
 use Rattle.reach_model.specs.Numbers.{beyond, known}
 use Rattle.reach_model.specs.Rows.{Row, firsts, row_of, rows_after}
 use Rattle.reach_model.proofs.Numbering.{known_push}
-use Rattle.kept_flows.specs.Taking.{AreTold}
+use Rattle.kept_flows.specs.KeptFlows.{AreTold}
 use Rattle.kept_flows.proofs.Room.{room_left, some_room}
 use Rattle.kept_flows.proofs.one_flow.put_row.Goals as goal
 

@@ -14,8 +14,8 @@ returns-clause-exact g c = λ F R e lawful keeps.
     let q = c.args.question.now in
     let ids = c.in_ok-ids.ids in
     let first = c.first-first.result in
-    let is = subst (λ x. IsFirstOf (firsts R) x first) c.object_of.ensures
-    (told (λ R. IsFirstOf (firsts R) c.object_of.result.0 first) rows c.first-first.ensures R e) in
+    let is = subst (λ x. IsFirstOf (firsts R) x first) c.subject.ensures
+    (told (λ R. IsFirstOf (firsts R) c.subject.result.0 first) rows c.first-first.ensures R e) in
     let allowed = c.allowed-allowed.ensures.0 c.if-not-allowed.false in
     let whole = (c.first_flows_are_told.ensures mode F R lawful keeps (subject q) first).0 is in
     let found = subst (λ m. AreFound m R q ids) c.mode.ensures (told (λ R. AreFound c.mode.result R q ids) rows c.in_ok-ids.ensures.exact R e) in (

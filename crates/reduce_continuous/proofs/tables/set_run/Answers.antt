@@ -1,4 +1,4 @@
-use Rattle.reduce_continuous.proofs.Noting.{pairs_apart}
+use Rattle.reach_model.proofs.PairLemmas.{pairs_apart}
 use Rattle.reduce_continuous.proofs.tables.set_run.Goals as goal
 
 pub returns-clause-others : goal.returns-clause-others

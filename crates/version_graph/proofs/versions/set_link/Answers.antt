@@ -1,4 +1,4 @@
-use Rattle.version_graph.proofs.Growing.{pairs_apart}
+use Rattle.reach_model.proofs.PairLemmas.{pairs_apart}
 use Rattle.version_graph.proofs.versions.set_link.Goals as goal
 
 pub returns-clause-others : goal.returns-clause-others

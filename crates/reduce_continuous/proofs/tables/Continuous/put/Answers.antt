@@ -4,8 +4,10 @@ use Rattle.std.proofs.lemmas.Bool.{cases_eq}
 use Rattle.indexmap.specs.IndexMap.{get}
 use Rattle.flow_base.specs.declared.types.Flow.{Flow}
 use Rattle.reach_model.specs.Flows.{source, target}
-use Rattle.reduce_continuous.specs.Tables.{IsRun, IsGreatest, MayName, pair_eq}
-use Rattle.reduce_continuous.proofs.Noting.{pair_cases, greatest_here, greatest_there, run_here, run_there, names_here, names_there}
+use Rattle.reach_model.specs.Pairs.{pair_eq}
+use Rattle.reach_model.proofs.PairLemmas.{pair_cases}
+use Rattle.reduce_continuous.specs.Tables.{IsRun, IsGreatest, MayName}
+use Rattle.reduce_continuous.proofs.Noting.{greatest_here, greatest_there, run_here, run_there, names_here, names_there}
 use Rattle.reduce_continuous.proofs.tables.Continuous.put.Goals as goal
 
 pub returns-clause-tables : goal.returns-clause-tables

@@ -4,9 +4,10 @@ use Rattle.std.proofs.lemmas.Bool.{cases_eq}
 use Rattle.std.proofs.lemmas.List.{length-append}
 use Rattle.indexmap.specs.IndexMap.{get}
 use Rattle.reach_model.specs.Flows.{source, target, place}
+use Rattle.reach_model.specs.Pairs.{pair_eq}
+use Rattle.reach_model.proofs.PairLemmas.{pair_cases}
 use Rattle.reach_rows.specs.Kept.{row_of_kept}
-use Rattle.reduce_continuous.specs.Tables.{IsRun, IsRunOf, IsGreatest, MayName, pair_eq, later_run, raised}
-use Rattle.reduce_continuous.proofs.Noting.{pair_cases}
+use Rattle.reduce_continuous.specs.Tables.{IsRun, IsRunOf, IsGreatest, MayName, later_run, raised}
 use Rattle.reduce_continuous.proofs.Recalling.{greatest_raised, greatest_kept, run_recalled, run_kept, names_recalled, names_kept}
 use Rattle.reduce_continuous.proofs.tables.Continuous.put_back.Goals as goal
 

@@ -11,7 +11,7 @@ returns-clause-rows c = λ R s n.
     let kept = c.keep.ensures.next (firsts R) (c.reserve.ensures.same (firsts R) (s.held).versions) (firsts_few R n.few) in
     record {
       held = holds_push (record { versions = c.keep.new.self }) R r (s.held).pairs (refl, refl)
-          (subst (λ g. HasVersions c.keep.new.self (firsts R ++ g ∷ [])) c.first_of-flow.ensures kept);
+          (subst (λ g. HasVersions c.keep.new.self (firsts R ++ g ∷ [])) c.first_flow-flow.ensures kept);
       ascends = ascends_push R r s.ascends n.after;
       ends = ends_push R r s.ends n.differ;
     }
@@ -21,4 +21,4 @@ returns-clause-holds c = λ R h few.
     let r = row_of_kept c.args.row.now in
     let kept = c.keep.ensures.next (firsts R) (c.reserve.ensures.same (firsts R) h.versions) (firsts_few R few) in
     holds_push (record { versions = c.keep.new.self }) R r h.pairs (refl, refl)
-    (subst (λ g. HasVersions c.keep.new.self (firsts R ++ g ∷ [])) c.first_of-flow.ensures kept)
+    (subst (λ g. HasVersions c.keep.new.self (firsts R ++ g ∷ [])) c.first_flow-flow.ensures kept)

@@ -3,8 +3,10 @@ use Rattle.std.specs.Prelude.{nat_eq}
 use Rattle.indexmap.specs.IndexMap.{get}
 use Rattle.reach_model.specs.Flows.{source, target}
 use Rattle.reach_model.specs.Versions.{version}
-use Rattle.version_graph.specs.Tables.{IsLeftOf, pair_eq, version_or}
-use Rattle.version_graph.proofs.Growing.{pair_cases, few_versions, version_next, seal_next, left_here, left_of_there}
+use Rattle.reach_model.specs.Pairs.{pair_eq}
+use Rattle.reach_model.proofs.PairLemmas.{pair_cases}
+use Rattle.version_graph.specs.Tables.{IsLeftOf, version_or}
+use Rattle.version_graph.proofs.Growing.{few_versions, version_next, seal_next, left_here, left_of_there}
 use Rattle.version_graph.proofs.versions.Versions.keep.Goals as goal
 
 pub returns-clause-next : goal.returns-clause-next
