@@ -5,8 +5,12 @@ pub mod TokenLemmas
 pub mod FieldLemmas
 pub mod SlotLemmas
 pub mod TableLemmas
+pub mod UsualLemmas
 pub mod NumberLemmas
 pub mod HexTexts
+pub mod HeaderLemmas
+pub mod HeaderNumbers
+pub mod StampLemmas
 pub mod HeaderLaws
 pub mod PieceLaws
 pub mod WrittenPieces

@@ -1,48 +1,25 @@
 -- Slots that are filled one after the other.
-use Rattle.std.proofs.Common.{◌≡◌, ◌≢◌, ◌↔◌, ◌<◌, ◌≤◌, ◌+◌, ◌-◌, ◌∙◌, sym, refl, ap, ℕ, zero, suc, List, [], ◌∷◌, length, min, take, drop, Option, None, Some, get_or, set, option_map, ◌==◌, inl, inr, arith, Bool, true, false, if◌then◌else◌}
+use Rattle.std.proofs.Common.{subst, ◌≡◌, ◌≢◌, ◌<◌, ◌≤◌, ◌∙◌, sym, refl, ap, ℕ, zero, suc, List, [], ◌∷◌, ◌++◌, length, drop, Option, None, Some, get_or, set, ◌==◌, inl, inr, arith, Bool, true, false, if◌then◌else◌}
 use Rattle.std.specs.Option.{option_or, option_to_list}
-use Rattle.std.proofs.lemmas.Bool.{cases_eq, cases_lt, false_from_ne_true, eqb-true}
-use Rattle.std.proofs.lemmas.List.{map-set, take_all, drop_all, length-drop, get_or-set_same, get_or-set_other, set-get_or}
-use Rattle.audit_lex.specs.Tokens.{NameValue, value_in, token_at, token_len, field_of}
-use Rattle.audit_lex.specs.Slots.{spanned, slot_bytes, held, names_of, AreFilled, AreFound}
+use Rattle.std.proofs.lemmas.Bool.{cases_eq, cases_lt, eq-eqb, ne_eqb, cond-true, cond-false}
+use Rattle.std.proofs.lemmas.List.{length-map, map-set, get_or-set_same, get_or-set_other}
+use Rattle.audit_lex.specs.Tokens.{NameValue, value_in, token_at, token_len, tokens_of, field_of}
+use Rattle.audit_lex.specs.Slots.{slot_value, held, names_of, AreFilled, AreFound}
 use Rattle.audit_lex.specs.declared.fields.Rule.{Rule}
-use Rattle.audit_lex.specs.declared.spans.Span.{Span}
-use Rattle.std.specs.Prelude.{is_some}
-use Rattle.audit_lex.proofs.TokenLemmas.{field_after_space, field_at_token}
+use Rattle.audit_lex.specs.Fronts.{offered_from, token_seen}
+use Rattle.audit_lex.specs.declared.fronts.Token.{Token}
+use Rattle.std.specs.Borrow.{Bor}
+use Rattle.std.specs.Prelude.{is_some, IfSome, ⊤}
+use Rattle.audit_lex.proofs.TokenLemmas.{field_at_token}
 use Rattle.audit_lex.specs.declared.fields.Field.TheVariants as field
 use Rattle.audit_lex.specs.declared.fields.ValueKind.TheVariants as value
-use Rattle.audit_lex.specs.FieldTable.{name_of, may}
+use Rattle.audit_lex.specs.FieldTable.{name_of, may, rules_of, slot_rules}
+use Rattle.audit_lex.specs.TablePlaces.{home}
+use Rattle.audit_lex.specs.LineClass.{fault_of, fault_in, first_fault}
+use Rattle.audit_lex.specs.declared.fields.Field.{Field}
+use Rattle.audit_lex.specs.declared.fields.Kind.{Kind}
+use Rattle.audit_lex.specs.declared.fields.Kind.TheVariants as kind
 use Rattle.std.specs.Str.{bytes_eq}
-use Rattle.std.proofs.lemmas.Slice.Eq.{bytes_eq-Decides}
-
--- ---- spans
-
-nothing : (text : List ℕ) (n place : ℕ) → n ≡ 0 → take n (drop place text) ≡ []
-nothing text n place is = rw is refl
-
-all_taken : (text : List ℕ) (start n : ℕ) → length text ≤ start + n → take n (drop start text) ≡ drop start text
-all_taken text start n over = take_all n (drop start text) (omega (arith, length-drop start text))
-
-pub clipped : (text : List ℕ) (start end : ℕ)
-    → take (min end (length text) - min start (min end (length text))) (drop (min start (min end (length text))) text) ≡ take (end - start) (drop start text)
-clipped text start end =
-    let size = length text in
-    elim (cases_lt start end) [
-      | inr none ↦ nothing text _ _ (omega arith) ∙ sym (nothing text (end - start) start (omega arith))
-      | inl some ↦ elim (cases_lt size start) [
-        | inl over ↦ nothing text _ _ (omega arith) ∙ sym (ap (take (end - start)) (drop_all start text (omega arith)) ∙ take_all (end - start) [] (omega arith))
-        | inr within ↦
-            let begin : min start (min end size) ≡ start = omega arith in
-            elim (cases_lt size end) [
-              | inl over ↦
-                  let stop : min end size ≡ size = omega arith in
-                  rw begin (rw stop (all_taken text start (size - start) (omega arith) ∙ sym (all_taken text start (end - start) (omega arith))))
-              | inr whole ↦
-                  let stop : min end size ≡ end = omega arith in
-                  rw begin (rw stop refl)
-            ]
-      ]
-    ]
 
 -- ---- one token
 
@@ -50,54 +27,41 @@ or_none : {A : Type 0} (a : Option A) → option_or a None ≡ a
 or_none None = refl
 or_none (Some a) = refl
 
--- ---- the token of a field
+-- ---- what a front offers
 
-taken : (test : Bool) (value : List ℕ) → test ≡ true → Some value ≡ (if test then Some value else None)
-taken true value is = refl
-taken false value is = cc
+offered_here : (here place : ℕ) (bytes : List ℕ) → place ≡ here → offered_from (Some here) bytes place ≡ slot_value bytes
+offered_here here place bytes is = cond-true (here == place) (slot_value bytes) None (eq-eqb _ _ (sym is))
 
-left : (test : Bool) (value : List ℕ) → test ≡ false → (if test then Some value else None) ≡ None
-left true value is = cc
-left false value is = refl
+offered_there : (here place : ℕ) (bytes : List ℕ) → place ≢ here → offered_from (Some here) bytes place ≡ None
+offered_there here place bytes isnt = cond-false (here == place) (slot_value bytes) None (ne_eqb _ _ (λ is. isnt (sym is)))
 
-unnamed : (name other value : List ℕ) → name ≢ other → value_in (record { name = name; value = value } ∷ []) other ≡ None
-unnamed name other value differs = left (bytes_eq name other) value (false_from_ne_true _ (λ same. differs ((bytes_eq-Decides name other).0 same)))
+-- what these tokens have for the places of a table is what is offered
+abbrev pub Offers : List Rule → List NameValue → Option ℕ → List ℕ → Type 0
+Offers rules tokens here bytes = (place : ℕ) → place < length rules → value_in tokens (get_or (names_of rules) place []) ≡ offered_from here bytes place
 
-pub none_some : (place : ℕ) → None ≡ Some place → ⊥
-none_some place is = cc
+none_filled_at : {A : Type 0} (own offered : Option A) → offered ≡ None → own ≡ option_or own offered
+none_filled_at own offered is = sym (ap (option_or own) is ∙ or_none own)
 
-same_place : (here place : ℕ) → Some here ≡ Some place → here ≡ place
-same_place here place is = cc
+-- where no place is offered anything, each slot stays as it is
+pub none_filled : (rules : List Rule) (tokens : List NameValue) (bytes : List ℕ) (slots : List (Option (List ℕ)))
+    → Offers rules tokens None bytes → AreFilled rules tokens slots slots
+none_filled rules tokens bytes slots offers place below =
+    none_filled_at (get_or slots place None) _ (offers place below)
 
--- the name at a place is that of its rule's field
-pub name_at : (rules : List Rule) (place : ℕ) → place < length rules → get_or (names_of rules) place [] ≡ name_of (get_or rules place (may field.Arch value.Dec32)).field
-name_at [] place below = absurd (omega arith)
-name_at (rule ∷ rules) zero below = refl
-name_at (rule ∷ rules) (suc place) below = name_at rules place (omega arith)
-
--- where no place asks for the name, each slot stays as it is
-pub no_place : (rules : List Rule) (name bytes : List ℕ) (slots : List (Option (List ℕ)))
-    → ((place : ℕ) → place < length rules → (None ≡ Some place) ↔ (get_or (names_of rules) place [] ≡ name))
-    → AreFilled rules (record { name = name; value = bytes } ∷ []) slots slots
-no_place rules name bytes slots exact place below =
-    let differs : get_or (names_of rules) place [] ≢ name = λ is. none_some place ((exact place below).1 is) in
-    sym (ap (option_or (get_or slots place None)) (unnamed name (get_or (names_of rules) place []) bytes (λ is. differs (sym is))) ∙ or_none (get_or slots place None))
-
--- where one place asks for the name, its slot alone is offered the value
-pub one_place : (rules : List Rule) (name bytes : List ℕ) (before after : List (Option (List ℕ))) (here : ℕ)
-    → ((place : ℕ) → place < length rules → (Some here ≡ Some place) ↔ (get_or (names_of rules) place [] ≡ name))
-    → here < length rules → here < length before
-    → after ≡ set before here (option_or (get_or before here None) (Some bytes))
-    → AreFilled rules (record { name = name; value = bytes } ∷ []) before after
-one_place rules name bytes before after here exact below within is place inside = elim (cases_eq place here) [
+-- where one place is offered a value, its slot alone is filled
+pub one_filled : (rules : List Rule) (tokens : List NameValue) (bytes : List ℕ) (here : ℕ) (before after : List (Option (List ℕ)))
+    → Offers rules tokens (Some here) bytes → here < length before
+    → after ≡ set before here (option_or (get_or before here None) (slot_value bytes))
+    → AreFilled rules tokens before after
+one_filled rules tokens bytes here before after offers within is place below = elim (cases_eq place here) [
   | inl this ↦
-      rw this (ap (λ xs. get_or xs here None) is ∙ get_or-set_same before here _ None within
-      ∙ ap (option_or (get_or before here None)) (taken (bytes_eq name (get_or (names_of rules) here [])) bytes
-      ((bytes_eq-Decides name (get_or (names_of rules) here [])).1 (sym ((exact here below).0 refl)))))
+      ap (λ xs. get_or xs place None) is ∙ ap (λ k. get_or (set before here (option_or (get_or before here None) (slot_value bytes))) k None) this
+      ∙ get_or-set_same before here _ None within
+      ∙ ap (λ k. option_or (get_or before k None) (slot_value bytes)) (sym this)
+      ∙ ap (option_or (get_or before place None)) (sym (offers place below ∙ offered_here here place bytes this))
   | inr other ↦
       ap (λ xs. get_or xs place None) is ∙ get_or-set_other before here place _ None other
-      ∙ sym (ap (option_or (get_or before place None)) (unnamed name (get_or (names_of rules) place []) bytes (λ same. other (sym (same_place here place ((exact place inside).1 (sym same))))))
-      ∙ or_none (get_or before place None))
+      ∙ none_filled_at (get_or before place None) _ (offers place below ∙ offered_there here place bytes other)
 ]
 
 -- ---- one token after the other
@@ -111,11 +75,6 @@ or_assoc : {A : Type 0} (a b c : Option A) → option_or (option_or a b) c ≡ o
 or_assoc None b c = refl
 or_assoc (Some a) b c = refl
 
-pub past_space : (rules : List Rule) (raw rest : List ℕ) (slots : List (Option (List ℕ))) → 0 < length rest → get_or rest 0 0 ≡ 32
-    → Finding rules raw rest slots → Finding rules raw (drop 1 rest) slots
-past_space rules raw rest slots some is finding place below =
-    ap (option_or (get_or slots place None)) (sym (field_after_space rest (get_or (names_of rules) place []) some is)) ∙ finding place below
-
 pub past_token : (rules : List Rule) (raw rest : List ℕ) (before after : List (Option (List ℕ))) → 0 < length rest → get_or rest 0 0 ≢ 32
     → AreFilled rules (option_to_list (token_at rest)) before after → Finding rules raw rest before → Finding rules raw (drop (token_len rest) rest) after
 past_token rules raw rest before after some isnt filled finding place below =
@@ -124,14 +83,13 @@ past_token rules raw rest before after some isnt filled finding place below =
     ∙ or_assoc (get_or before place None) _ _
     ∙ ap (option_or (get_or before place None)) (sym (field_at_token rest name some isnt)) ∙ finding place below
 
-pub found : (rules : List Rule) (raw rest : List ℕ) (slots : List (Option (List ℕ))) → length rest ≡ 0 → Finding rules raw rest slots → AreFound rules raw slots
-found rules raw [] slots none finding place below = sym (or_none (get_or slots place None)) ∙ finding place below
-found rules raw (byte ∷ rest) slots none finding place below = absurd (omega (arith, none))
-
--- where no value was lent there is none
-pub none_found : {X Y : Type 0} (f : X → Y) (lent : Option X) (value : Option Y) → option_map f lent ≡ value → is_some lent ≡ false → value ≡ None
-none_found f None value is none = sym is
-none_found f (Some x) value is none = cc none
+-- at what stands behind a front, the search goes on
+pub past_front : (rules : List Rule) (raw rest behind : List ℕ) (before after : List (Option (List ℕ))) → 0 < length rest → get_or rest 0 0 ≢ 32
+    → tokens_of behind ≡ tokens_of (drop (token_len rest) rest)
+    → AreFilled rules (option_to_list (token_at rest)) before after → Finding rules raw rest before → Finding rules raw behind after
+past_front rules raw rest behind before after some isnt same filled finding place below =
+    ap (λ tokens. option_or (get_or after place None) (value_in tokens (get_or (names_of rules) place []))) same
+    ∙ past_token rules raw rest before after some isnt filled finding place below
 
 -- ---- full places
 
@@ -161,37 +119,166 @@ more_full slots from to full more place below = elim (cases_lt place from) [
   | inr behind ↦ more place behind below
 ]
 
+-- ---- the place of a front
+
+none_some : (place : ℕ) → None ≡ Some place → ⊥
+none_some place is = cc
+
+-- a table has no more fields than there are slots
+pub few_rules : (kind : Kind) → length (slot_rules kind) ≤ 11
+few_rules kind.Syscall = omega arith
+few_rules kind.Path = omega arith
+few_rules kind.Cwd = omega arith
+few_rules kind.Sockaddr = omega arith
+few_rules kind.FdPair = omega arith
+few_rules kind.Mmap = omega arith
+few_rules kind.Proctitle = omega arith
+few_rules kind.Eoe = omega arith
+
+same_place : (here place : ℕ) → Some here ≡ Some place → here ≡ place
+same_place here place is = cc
+
+pub place_within : (found : Option ℕ) (here most : ℕ) → IfSome found (λ place. place < most) → found ≡ Some here → here < most
+place_within None here most within is = absurd (none_some here is)
+place_within (Some place) here most within is = omega (arith, within, same_place place here is)
+
+-- a front that has a place fills its slot
+pub front_fills : (kind : Kind) (tokens : List NameValue) (bytes : List ℕ) (found : Option ℕ) (here : ℕ) (slots : List (Bor (List ℕ))) (after : List (Option (List ℕ)))
+    → length slots ≡ 11 → Offers (slot_rules kind) tokens found bytes → IfSome found (λ place. place < length (slot_rules kind)) → found ≡ Some here
+    → after ≡ set (held slots) here (option_or (get_or (held slots) here None) (slot_value bytes))
+    → AreFilled (slot_rules kind) tokens (held slots) after
+front_fills kind tokens bytes found here slots after size offers within is filled =
+    let below = place_within found here (length (slot_rules kind)) within is in
+    one_filled (slot_rules kind) tokens bytes here (held slots) after (λ place inside. offers place inside ∙ ap (λ k. offered_from k bytes place) is)
+    (omega (arith, below, few_rules kind, length-map slots (λ (slot : Bor (List ℕ)). slot_value slot.now), size)) filled
+
+-- and one that has none leaves each as it is
+pub front_leaves : (rules : List Rule) (tokens : List NameValue) (bytes : List ℕ) (found : Option ℕ) (slots : List (Option (List ℕ)))
+    → Offers rules tokens found bytes → found ≡ None → AreFilled rules tokens slots slots
+front_leaves rules tokens bytes found slots offers is = none_filled rules tokens bytes slots (λ place below. offers place below ∙ ap (λ k. offered_from k bytes place) is)
+
+-- ---- a token that was read
+
+unnamed_seen : (unnamed : Bool) (name value other : List ℕ) → bytes_eq name other ≡ false
+    → value_in (option_to_list (if unnamed then None else Some (record { name = name; value = value }))) other ≡ None
+unnamed_seen true name value other differs = refl
+unnamed_seen false name value other differs = cond-false (bytes_eq name other) (Some value) None differs
+
+-- one of another name says nothing of this one
+pub misnamed : (token : Token) (name : List ℕ) → bytes_eq token.name.now name ≡ false → value_in (option_to_list (token_seen token)) name ≡ None
+misnamed token name differs = unnamed_seen (length token.value.now == 0) token.name.now (drop 1 token.value.now) name differs
+
+-- nor does one without a value
+pub unvalued : (token : Token) (name : List ℕ) → (length token.value.now == 0) ≡ true → value_in (option_to_list (token_seen token)) name ≡ None
+unvalued token name none = ap (λ seen. value_in (option_to_list seen) name)
+    (cond-true (length token.value.now == 0) None (Some (record { name = token.name.now; value = drop 1 token.value.now })) none)
+
+-- ---- faults of fields without slots
+
+word_is_sound : (word : Field) (found : Option (List ℕ)) → fault_of (may word value.Word) found ≡ None
+word_is_sound word None = refl
+word_is_sound word (Some text) = refl
+
+sound_last : (raw : List ℕ) (rules : List Rule) (last : Rule) → fault_in raw last ≡ None → first_fault raw (rules ++ last ∷ []) ≡ first_fault raw rules
+sound_last raw [] last sound = ap (λ fault. option_or fault None) sound
+sound_last raw (rule ∷ rules) last sound = ap (option_or (fault_in raw rule)) (sound_last raw rules last sound)
+
+-- the first fault is one of a field with a slot
+pub slots_fault : (raw : List ℕ) (kind : Kind) → first_fault raw (rules_of kind) ≡ first_fault raw (slot_rules kind)
+slots_fault raw kind.Path = sound_last raw (slot_rules kind.Path) (may field.Objtype value.Word) (word_is_sound field.Objtype (field_of raw (name_of field.Objtype)))
+slots_fault raw kind.Syscall = refl
+slots_fault raw kind.Cwd = refl
+slots_fault raw kind.Sockaddr = refl
+slots_fault raw kind.FdPair = refl
+slots_fault raw kind.Mmap = refl
+slots_fault raw kind.Proctitle = refl
+slots_fault raw kind.Eoe = refl
+
+-- ---- the home of a field
+
+-- the place is one of the kind's table, and the name there is this one
+abbrev IsHome : Option (Kind × ℕ) → List ℕ → Type 0
+IsHome None name = ⊤
+IsHome (Some (k, place)) name = (place < length (slot_rules k)) × (get_or (names_of (slot_rules k)) place [] ≡ name)
+
+each_home : (f : Field) → IsHome (home f) (name_of f)
+each_home field.Arch = (omega arith, refl)
+each_home field.Syscall = (omega arith, refl)
+each_home field.Success = (omega arith, refl)
+each_home field.Exit = (omega arith, refl)
+each_home field.A0 = (omega arith, refl)
+each_home field.A1 = (omega arith, refl)
+each_home field.A2 = (omega arith, refl)
+each_home field.A3 = (omega arith, refl)
+each_home field.Ppid = (omega arith, refl)
+each_home field.Pid = (omega arith, refl)
+each_home field.Exe = (omega arith, refl)
+each_home field.Item = (omega arith, refl)
+each_home field.Name = (omega arith, refl)
+each_home field.Inode = (omega arith, refl)
+each_home field.Dev = (omega arith, refl)
+each_home field.Nametype = (omega arith, refl)
+each_home field.Objtype = tt
+each_home field.Cwd = (omega arith, refl)
+each_home field.Saddr = (omega arith, refl)
+each_home field.Fd0 = (omega arith, refl)
+each_home field.Fd1 = (omega arith, refl)
+each_home field.Fd = (omega arith, refl)
+
+-- what was found at a field's home is the value of its first token
+pub found_at_home : (f : Field) (k : Kind) (place : ℕ) (raw : List ℕ) (values : List (Option (List ℕ))) → home f ≡ Some (k, place) → AreFound (slot_rules k) raw values
+    → get_or values place None ≡ field_of raw (name_of f)
+found_at_home f k place raw values is there_found =
+    let there : IsHome (Some (k, place)) (name_of f) = subst (λ at. IsHome at (name_of f)) is (each_home f) in
+    there_found place there.0 ∙ ap (field_of raw) there.1
+
+-- a text that isn't empty has a byte
+pub is_some_byte : (text : List ℕ) → (length text == 0) ≡ false → 0 < length text
+is_some_byte [] some = cc
+is_some_byte (byte ∷ text) some = omega arith
+
 -- ---- one slot
 
-slot_at : (raw : List ℕ) (spans : List Span) (place : ℕ) (d : Span) → place < length spans → get_or (held raw spans) place None ≡ slot_bytes raw (get_or spans place d)
-slot_at raw [] place d below = absurd (omega arith)
-slot_at raw (span ∷ spans) zero d below = refl
-slot_at raw (span ∷ spans) (suc place) d below = slot_at raw spans place d (omega arith)
+slot_at : (slots : List (Bor (List ℕ))) (place : ℕ) (d : Bor (List ℕ)) → place < length slots → get_or (held slots) place None ≡ slot_value (get_or slots place d).now
+slot_at [] place d below = absurd (omega arith)
+slot_at (slot ∷ slots) zero d below = refl
+slot_at (slot ∷ slots) (suc place) d below = slot_at slots place d (omega arith)
 
-chosen : (test : Bool) (bytes : List ℕ) → test ≡ false → (if test then None else Some bytes) ≡ Some bytes
-chosen true bytes is = cc is
-chosen false bytes is = refl
+-- each slot, one after the other
+pub slots_listed : (slots : List (Bor (List ℕ))) (e : Bor (List ℕ)) → length slots ≡ 11
+    → slot_value (get_or slots 0 e).now ∷ slot_value (get_or slots 1 e).now ∷ slot_value (get_or slots 2 e).now ∷ slot_value (get_or slots 3 e).now ∷
+    slot_value (get_or slots 4 e).now ∷ slot_value (get_or slots 5 e).now ∷ slot_value (get_or slots 6 e).now ∷ slot_value (get_or slots 7 e).now ∷
+    slot_value (get_or slots 8 e).now ∷ slot_value (get_or slots 9 e).now ∷ slot_value (get_or slots 10 e).now ∷ [] ≡ held slots
+slots_listed [] empty size = absurd (omega (arith, size))
+slots_listed (a ∷ []) empty size = absurd (omega (arith, size))
+slots_listed (a ∷ b ∷ []) empty size = absurd (omega (arith, size))
+slots_listed (a ∷ b ∷ c ∷ []) empty size = absurd (omega (arith, size))
+slots_listed (a ∷ b ∷ c ∷ d ∷ []) empty size = absurd (omega (arith, size))
+slots_listed (a ∷ b ∷ c ∷ d ∷ e ∷ []) empty size = absurd (omega (arith, size))
+slots_listed (a ∷ b ∷ c ∷ d ∷ e ∷ f ∷ []) empty size = absurd (omega (arith, size))
+slots_listed (a ∷ b ∷ c ∷ d ∷ e ∷ f ∷ g ∷ []) empty size = absurd (omega (arith, size))
+slots_listed (a ∷ b ∷ c ∷ d ∷ e ∷ f ∷ g ∷ h ∷ []) empty size = absurd (omega (arith, size))
+slots_listed (a ∷ b ∷ c ∷ d ∷ e ∷ f ∷ g ∷ h ∷ i ∷ []) empty size = absurd (omega (arith, size))
+slots_listed (a ∷ b ∷ c ∷ d ∷ e ∷ f ∷ g ∷ h ∷ i ∷ j ∷ []) empty size = absurd (omega (arith, size))
+slots_listed (a ∷ b ∷ c ∷ d ∷ e ∷ f ∷ g ∷ h ∷ i ∷ j ∷ k ∷ []) empty size = refl
+slots_listed (a ∷ b ∷ c ∷ d ∷ e ∷ f ∷ g ∷ h ∷ i ∷ j ∷ k ∷ l ∷ rest) empty size = absurd (omega (arith, size))
 
-slot_empty : (raw : List ℕ) (span : Span) → span.start ≡ 0 → slot_bytes raw span ≡ None
-slot_empty raw span is = ap (λ start. if start == 0 then None else Some (spanned raw span)) is
+-- an empty slot has no value
+pub is_vacant : (slots : List (Bor (List ℕ))) (place : ℕ) (d : Bor (List ℕ)) → place < length slots → (length (get_or slots place d).now == 0) ≡ true
+    → get_or (held slots) place None ≡ None
+is_vacant slots place d within empty = slot_at slots place d within ∙ cond-true _ None (Some (drop 1 (get_or slots place d).now)) empty
 
-slot_full : (raw : List ℕ) (span : Span) → span.start ≢ 0 → slot_bytes raw span ≡ Some (spanned raw span)
-slot_full raw span some = chosen (span.start == 0) (spanned raw span) (false_from_ne_true _ (λ same. some (eqb-true _ _ same)))
+-- another has one
+pub is_full : (slots : List (Bor (List ℕ))) (place : ℕ) (d : Bor (List ℕ)) → place < length slots → (length (get_or slots place d).now == 0) ≡ false
+    → is_some (get_or (held slots) place None) ≡ true
+is_full slots place d within some = ap is_some (slot_at slots place d within ∙ cond-false _ None (Some (drop 1 (get_or slots place d).now)) some)
 
 -- an empty slot holds what it is offered
-pub offered_empty : (raw : List ℕ) (spans : List Span) (place : ℕ) (d new : Span) → place < length spans → (get_or spans place d).start ≡ 0 → 0 < new.start
-    → held raw (set spans place new) ≡ set (held raw spans) place (option_or (get_or (held raw spans) place None) (Some (spanned raw new)))
-offered_empty raw spans place d new within empty there =
-    map-set (slot_bytes raw) spans place new
-    ∙ ap (set (held raw spans) place)
-    (slot_full raw new (λ is. omega (arith, is, there)) ∙ ap (λ own. option_or own (Some (spanned raw new))) (sym (slot_at raw spans place d within ∙ slot_empty raw _ empty)))
-
--- a full slot keeps its own
-pub offered_full : (raw : List ℕ) (spans : List Span) (place : ℕ) (d : Span) (value : Option (List ℕ)) → place < length spans → (get_or spans place d).start ≢ 0
-    → held raw spans ≡ set (held raw spans) place (option_or (get_or (held raw spans) place None) value)
-offered_full raw spans place d value within some =
-    let own = slot_at raw spans place d within ∙ slot_full raw _ some in
-    sym (ap (set (held raw spans) place) (ap (λ a. option_or a value) own ∙ sym own) ∙ set-get_or (held raw spans) place None)
+pub offered_empty : (slots : List (Bor (List ℕ))) (place : ℕ) (d new : Bor (List ℕ)) → place < length slots → (length (get_or slots place d).now == 0) ≡ true
+    → held (set slots place new) ≡ set (held slots) place (option_or (get_or (held slots) place None) (slot_value new.now))
+offered_empty slots place d new within empty =
+    map-set (λ (slot : Bor (List ℕ)). slot_value slot.now) slots place new
+    ∙ ap (λ own. set (held slots) place (option_or own (slot_value new.now))) (sym (is_vacant slots place d within empty))
 
 -- where each place is full, the rest changes nothing
 pub found_full : (rules : List Rule) (raw rest : List ℕ) (slots : List (Option (List ℕ))) → Full (length rules) slots → Finding rules raw rest slots → AreFound rules raw slots

@@ -1,6 +1,9 @@
 -- The one place of a field in a table.
-use Rattle.std.proofs.Common.{◌≡◌, ◌↔◌, ◌∙◌, sym, refl, ap, ℕ, zero, suc, ◌+◌, ◌<◌, ◌≤◌, List, [], ◌∷◌, length, map, get_or, Option, None, Some, option_map, arith}
-use Rattle.audit_lex.specs.FieldTable.{name_of, rules_of, may}
+use Rattle.std.proofs.Common.{◌≡◌, ◌↔◌, ◌∙◌, sym, refl, ap, ℕ, zero, suc, ◌+◌, ◌<◌, ◌≤◌, List, [], ◌∷◌, length, map, get_or, Option, None, Some, option_map, Bool, true, nat_lt, arith}
+use Rattle.std.specs.Option.{IfSome, option_and_then}
+use Rattle.std.proofs.lemmas.Bool.{ltb-true}
+use Rattle.audit_lex.specs.FieldNames.{field_called}
+use Rattle.audit_lex.specs.FieldTable.{name_of, slot_rules, may}
 use Rattle.audit_lex.specs.Slots.{names_of}
 use Rattle.audit_lex.specs.TablePlaces.{place_in}
 use Rattle.audit_lex.specs.declared.fields.Kind.{Kind}
@@ -9,12 +12,11 @@ use Rattle.audit_lex.specs.declared.fields.Field.{Field}
 use Rattle.audit_lex.specs.declared.fields.Field.TheVariants as field
 use Rattle.audit_lex.specs.declared.fields.ValueKind.TheVariants as value
 use Rattle.audit_lex.specs.declared.fields.Rule.{Rule}
-use Rattle.audit_lex.proofs.FieldLemmas.{same_name, not_named}
-use Rattle.audit_lex.proofs.SlotLemmas.{name_at, none_some}
+use Rattle.audit_lex.proofs.FieldLemmas.{same_name, not_named, exact_field}
 
 -- the rule at a place
 abbrev rule_at : Kind → ℕ → Rule
-rule_at k place = get_or (rules_of k) place (may field.Arch value.Dec32)
+rule_at k place = get_or (slot_rules k) place (may field.Arch value.Dec32)
 
 -- ---- the place of each rule's field
 
@@ -28,7 +30,7 @@ numbered_at from [] place below = absurd (omega arith)
 numbered_at from (rule ∷ rules) zero below = ap Some (omega arith)
 numbered_at from (rule ∷ rules) (suc place) below = numbered_at (from + 1) rules place (omega arith) ∙ ap Some (omega arith)
 
-places : (k : Kind) → map (λ rule. place_in k rule.field) (rules_of k) ≡ numbered 0 (rules_of k)
+places : (k : Kind) → map (λ rule. place_in k rule.field) (slot_rules k) ≡ numbered 0 (slot_rules k)
 unfolding numbered
 places kind.Syscall = refl
 places kind.Path = refl
@@ -45,10 +47,13 @@ mapped_at f [] place a below = absurd (omega arith)
 mapped_at f (rule ∷ rules) zero a below = refl
 mapped_at f (rule ∷ rules) (suc place) a below = mapped_at f rules place a (omega arith)
 
-pub place_there : (k : Kind) (place : ℕ) → place < length (rules_of k) → place_in k (rule_at k place).field ≡ Some place
+pub place_there : (k : Kind) (place : ℕ) → place < length (slot_rules k) → place_in k (rule_at k place).field ≡ Some place
 place_there k place below =
-    sym (mapped_at (λ rule. place_in k rule.field) (rules_of k) place None below)
-    ∙ ap (λ xs. get_or xs place None) (places k) ∙ numbered_at 0 (rules_of k) place below ∙ ap Some (omega arith)
+    sym (mapped_at (λ rule. place_in k rule.field) (slot_rules k) place None below)
+    ∙ ap (λ xs. get_or xs place None) (places k) ∙ numbered_at 0 (slot_rules k) place below ∙ ap Some (omega arith)
+
+name_at : (k : Kind) (place : ℕ) → place < length (slot_rules k) → get_or (names_of (slot_rules k)) place [] ≡ name_of (rule_at k place).field
+name_at k place below = mapped_at (λ rule. name_of rule.field) (slot_rules k) place [] below
 
 -- ---- the field of each place
 
@@ -109,22 +114,70 @@ field_there k f place is =
     same_some _ _ (sym (ap (option_map (λ place. (rule_at k place).field)) is) ∙ agree (back k) (own k) (backs k) f ∙ ap (option_map (λ place. f)) is)
 
 -- exactly one place asks for a field's name
-pub exact_place : (k : Kind) (f : Field) (place : ℕ) → place < length (rules_of k) → (place_in k f ≡ Some place) ↔ (get_or (names_of (rules_of k)) place [] ≡ name_of f)
+pub exact_place : (k : Kind) (f : Field) (place : ℕ) → place < length (slot_rules k) → (place_in k f ≡ Some place) ↔ (get_or (names_of (slot_rules k)) place [] ≡ name_of f)
 exact_place k f place below = (
-  λ is. name_at (rules_of k) place below ∙ ap name_of (field_there k f place is),
-  λ is. ap (place_in k) (sym (same_name (rule_at k place).field f (sym (name_at (rules_of k) place below) ∙ is))) ∙ place_there k place below,
+  λ is. name_at k place below ∙ ap name_of (field_there k f place is),
+  λ is. ap (place_in k) (sym (same_name (rule_at k place).field f (sym (name_at k place below) ∙ is))) ∙ place_there k place below,
 )
+
+none_some : (place : ℕ) → None ≡ Some place → ⊥
+none_some place is = cc
 
 -- a name of no field has no place
-pub no_field_place : (k : Kind) (name : List ℕ) (place : ℕ) → ((f : Field) → (None ≡ Some f) ↔ (name_of f ≡ name)) → place < length (rules_of k)
-    → (None ≡ Some place) ↔ (get_or (names_of (rules_of k)) place [] ≡ name)
+pub no_field_place : (k : Kind) (name : List ℕ) (place : ℕ) → ((f : Field) → (None ≡ Some f) ↔ (name_of f ≡ name)) → place < length (slot_rules k)
+    → (None ≡ Some place) ↔ (get_or (names_of (slot_rules k)) place [] ≡ name)
 no_field_place k name place never below = (
   λ is. absurd (none_some place is),
-  λ is. absurd (not_named name never (rule_at k place).field (sym (name_at (rules_of k) place below) ∙ is)),
+  λ is. absurd (not_named name never (rule_at k place).field (sym (name_at k place below) ∙ is)),
 )
 
+-- the place of a name's field, where it has one
+pub named_place : (k : Kind) (name : List ℕ) (called : Option Field) (place : ℕ) → field_called name ≡ called → place < length (slot_rules k)
+    → (option_and_then (place_in k) called ≡ Some place) ↔ (get_or (names_of (slot_rules k)) place [] ≡ name)
+named_place k name None place is below =
+    no_field_place k name place (λ f. (λ none. (exact_field name f).0 (is ∙ none), λ named. sym is ∙ (exact_field name f).1 named)) below
+named_place k name (Some f) place is below =
+    let named = (exact_field name f).0 is in
+    let exact = exact_place k f place below in
+    (λ there. exact.0 there ∙ named, λ there. exact.1 (there ∙ sym named))
+
+-- ---- within the table
+
+inside : (k : Kind) → Field → Option Bool
+inside k f = option_map (λ place. nat_lt place (length (slot_rules k))) (place_in k f)
+
+always : (k : Kind) → Field → Option Bool
+always k f = option_map (λ place. true) (place_in k f)
+
+insides : (k : Kind) → map (inside k) fields ≡ map (always k) fields
+unfolding inside always fields
+insides kind.Syscall = refl
+insides kind.Path = refl
+insides kind.Cwd = refl
+insides kind.Sockaddr = refl
+insides kind.FdPair = refl
+insides kind.Mmap = refl
+insides kind.Proctitle = refl
+insides kind.Eoe = refl
+
+same_value : (a b : Bool) → Some a ≡ Some b → a ≡ b
+same_value a b is = cc
+
+if_inside : (place : Option ℕ) (size : ℕ) → option_map (λ place. nat_lt place size) place ≡ option_map (λ place. true) place → IfSome place (λ place. place < size)
+if_inside None size is = tt
+if_inside (Some place) size is = ltb-true place size (same_value _ _ is)
+
+-- each place is one of the table
+pub place_within : (k : Kind) (f : Field) → IfSome (place_in k f) (λ place. place < length (slot_rules k))
+unfolding inside always
+place_within k f = if_inside (place_in k f) (length (slot_rules k)) (agree (inside k) (always k) (insides k) f)
+
+pub named_within : (k : Kind) (called : Option Field) → IfSome (option_and_then (place_in k) called) (λ place. place < length (slot_rules k))
+named_within k None = tt
+named_within k (Some f) = place_within k f
+
 -- no table is longer than the slots
-pub tables_fit : (k : Kind) → length (rules_of k) ≤ 11
+pub tables_fit : (k : Kind) → length (slot_rules k) ≤ 11
 tables_fit kind.Syscall = omega arith
 tables_fit kind.Path = omega arith
 tables_fit kind.Cwd = omega arith

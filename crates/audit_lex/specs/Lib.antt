@@ -1,13 +1,13 @@
 pub mod History
 pub mod LineCut
 pub mod Tokens
-pub mod Lent
 pub mod Values
 pub mod Header
 pub mod FieldTable
 pub mod FieldNames
 pub mod TablePlaces
 pub mod Slots
+pub mod Fronts
 pub mod LineClass
 pub mod LineFields
 pub mod Lexing

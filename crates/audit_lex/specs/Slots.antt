@@ -1,23 +1,35 @@
 -- What is found for the fields of a table.
-use Rattle.std.specs.Prelude.{◌≡◌, ◌<◌, ◌==◌, ℕ, List, [], length, map, Option, None, Some, if◌then◌else◌}
-use Rattle.std.specs.List.{slice_index_or, slice_range}
+use Rattle.std.specs.Prelude.{◌≡◌, ◌<◌, ◌==◌, ℕ, List, [], ◌∷◌, length, map, drop, Option, None, Some, if◌then◌else◌}
+use Rattle.std.specs.List.{slice_index_or}
 use Rattle.std.specs.Option.{option_or}
+use Rattle.std.specs.Borrow.{Bor}
 use Rattle.audit_lex.specs.FieldTable.{name_of}
 use Rattle.audit_lex.specs.Tokens.{NameValue, value_in, field_of}
 use Rattle.audit_lex.specs.declared.fields.Rule.{Rule}
-use Rattle.audit_lex.specs.declared.spans.Span.{Span}
+use Rattle.audit_lex.specs.declared.slots.Found.{Found}
 
--- the bytes of a span of a text
-abbrev pub spanned : List ℕ → Span → List ℕ
-spanned text span = slice_range text span.start span.end
+-- the value of a slot, which stands behind an `=`: an empty slot has none
+abbrev pub slot_value : List ℕ → Option (List ℕ)
+slot_value bytes = if length bytes == 0 then None else Some (drop 1 bytes)
 
--- the bytes of a slot, which is empty where its span starts at 0
-abbrev pub slot_bytes : List ℕ → Span → Option (List ℕ)
-slot_bytes raw span = if span.start == 0 then None else Some (spanned raw span)
+-- the value of each slot
+abbrev pub held : List (Bor (List ℕ)) → List (Option (List ℕ))
+held slots = map (λ slot. slot_value slot.now) slots
 
--- the bytes of each slot
-abbrev pub held : List ℕ → List Span → List (Option (List ℕ))
-held raw spans = map (slot_bytes raw) spans
+-- the value of each slot of a used line
+abbrev pub kept : Found → List (Option (List ℕ))
+kept found =
+    slot_value found.first.now ∷
+    slot_value found.second.now ∷
+    slot_value found.third.now ∷
+    slot_value found.fourth.now ∷
+    slot_value found.fifth.now ∷
+    slot_value found.sixth.now ∷
+    slot_value found.seventh.now ∷
+    slot_value found.eighth.now ∷
+    slot_value found.ninth.now ∷
+    slot_value found.tenth.now ∷
+    slot_value found.eleventh.now ∷ []
 
 -- the names that a table asks for, in its order
 abbrev pub names_of : List Rule → List (List ℕ)

@@ -8,6 +8,7 @@
 mod faults;
 mod field_values;
 mod fields;
+mod fronts;
 mod header;
 mod laws;
 mod lexer;
@@ -15,13 +16,13 @@ mod line_cut;
 mod numbers;
 mod places;
 mod slots;
-mod spans;
 mod table_places;
 mod tally;
 #[cfg(test)]
 mod tests;
 mod tokens;
 mod used_line;
+mod usual;
 mod values;
 
 pub use faults::LineFault;

@@ -2,7 +2,7 @@
 //!
 //! A line may begin in one piece and end in a later one, so the cutter holds the bytes after the last
 //! line feed. It never holds more of them than a line may have.
-ghost use Rattle.std.specs.Prelude.{◌≡◌, ◌<◌, ◌≤◌, ◌+◌, ◌^◌, ◌↔◌, ◌++◌, [], ◌∷◌, List, ℕ, min, take, length, IfOk, OnErr, IsSome, IsNone, true, false};
+ghost use Rattle.std.specs.Prelude.{◌≡◌, ◌<◌, ◌≤◌, ◌+◌, ◌^◌, ◌↔◌, ◌++◌, [], ◌∷◌, List, min, take, length, IfOk, OnErr, IsSome, IsNone, true, false};
 ghost use Rattle.std.specs.List.{position_or_len};
 ghost use Rattle.std.specs.Option.{option_len};
 ghost use Rattle.memchr.specs.Find.{is_byte};

@@ -1,92 +1,140 @@
 //! A place for each field of a table.
 //!
 //! One pass over a raw part fills the places, so a line is read once however many fields its table has.
-ghost use Rattle.std.specs.Prelude.{◌≡◌, ◌<◌, ◌≤◌, ℕ, List, length, true, None, Some, IfSome, is_some, option_map, slice_set};
+ghost use Rattle.std.specs.Prelude.{◌≡◌, ◌<◌, ◌≤◌, ℕ, length, true, None, Some, is_some, option_map, slice_set};
 ghost use Rattle.std.specs.List.{slice_index_or};
-ghost use Rattle.std.specs.Option.{option_or, option_to_list};
-ghost use Rattle.audit_lex.specs.FieldTable.{rules_of};
-ghost use Rattle.audit_lex.specs.Lent.{seen};
-ghost use Rattle.audit_lex.specs.Slots.{spanned, held, AreFilled};
-
-use crate::fields::Kind;
-use crate::spans::Span;
-use crate::table_places::place_named;
-use crate::tokens::Token;
+ghost use Rattle.std.specs.Option.{option_or};
+ghost use Rattle.audit_lex.specs.Slots.{slot_value, held, kept};
 
 /// How many fields the longest table has.
 pub(crate) const MOST_FIELDS: usize = 11;
 
-// An empty slot: a value never starts at the front, since its name and an `=` stand before it.
-const EMPTY: Span = Span { start: 0, end: 0 };
-
-/// Where the values of a table's fields stand, in the table's order. A slot that starts at 0 is empty.
+/// The values of a table's fields, in the table's order, each with the `=` before it. An empty slot holds nothing.
 #[derive(Clone, Copy)]
-pub(crate) struct Slots {
-    pub(crate) spans: [Span; MOST_FIELDS],
-    ghost size: { length spans ≡ 11 },
+pub(crate) struct Slots<'a> {
+    pub(crate) values: [&'a [u8]; MOST_FIELDS],
+    ghost size: { length values ≡ 11 },
 }
 
-impl Slots {
+impl<'a> Slots<'a> {
     /// Empty slots.
-    pub(crate) fn new() -> Slots
-        ensures { (raw : List ℕ) (place : ℕ) → slice_index_or (held raw result.spans) place None ≡ None }
+    pub(crate) fn new() -> Slots<'a>
+        ensures { (place : ℕ) → slice_index_or (held result.values) place None ≡ None }
     {
         Slots {
-            spans: [EMPTY; MOST_FIELDS],
+            values: [b""; MOST_FIELDS],
         }
     }
 
     /// What was found for the field at this place of the table.
-    pub(crate) fn span(&self, place: usize) -> Option<Span>
+    pub(crate) fn value(&self, place: usize) -> Option<&'a [u8]>
         requires { place < 11 }
-        ensures { (raw : List ℕ) → option_map (spanned raw) result ≡ slice_index_or (held raw self.now.spans) place None }
+        ensures { option_map (λ value. value.now) result ≡ slice_index_or (held self.now.values) place None }
     {
-        let span = self.spans[place];
-        if span.start == 0 {
-            return None;
-        }
-        Some(span)
+        value_of_slot(self.values[place])
     }
 
     /// The first empty place from here up to the end of the table, or that end.
     pub(crate) fn first_empty(&self, from: usize, end: usize) -> usize
         requires from { from ≤ end }
         requires end { end ≤ 11 }
-        ensures full { (raw : List ℕ) (place : ℕ) → from ≤ place → place < result → is_some (slice_index_or (held raw self.now.spans) place None) ≡ true }
+        ensures full { (place : ℕ) → from ≤ place → place < result
+            → is_some (slice_index_or (held self.now.values) place None) ≡ true }
         ensures within { result ≤ end }
     {
-        for place in from..end {
-            if self.span(place).is_none() {
-                return place;
+        for here in from..end {
+            if self.values[here].is_empty() {
+                return here;
             }
         }
         end
     }
 
-    /// Fills the slot of the token's name where it is empty.
-    pub(crate) fn fill(&mut self, kind: Kind, token: Option<Token<'_>>)
-        requires { IfSome token (λ token. 0 < token.value.start) }
-        ensures { (raw : List ℕ) → AreFilled (rules_of kind) (option_to_list (seen raw token.entry)) (held raw self.old.spans) (held raw self.new.spans) }
+    /// Fills the slot where it is empty.
+    pub(crate) fn offer(&mut self, place: usize, value: &'a [u8])
+        requires place { place < 11 }
+        requires some { 0 < length value.now }
+        ensures { held self.new.values
+            ≡ slice_set (held self.old.values) place
+            (option_or (slice_index_or (held self.old.values) place None) (slot_value value.now)) }
     {
-        match token {
-            None => {}
-            Some(token) => match place_named(kind, token.name) {
-                None => {}
-                Some(place) => self.offer(place, token.value),
-            },
+        if self.values[place].is_empty() {
+            self.values[place] = value;
         }
     }
 
-    // Fills the slot where it is empty.
-    #[tactic(auto, using(crate::proofs::SlotLemmas::offered_empty, crate::proofs::SlotLemmas::offered_full))]
-    fn offer(&mut self, place: usize, value: Span)
-        requires place { place < 11 }
-        requires there { 0 < value.start }
-        ensures { (raw : List ℕ) → held raw self.new.spans
-            ≡ slice_set (held raw self.old.spans) place (option_or (slice_index_or (held raw self.old.spans) place None) (Some (spanned raw value))) }
+    /// The slots as a used line keeps them.
+    pub(crate) fn found(&self) -> Found<'a>
+        ensures { kept result ≡ held self.now.values }
     {
-        if self.spans[place].start == 0 {
-            self.spans[place] = value;
+        Found {
+            first: self.values[0],
+            second: self.values[1],
+            third: self.values[2],
+            fourth: self.values[3],
+            fifth: self.values[4],
+            sixth: self.values[5],
+            seventh: self.values[6],
+            eighth: self.values[7],
+            ninth: self.values[8],
+            tenth: self.values[9],
+            eleventh: self.values[10],
         }
+    }
+}
+
+/// The slots of a used line, in the table's order. They are fields, since an enum holds no array of slices.
+#[derive(Clone, Copy)]
+pub(crate) struct Found<'a> {
+    first: &'a [u8],
+    second: &'a [u8],
+    third: &'a [u8],
+    fourth: &'a [u8],
+    fifth: &'a [u8],
+    sixth: &'a [u8],
+    seventh: &'a [u8],
+    eighth: &'a [u8],
+    ninth: &'a [u8],
+    tenth: &'a [u8],
+    eleventh: &'a [u8],
+}
+
+impl<'a> Found<'a> {
+    /// What was found for the field at this place of the table.
+    pub(crate) fn value(&self, place: usize) -> Option<&'a [u8]>
+        requires { place < 11 }
+        ensures { option_map (λ value. value.now) result ≡ slice_index_or (kept self.now) place None }
+    {
+        value_of_slot(self.slot(place))
+    }
+
+    // The slot at this place.
+    fn slot(&self, place: usize) -> &'a [u8]
+        requires { place < 11 }
+        ensures { slice_index_or (kept self.now) place None ≡ slot_value result.now }
+    {
+        match place {
+            0 => self.first,
+            1 => self.second,
+            2 => self.third,
+            3 => self.fourth,
+            4 => self.fifth,
+            5 => self.sixth,
+            6 => self.seventh,
+            7 => self.eighth,
+            8 => self.ninth,
+            9 => self.tenth,
+            _ => self.eleventh,
+        }
+    }
+}
+
+// The value of a slot, where it holds one.
+fn value_of_slot(slot: &[u8]) -> Option<&[u8]>
+    ensures { option_map (λ value. value.now) result ≡ slot_value slot.now }
+{
+    match slot {
+        [_, value @ ..] => Some(value),
+        [] => None,
     }
 }

@@ -1,7 +1,7 @@
 //! Numbers and words of used lines.
 //!
 //! `lex` found no fault in a used line, so a field that must be there is there, and what is there can be read.
-ghost use Rattle.std.specs.Prelude.{◌≡◌, Some, IsSome, option_map};
+ghost use Rattle.std.specs.Prelude.{◌≡◌, Some, IsSome};
 ghost use Rattle.audit_lex.specs.Values.{dec32_of, dec64_of, signed_of, hex32_of, hex64_of, device_of, handle_of, yesno_of};
 ghost use Rattle.audit_lex.specs.LineFields.{needed, offered};
 

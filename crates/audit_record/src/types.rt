@@ -1,7 +1,6 @@
 //! Records, each with the line that spells it.
 //!
 //! A record keeps what later steps ask for and nothing else of its line: the fields of the table of its kind.
-ghost use Rattle.std.specs.Prelude.{◌≡◌};
 
 use audit_lex::EventKey;
 use flow_base::{Bytes, FileId};

@@ -1,39 +1,57 @@
-use Rattle.std.proofs.Common.{ℕ, ◌≡◌, ◌<◌, ◌∙◌, ap, sym, length, drop, get_or, arith, None, []}
-use Rattle.std.specs.Option.{option_or, option_to_list}
-use Rattle.std.specs.List.{slice_index_or}
-use Rattle.std.proofs.lemmas.List.{length-drop, drop-drop, get_or-drop}
-use Rattle.audit_lex.specs.Slots.{held, names_of}
-use Rattle.audit_lex.specs.FieldTable.{rules_of}
-use Rattle.audit_lex.specs.Tokens.{token_len, field_of, value_in}
-use Rattle.audit_lex.proofs.SlotLemmas.{past_token, more_full, stays_full}
+use Rattle.std.proofs.Common.{◌∙◌, ap, sym, length, drop, arith}
+use Rattle.std.specs.Option.{option_to_list}
+use Rattle.audit_lex.specs.FieldTable.{slot_rules}
+use Rattle.audit_lex.specs.Slots.{held}
+use Rattle.audit_lex.specs.Tokens.{token_at, token_len, tokens_of}
+use Rattle.audit_lex.proofs.SlotLemmas.{is_some_byte, front_fills, front_leaves, past_front, past_token, more_full, stays_full, found_full}
 use Rattle.audit_lex.proofs.field_values.fill_slots.Goals as goal
+use Rattle.audit_lex.proofs.field_values.fill_slots.Goals.{in-Some+else-full-fields, in_default}
 
-pub loop-place-init : goal.loop-place-init
-loop-place-init c =
-    let raw = c.args.raw.now in
-    record {
-      within = omega arith;
-      table = omega arith;
-      full = λ place below. absurd (omega (arith, below));
-      finding = λ place below. ap (λ slot. option_or slot (field_of raw (slice_index_or (names_of (rules_of c.args.kind)) place []))) (c.requires raw place);
-    }
+pub returns-then-full-fields : goal.returns-then-full-fields
+returns-then-full-fields c =
+    let rules = slot_rules c.args.kind in
+    let rest = c.loop-rest.rest.now in
+    let front = c.front_of-front in
+    let before = held c.loop-rest.slots.values in
+    let after = held c.offer.new.self.values in
+    let some = is_some_byte rest (sym c.is_empty.ensures ∙ c.loop-rest-test.true) in
+    let filled = front_fills c.args.kind (option_to_list (token_at rest)) front.result.value.now front.result.place c.in-Some.place c.loop-rest.slots.values after
+    c.loop-rest.slots.size front.ensures.offers front.ensures.within c.in-Some.is c.offer.ensures in
+    let full = more_full after c.loop-rest.full c.first_empty-full.result
+    (stays_full rules _ before after c.loop-rest.full c.loop-rest.invariant.table filled c.loop-rest.invariant.full) c.first_empty-full.ensures.full in
+    found_full rules c.args.raw.now (drop (token_len rest) rest) after
+    (λ place below. full place (omega (arith, below, ap length c.slot_rules-fields.ensures, c.if-full-fields.true)))
+    (past_token rules c.args.raw.now rest before after some (c.loop-rest.invariant.begins some) filled c.loop-rest.invariant.finding)
 
-pub loop-place-preserved : goal.loop-place-preserved
-loop-place-preserved c =
+pub loop-rest-preserved : goal.loop-rest-preserved
+loop-rest-preserved c =
+    let rules = slot_rules c.args.kind in
     let raw = c.args.raw.now in
-    let place = c.loop-place.place in
-    let rest = drop place raw in
-    let next : drop (token_len rest) rest ≡ drop c.token_from-end.result.1 raw = drop-drop (token_len rest) place raw ∙ ap (λ n. drop n raw) (sym c.token_from-end.ensures.end) in
-    let here : get_or rest 0 0 ≡ get_or raw place 0 = get_or-drop place raw 0 0 ∙ ap (λ n. get_or raw n 0) (omega arith) in
-    let filled = λ (k : ℕ) (below : k < length (rules_of c.args.kind)).
-    c.fill.ensures raw k below
-    ∙ ap (λ token. option_or (get_or (held raw c.loop-place.slots.spans) k None) (value_in (option_to_list token) (get_or (names_of (rules_of c.args.kind)) k []))) c.token_from-end.ensures.token in
-    let found = past_token (rules_of c.args.kind) raw rest (held raw c.loop-place.slots.spans) (held raw c.fill.new.self.spans)
-    (omega (arith, length-drop place raw)) (λ is. c.if-raw-place-eq32.false (sym here ∙ is)) filled c.loop-place.invariant.finding in
-    record {
-      within = c.token_from-end.ensures.within;
-      table = omega (arith, c.first_empty-full.ensures.within, ap length c.rules-fields.ensures);
-      full = more_full (held raw c.fill.new.self.spans) c.loop-place.full c.first_empty-full.result
-          (stays_full (rules_of c.args.kind) _ (held raw c.loop-place.slots.spans) (held raw c.fill.new.self.spans) c.loop-place.full c.loop-place.invariant.table filled c.loop-place.invariant.full) (c.first_empty-full.ensures.full raw);
-      finding = λ k below. ap (λ text. option_or (get_or (held raw c.fill.new.self.spans) k None) (field_of text (get_or (names_of (rules_of c.args.kind)) k []))) (sym next) ∙ found k below;
-    }
+    let rest = c.loop-rest.rest.now in
+    let next = c.past_spaces-rest-in-loop-rest in
+    let front = c.front_of-front in
+    let invariant = c.loop-rest.invariant in
+    let before = held c.loop-rest.slots.values in
+    let some = is_some_byte rest (sym c.is_empty.ensures ∙ c.loop-rest-test.true) in
+    let behind = next.ensures.same ∙ ap tokens_of front.ensures.rest in
+    elim c.match-front.branch [
+      | in-Some+else-full-fields w ↦
+          let after = held w.offer.new.self.values in
+          let filled = front_fills c.args.kind (option_to_list (token_at rest)) front.result.value.now front.result.place w.in-Some.place c.loop-rest.slots.values after
+          c.loop-rest.slots.size front.ensures.offers front.ensures.within w.in-Some.is w.offer.ensures in
+          rw w.slots-is (rw w.full-is (record {
+            begins = next.ensures.begins;
+            table = omega (arith, ap length c.slot_rules-fields.ensures, w.first_empty-full.ensures.within);
+            full = more_full after c.loop-rest.full w.first_empty-full.result
+                (stays_full rules _ before after c.loop-rest.full invariant.table filled invariant.full) w.first_empty-full.ensures.full;
+            finding = past_front rules raw rest next.result.now before after some (invariant.begins some) behind filled invariant.finding;
+          }))
+      | in_default w ↦
+          let filled = front_leaves rules (option_to_list (token_at rest)) front.result.value.now front.result.place before front.ensures.offers w.in_default.is in
+          rw w.slots-is (rw w.full-is (record {
+            begins = next.ensures.begins;
+            table = invariant.table;
+            full = invariant.full;
+            finding = past_front rules raw rest next.result.now before before some (invariant.begins some) behind filled invariant.finding;
+          }))
+    ]

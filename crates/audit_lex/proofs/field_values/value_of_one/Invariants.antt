@@ -1,14 +1,14 @@
-use Rattle.std.proofs.Common.{◌≡◌, ◌≤◌, ◌-◌, length, drop}
+use Rattle.std.proofs.Common.{◌≡◌, ◌≢◌, ◌<◌, length, get_or}
 use Rattle.audit_lex.specs.FieldTable.{name_of}
 use Rattle.audit_lex.specs.Tokens.{field_of}
 use Rattle.audit_lex.proofs.field_values.value_of_one.Given as goal
 
--- what the bytes from the place on have is what the raw part has
-abbrev pub invariant-loop-place : goal.invariant-loop-place
-invariant-loop-place l = record {
-  within : l.place ≤ length l.raw;
-  rest : field_of l.raw (name_of l.name) ≡ field_of (drop l.place l.raw) (name_of l.name);
+-- what the rest has is what the raw part has
+abbrev pub invariant-loop-rest : goal.invariant-loop-rest
+invariant-loop-rest l = record {
+  begins : 0 < length l.rest → get_or l.rest 0 0 ≢ 32;
+  rest : field_of l.raw (name_of l.name) ≡ field_of l.rest (name_of l.name);
 }
 
-abbrev pub decreases-loop-place : goal.decreases-loop-place
-decreases-loop-place l = length l.raw - l.place
+abbrev pub decreases-loop-rest : goal.decreases-loop-rest
+decreases-loop-rest l = length l.rest

@@ -1,0 +1,43 @@
+-- What stands at the front of a text.
+use Rattle.std.specs.Prelude.{◌≡◌, ◌<◌, ◌-◌, ◌==◌, ◌||◌, ◌↔◌, ℕ, List, [], length, drop, take, slice_index, Bool, true, not, Option, None, Some, IfSome, if◌then◌else◌}
+use Rattle.std.specs.List.{list_all, slice_index_or}
+use Rattle.audit_lex.specs.FieldTable.{slot_rules}
+use Rattle.audit_lex.specs.FieldNames.{field_called}
+use Rattle.audit_lex.specs.Slots.{names_of, slot_value}
+use Rattle.audit_lex.specs.Tokens.{NameValue, name_len, word_len}
+use Rattle.audit_lex.specs.declared.fields.Kind.{Kind}
+use Rattle.audit_lex.specs.declared.fields.Field.{Field}
+use Rattle.audit_lex.specs.declared.fronts.Token.{Token}
+use Rattle.audit_lex.specs.declared.fronts.Front.{Front}
+use Rattle.audit_lex.specs.declared.usual.Usual.{Usual}
+
+-- the token that was lent, where it has a name
+abbrev pub token_seen : Token → Option NameValue
+token_seen token = if length token.value.now == 0 then None else Some (record { name = token.name.now; value = drop 1 token.value.now })
+
+-- the value that a place is offered, where it is the one that was found
+abbrev pub offered_from : Option ℕ → List ℕ → ℕ → Option (List ℕ)
+offered_from None bytes place = None
+offered_from (Some here) bytes place = if here == place then slot_value bytes else None
+
+-- what a front offers a place
+abbrev pub offered_at : Front → ℕ → Option (List ℕ)
+offered_at front place = offered_from front.place front.value.now place
+
+-- the name at the front of the text is of this length, has an `=` behind it, and this place in the table
+pub record IsUsual (kind : Kind) (text : List ℕ) (usual : Usual) : Type 0 where
+  pub len : name_len text ≡ usual.len
+  pub named : usual.len < word_len text
+  pub place : (place : ℕ) → place < length (slot_rules kind) → (usual.place ≡ Some place) ↔ (slice_index_or (names_of (slot_rules kind)) place [] ≡ take usual.len text)
+  pub within : IfSome usual.place (λ place. place < length (slot_rules kind))
+
+-- neither a space nor an `=`
+abbrev pub is_name_byte : ℕ → Bool
+is_name_byte byte = not (byte == 32 || byte == 61)
+
+-- a name of this field, or of none, and an `=` behind it
+pub record IsNameFront (front : List ℕ) (called : Option Field) : Type 0 where
+  pub some : 0 < length front
+  pub name : list_all is_name_byte (take (length front - 1) front) ≡ true
+  pub equals : slice_index front (length front - 1) ≡ 61
+  pub field : field_called (take (length front - 1) front) ≡ called
