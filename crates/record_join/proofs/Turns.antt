@@ -18,6 +18,7 @@ module _ (limits : Limits) where
   none_released (suc n) s e =
       ap (λ (o : Option EventKey). option_to_list (event_at s o) ++ released n limits (left_at s o)) e ∙ none_released n s e
 
+  -- and all is left
   pub none_left : (n : ℕ) (s : Joining) → ripe_key limits s ≡ None → left n limits s ≡ s
   none_left zero s e = refl
   none_left (suc n) s e = ap (λ (o : Option EventKey). left n limits (left_at s o)) e ∙ none_left n s e
@@ -26,10 +27,13 @@ module _ (limits : Limits) where
   nothing_waits s e = ap (λ (rs : List Record). only_ripe limits s (least_key rs)) (no_length s.waiting e)
 
   -- a release leaves fewer records
-  fewer : (s : Joining) (m : EventKey) → ripe_key limits s ≡ Some m → (n : ℕ) → length s.waiting ≤ suc n → length (next_left limits s).waiting ≤ n
-  fewer s m e n le =
+  pub fewer_left : (s : Joining) (m : EventKey) → ripe_key limits s ≡ Some m → length (next_left limits s).waiting < length s.waiting
+  fewer_left s m e =
       let short : length (without s m).waiting < length s.waiting = shorter (λ (r : Record). is_key m r.key) s.waiting (ripe_waits limits s (least_key s.waiting) refl m e) in
-      subst (λ (t : Joining). length t.waiting ≤ n) (sym (ap (left_at s) e)) (omega arith)
+      subst (λ (t : Joining). length t.waiting < length s.waiting) (sym (ap (left_at s) e)) short
+
+  fewer : (s : Joining) (m : EventKey) → ripe_key limits s ≡ Some m → (n : ℕ) → length s.waiting ≤ suc n → length (next_left limits s).waiting ≤ n
+  fewer s m e n le = omega (arith, fewer_left s m e, le)
 
   -- turns beyond the number of records add nothing
   pub enough : (n m : ℕ) (s : Joining) → length s.waiting ≤ n → length s.waiting ≤ m → (released n limits s ≡ released m limits s) × (left n limits s ≡ left m limits s)
@@ -55,6 +59,7 @@ module _ (limits : Limits) where
       step None e rest = ap (ripe_key limits) (none_left (suc n) s e) ∙ e
       step (Some k) e rest = rest (fewer s k e n a)
 
+  -- after all releases nothing is ripe
   pub ends : (s : Joining) → ripe_key limits (left_after limits s) ≡ None
   ends s = not_ripe (length s.waiting) s (omega arith)
 

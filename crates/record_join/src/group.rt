@@ -1,5 +1,5 @@
 //! Groups of records that wait, by key.
-ghost use Rattle.std.specs.Prelude.{◌≡◌, ◌-◌, OnOk, OnErr, length, map, if◌then◌else◌, Some, true};
+ghost use Rattle.std.specs.Prelude.{◌≡◌, ◌-◌, OnOk, OnErr, map, if◌then◌else◌, Some, true};
 ghost use Rattle.std.specs.List.{list_any};
 ghost use Rattle.std.specs.List.Sorted.{IsStrictlySortedBy};
 ghost use Rattle.std.specs.Map.{lookup, keys_of};

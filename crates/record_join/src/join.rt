@@ -1,6 +1,6 @@
 //! The joiner: groups that wait in the order of their keys, and what is released of them.
-ghost use Rattle.std.specs.Prelude.{◌≡◌, [], OnOk, OnErr, IfOk, Some, None, option_map, OnSome, IfNone, is_some, length, suc};
-ghost use Rattle.record_join.specs.Events.{Joining, enter, taken_as, settled, ripe_key, next_event, next_left, count_keys};
+ghost use Rattle.std.specs.Prelude.{◌≡◌, OnOk, OnErr, IfOk, Some, None, option_map, OnSome, IfNone, is_some, length, suc};
+ghost use Rattle.record_join.specs.Events.{enter, taken_as, settled, ripe_key, next_event, next_left, count_keys};
 ghost use Rattle.record_join.specs.History.{start};
 ghost use Rattle.record_join.specs.PutBack.{fresh};
 ghost use Rattle.record_join.specs.StandsFor.{StandsFor, WhereStands, event_seen, ripe_first};

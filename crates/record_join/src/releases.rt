@@ -1,6 +1,5 @@
 //! All that is ripe at once, and a whole list of records.
 ghost use Rattle.std.specs.Prelude.{◌≡◌, [], ◌∷◌, ◌++◌, map, OnOk, IfOk};
-ghost use Rattle.record_join.specs.Events.{Joining};
 ghost use Rattle.record_join.specs.StandsFor.{StandsFor, WhereStands};
 ghost use Rattle.record_join.specs.History.{Came, Settle, start, events, released_after, left_after};
 
