@@ -1,5 +1,5 @@
 //! Calls that make, alter and remove files by their paths.
-ghost use Rattle.std.specs.Prelude.{◌≡◌, ◌++◌, OnOk, IfOk};
+ghost use Rattle.std.specs.Prelude.{◌≡◌, ◌++◌, OnOk};
 ghost use Rattle.std.specs.List.{flat_map};
 ghost use Rattle.audit_record.specs.declared.types.NameKind.TheVariants.{Create};
 ghost use Rattle.call_acts.specs.Records.{paths, file_of};

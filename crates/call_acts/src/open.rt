@@ -1,5 +1,5 @@
 //! Calls that open files by their paths.
-ghost use Rattle.std.specs.Prelude.{◌≡◌, ◌++◌, OnOk, option_map};
+ghost use Rattle.std.specs.Prelude.{◌≡◌, ◌++◌, OnOk};
 ghost use Rattle.call_acts.specs.Records.{target};
 ghost use Rattle.call_acts.specs.Descriptors.{open_flags, sets_file, opens_file, opens_target, opens_path};
 

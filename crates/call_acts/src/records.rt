@@ -5,7 +5,7 @@
 ghost use Rattle.std.specs.Prelude.{◌≡◌, Option, None, Some, IfOk, option_map};
 ghost use Rattle.std.specs.List.{last_or};
 ghost use Rattle.std.specs.Option.{option_copied, option_to_list};
-ghost use Rattle.call_acts.specs.Records.{first_of, call, cwd_in, cwd, address, sockaddr_in, pair, mapped, names_file, path_in, paths, same_kind, target, file_in, file_of};
+ghost use Rattle.call_acts.specs.Records.{first_of, call, cwd, address, sockaddr_in, pair, mapped, names_file, path_in, paths, target, file_in, file_of};
 
 use acts::FileRef;
 use audit_record::{Body, NameKind, PathItem, Record, Syscall};

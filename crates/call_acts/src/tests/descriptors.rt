@@ -1,0 +1,105 @@
+//! Calls that close, copy and mark descriptors, and those that make pipes and sockets.
+use super::cases::Answer::{Done, Refused};
+use super::cases::Case;
+use super::cases::Said::{Address, NoAddress, Pair};
+
+pub static DESCRIPTORS: [Case; 30] = [
+    (3, Done(0), [3, 0, 0, 0], &[], "100 close 3; "),
+    (3, Refused(-9), [3, 0, 0, 0], &[], ""),
+    // Only dup2 and dup3 leave out a copy onto itself.
+    (32, Done(4), [3, 0, 0x80000, 0], &[], "100 copy 3 4; "),
+    (32, Done(3), [3, 0, 0, 0], &[], "100 copy 3 3; "),
+    (33, Done(4), [3, 4, 0x80000, 0], &[], "100 copy 3 4; "),
+    (33, Done(3), [3, 3, 0, 0], &[], ""),
+    (
+        292,
+        Done(4),
+        [3, 4, 0x80000, 0],
+        &[],
+        "100 copy 3 4 cloexec; ",
+    ),
+    (292, Done(4), [3, 4, 0, 0], &[], "100 copy 3 4; "),
+    (292, Done(3), [3, 3, 0x80000, 0], &[], ""),
+    (72, Done(4), [3, 0, 1, 0], &[], "100 copy 3 4; "),
+    (72, Done(4), [3, 1030, 0, 0], &[], "100 copy 3 4 cloexec; "),
+    (72, Done(0), [3, 2, 1, 0], &[], "100 mark 3 cloexec; "),
+    (72, Done(-1), [3, 0x1_0000_0002, 2, 0], &[], "100 mark 3; "),
+    (72, Done(4), [3, 3, 1, 0], &[], ""),
+    (72, Refused(-9), [3, 2, 1, 0], &[], ""),
+    (
+        22,
+        Done(0),
+        [0, 0x80000, 0, 0],
+        &[Pair(3, 4), Pair(5, 6)],
+        "100 pair 3 4; ",
+    ),
+    (
+        293,
+        Done(0),
+        [0, 0x80000, 0, 0],
+        &[Pair(3, 4)],
+        "100 pair 3 4 cloexec; ",
+    ),
+    (
+        53,
+        Done(0),
+        [1, 0x80001, 0, 0],
+        &[Pair(3, 4)],
+        "100 pair 3 4 cloexec; ",
+    ),
+    (53, Done(0), [1, 1, 0, 0], &[], ""),
+    (
+        41,
+        Done(3),
+        [2, 0x80001, 0, 0],
+        &[],
+        "100 set 3 socket - - cloexec; ",
+    ),
+    (
+        41,
+        Done(3),
+        [2, 1, 0, 0],
+        &[Address("peer")],
+        "100 set 3 socket - -; ",
+    ),
+    (
+        49,
+        Done(0),
+        [3, 0, 0, 0],
+        &[Address("here")],
+        "100 address 3 here; ",
+    ),
+    (49, Done(0), [3, 0, 0, 0], &[NoAddress], ""),
+    (49, Refused(-98), [3, 0, 0, 0], &[Address("here")], ""),
+    // A connect that goes on by itself is refused with this number.
+    (
+        42,
+        Refused(-115),
+        [3, 0, 0, 0],
+        &[Address("peer")],
+        "100 address 3 peer; ",
+    ),
+    (
+        42,
+        Done(0),
+        [3, 0, 0, 0],
+        &[Address("peer")],
+        "100 address 3 peer; ",
+    ),
+    (42, Refused(-111), [3, 0, 0, 0], &[Address("peer")], ""),
+    (
+        43,
+        Done(5),
+        [3, 0, 0, 0x80000],
+        &[Address("peer")],
+        "100 set 5 socket peer 3; ",
+    ),
+    (
+        288,
+        Done(5),
+        [3, 0, 0, 0x80000],
+        &[],
+        "100 set 5 socket - 3 cloexec; ",
+    ),
+    (288, Refused(-11), [3, 0, 0, 0], &[Address("peer")], ""),
+];

@@ -1,0 +1,105 @@
+//! Calls that move bytes from or into a descriptor, and mappings.
+use super::cases::Answer::{self, Done, Refused};
+use super::cases::Case;
+use super::cases::Said::{Address, Mapped, NoAddress};
+
+pub static TRANSFERS: [Case; 25] = [
+    (0, Done(5), [3, 0, 0, 0], &[], "100 in read fd 3; "),
+    (
+        17,
+        Done(1),
+        [0x1_0000_0003, 0, 0, 0],
+        &[],
+        "100 in read fd 3; ",
+    ),
+    (19, Done(0), [3, 0, 0, 0], &[], ""),
+    (295, Refused(-9), [3, 0, 0, 0], &[], ""),
+    (
+        327,
+        Done(1),
+        [3, 0, 0, 0],
+        &[Address("peer")],
+        "100 in read fd 3; ",
+    ),
+    (
+        45,
+        Done(5),
+        [3, 0, 0, 0],
+        &[Address("peer")],
+        "100 in read address peer; ",
+    ),
+    (47, Done(5), [3, 0, 0, 0], &[], "100 in read fd 3; "),
+    (
+        47,
+        Done(5),
+        [3, 0, 0, 0],
+        &[NoAddress, Address("peer")],
+        "100 in read fd 3; ",
+    ),
+    (1, Done(5), [4, 0, 0, 0], &[], "100 out write fd 4; "),
+    (18, Done(5), [4, 0, 0, 0], &[], "100 out write fd 4; "),
+    (20, Done(0), [4, 0, 0, 0], &[], ""),
+    (296, Refused(-32), [4, 0, 0, 0], &[], ""),
+    (328, Answer::None, [4, 0, 0, 0], &[], ""),
+    (
+        44,
+        Done(5),
+        [4, 0, 0, 0],
+        &[Address("peer"), Address("other")],
+        "100 out write address peer; ",
+    ),
+    (46, Done(5), [4, 0, 0, 0], &[], "100 out write fd 4; "),
+    (
+        40,
+        Done(5),
+        [4, 3, 0, 0],
+        &[],
+        "100 in read fd 3; 100 out write fd 4; ",
+    ),
+    (
+        276,
+        Done(5),
+        [3, 4, 0, 0],
+        &[],
+        "100 in read fd 3; 100 out write fd 4; ",
+    ),
+    (
+        275,
+        Done(5),
+        [3, 9, 4, 0],
+        &[],
+        "100 in read fd 3; 100 out write fd 4; ",
+    ),
+    (326, Done(0), [3, 9, 4, 0], &[], ""),
+    // Shared and writable, shared, private, in no file, and without a record of the descriptor.
+    (
+        9,
+        Done(140_000_000_000_000),
+        [0, 0, 3, 1],
+        &[Mapped(5)],
+        "100 in read fd 5; 100 out write fd 5; ",
+    ),
+    (
+        9,
+        Done(140_000_000_000_000),
+        [0, 0, 1, 1],
+        &[Mapped(5)],
+        "100 in read fd 5; ",
+    ),
+    (
+        9,
+        Done(140_000_000_000_000),
+        [0, 0, 3, 2],
+        &[Mapped(5)],
+        "100 in read fd 5; ",
+    ),
+    (
+        9,
+        Done(140_000_000_000_000),
+        [0, 0, 3, 0x21],
+        &[Mapped(5)],
+        "",
+    ),
+    (9, Done(140_000_000_000_000), [0, 0, 3, 1], &[], ""),
+    (9, Refused(-13), [0, 0, 3, 1], &[Mapped(5)], ""),
+];
