@@ -124,8 +124,8 @@ impl Entities {
         Ok(ids)
     }
 
-    /// Whether this is a name of the key.
-    fn has_name(&self, key: &Key, text: &[u8]) -> bool
+    /// Whether a key has exactly this name.
+    pub fn has_name(&self, key: &Key, text: &[u8]) -> bool
         ensures { result ≡ list_any (pointwise nat_eq text.now) (names_at self.now key.now) }
     {
         match self.names.get(key) {

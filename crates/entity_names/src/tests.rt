@@ -59,6 +59,9 @@ fn names_come_before_their_key_and_stop_at_their_limit(rt: HostRuntime) -> Resul
         [EntityId(0)].as_slice()
     );
     assert!(rt; entities.find(b"/c".as_slice())?.as_slice().is_empty());
+    assert!(rt; entities.has_name(&process(7), b"/b".as_slice()));
+    assert!(rt; !entities.has_name(&process(7), b"/c".as_slice()));
+    assert!(rt; !entities.has_name(&process(5), b"/b".as_slice()));
     assert!(rt; entities.names(&process(5)).is_none());
     match entities.names(&process(7)) {
         Some([first, second]) => {

@@ -1,5 +1,5 @@
 -- What the parts of the tables stand for once a plan is done.
-use Rattle.std.proofs.Common.{◌≡◌, ◌==◌, ◌∙◌, subst, sym, ap, ℕ, List, Option, Some, None, if◌then◌else◌}
+use Rattle.std.proofs.Common.{◌≡◌, ◌==◌, ◌∙◌, subst, sym, ap, ℕ, List, Option, Some, None, take, if◌then◌else◌}
 use Rattle.acts.specs.declared.held.Held.{Held}
 use Rattle.acts.specs.declared.act.Act.{Act}
 use Rattle.acts.specs.Holding.{is_at, marked, unless_marked, holds, address_of}
@@ -13,6 +13,7 @@ use Rattle.flow_events.specs.declared.change.Change.{Change}
 use Rattle.flow_events.specs.declared.change.Change.TheVariants.{Nothing, Set, Pair, Close, Mark, Exec, Clear, Give}
 use Rattle.flow_events.specs.declared.plan.NewAddress.{NewAddress}
 use Rattle.flow_events.specs.Changes.{changed}
+use Rattle.flow_events.specs.Entering.{SameNames}
 use Rattle.flow_events.specs.Standing.{readdressed}
 
 -- a change does the same to descriptors that hold the same
@@ -56,3 +57,7 @@ addresses_after old mid late new address before after stands first second change
 -- keys that are entered change no names
 pub names_kept : (old new : Known) (all : List (Key × List ℕ)) → new ≡ record old { keys = new.keys; spare = new.spare } → NamesAs old all → NamesAs new all
 names_kept old new all rest stands = subst (λ e. NamesAs e all) (sym rest) (record { each = λ k. stands.each k })
+
+-- a table that stands for these names stands for those that give each key the same
+pub same_kept : (table : Known) (all same : List (Key × List ℕ)) → SameNames all same → NamesAs table same → NamesAs table all
+same_kept table all same alike stands = record { each = λ k. stands.each k ∙ ap (take table.most_names) (sym (alike k)) }

@@ -5,7 +5,7 @@ use Rattle.acts.specs.declared.act.Act.TheVariants.{See}
 use Rattle.acts.specs.declared.act.Taken.{Taken}
 use Rattle.acts.specs.Lives.{life_of}
 use Rattle.acts.specs.Holding.{holds}
-use Rattle.acts.specs.Keys.{all_given}
+use Rattle.acts.specs.Keys.{all_given, names_of}
 use Rattle.acts.specs.Flows.{acts_of, flows}
 use Rattle.flow_events.specs.declared.acting.Acting.{Acting}
 use Rattle.flow_events.specs.declared.draft.Draft.{Draft}
@@ -27,7 +27,8 @@ pub drafted_nothing : (ground : Ground) (draft : Draft) (before : List Taken) �
 drafted_nothing ground draft before stands births given added = record {
   before_are = stands.births_are;
   now_are = births;
-  names_are = sym (alone (all_given text_of (acts_of before))) ∙ ap (λ all. all_given text_of (acts_of before) ++ map pair_of all) (sym given);
+  known_are = stands.names_are;
+  names_are = λ k. ap (names_of k) (sym (alone (all_given text_of (acts_of before))) ∙ ap (λ all. all_given text_of (acts_of before) ++ map pair_of all) (sym given));
   objects_are = sym stands.objects_are ∙ sym (alone ground.entities.now.keys) ∙ ap (λ all. ground.entities.now.keys ++ all.keys) (sym added);
   flows_are = sym (alone (flows before)) ∙ ap (λ all. flows before ++ all.flows) (sym added);
 }

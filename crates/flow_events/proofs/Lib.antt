@@ -5,6 +5,7 @@ pub mod CountedBirths
 pub mod Drafting
 pub mod Fewness
 pub mod Following
+pub mod KnownNames
 pub mod Numbering
 pub mod Numbers
 pub mod Past

@@ -7,7 +7,7 @@ use Rattle.flow_base.specs.declared.types.Key.{Key}
 use Rattle.acts.specs.declared.act.Act.{Act}
 use Rattle.acts.specs.declared.act.Taken.{Taken}
 use Rattle.acts.specs.Holding.{holds, address_of}
-use Rattle.acts.specs.Keys.{all_given}
+use Rattle.acts.specs.Keys.{all_given, names_of}
 use Rattle.acts.specs.Flows.{acts_of, objects, flows}
 use Rattle.flow_events.specs.declared.draft.Ground.{Ground}
 use Rattle.flow_events.specs.declared.given.Given.{Given}
@@ -64,8 +64,8 @@ planned ground worked plan before acts works new known acts_is see_is last_is ad
       acts_are = join ∙ ap (λ all. all ++ acts_of before) (turned_acts ground.ms ground.serial acts ∙ ap reverse (sym acts_is));
       held_are = λ p n. ap (λ all. holds all p n) join ∙ works.held_are p n ∙ (λ i. changed (sym last_is i) (changed (sym see_is i) (holds (acts_of before))) p n);
       addresses_are = λ s. ap (λ all. address_of all s) join ∙ works.addresses_are s ∙ ap (λ new_one. readdressed new_one (address_of (acts_of before)) s) (sym address_is);
-      names_are = ap (all_given text_of) join ∙ works.drafted.names_are
-          ∙ ap (λ pairs. all_given text_of (acts_of before) ++ pairs) (sym (pairs_turned worked.draft.given) ∙ ap pairs_of (sym given_is));
+      names_are = λ k. ap (λ all. names_of k (all_given text_of all)) join ∙ works.drafted.names_are k
+          ∙ ap (λ pairs. names_of k (all_given text_of (acts_of before) ++ pairs)) (sym (pairs_turned worked.draft.given) ∙ ap pairs_of (sym given_is));
       objects_are = ap objects join ∙ works.drafted.objects_are ∙ sym new.enter
           ∙ (λ i. entered (known i) (sym keys_is i));
       flows_are = works.drafted.flows_are ∙ ap (λ added. flows before ++ added) (sym flows_is);

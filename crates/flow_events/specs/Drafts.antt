@@ -4,20 +4,21 @@ use Rattle.name_text.specs.Addresses.{text_of}
 use Rattle.acts.specs.declared.act.Taken.{Taken}
 use Rattle.acts.specs.Keys.{all_given}
 use Rattle.acts.specs.Flows.{acts_of, objects, flows}
-use Rattle.entity_names.specs.Known.{Known}
+use Rattle.entity_names.specs.Known.{Known, NamesAs}
 use Rattle.acts.specs.declared.act.Act.{Act}
 use Rattle.flow_events.specs.declared.draft.Draft.{Draft}
 use Rattle.flow_events.specs.declared.draft.Ground.{Ground}
 use Rattle.flow_events.specs.declared.acting.Acting.{Acting}
 use Rattle.flow_events.specs.Acting.{IsActing}
 use Rattle.flow_events.specs.Births.{Table as Births, BornAs}
-use Rattle.flow_events.specs.Entering.{pair_of}
+use Rattle.flow_events.specs.Entering.{SameNames, pair_of}
 
--- the draft has the births, names, objects and flows that these acts add to those before
+-- the draft has the births, names, objects and flows that these acts add to those before; a name that its key has by then may be left out
 pub record Drafted (births : Births) (entities : Known) (draft : Draft) (before now : List Taken) : Type 0 where
   pub before_are : BornAs births (acts_of before)
   pub now_are : BornAs draft.births (acts_of now)
-  pub names_are : all_given text_of (acts_of now ++ acts_of before) ≡ all_given text_of (acts_of before) ++ map pair_of draft.given
+  pub known_are : NamesAs entities (all_given text_of (acts_of before))
+  pub names_are : SameNames (all_given text_of (acts_of now ++ acts_of before)) (all_given text_of (acts_of before) ++ map pair_of draft.given)
   pub objects_are : objects (acts_of now ++ acts_of before) ≡ entities.keys ++ draft.added.keys
   pub flows_are : flows (now ++ before) ≡ flows before ++ draft.added.flows
 

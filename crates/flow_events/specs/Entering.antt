@@ -3,8 +3,8 @@ use Rattle.std.specs.Prelude.{◌≡◌, ◌≤◌, ◌+◌, ◌++◌, ℕ, true
 use Rattle.std.specs.List.{list_any}
 use Rattle.flow_base.specs.declared.types.Key.{Key}
 use Rattle.flow_base.specs.contracts.types.KeyPartialEq.TheImpl.{ghosts}
-use Rattle.acts.specs.Keys.{put_new}
-use Rattle.entity_names.specs.Known.{Known, names_at, capacity_at}
+use Rattle.acts.specs.Keys.{put_new, names_of}
+use Rattle.entity_names.specs.Known.{Known, NamesAs, names_at, capacity_at}
 use Rattle.flow_events.specs.declared.given.Given.{Given}
 
 -- the objects after these keys, each of which goes last where it is new
@@ -20,6 +20,14 @@ pair_of given = (given.key, given.text)
 abbrev pub pairs_of : List Given → List (Key × List ℕ)
 pairs_of [] = []
 pairs_of (given ∷ before) = pairs_of before ++ pair_of given ∷ []
+
+-- these names give each key the same as those
+abbrev pub SameNames : List (Key × List ℕ) → List (Key × List ℕ) → Type 0
+SameNames given other = (key : Key) → names_of key given ≡ names_of key other
+
+-- after those that the table stands for, and any that came since, these names give each key the same as those
+pub record NameAlike (table : Known) (given other : List (Key × List ℕ)) : Type 0 where
+  pub each : (before since : List (Key × List ℕ)) → NamesAs table before → SameNames ((before ++ since) ++ given) ((before ++ since) ++ other)
 
 -- there is room for each of these names of this key
 abbrev pub CoversKey : Known → List Given → Key → Type 0

@@ -14,7 +14,7 @@ use Rattle.flow_events.specs.declared.plan.Plan.{Plan}
 use Rattle.flow_events.specs.declared.tables.Tables.{Tables}
 use Rattle.flow_events.specs.Births.{BornAs}
 use Rattle.flow_events.specs.Changes.{changed, need}
-use Rattle.flow_events.specs.Entering.{Covers, entered, pairs_of}
+use Rattle.flow_events.specs.Entering.{Covers, SameNames, entered, pairs_of}
 
 -- the tables say what these acts say, where an address has this text
 pub record StandsFor (address_text : List ℕ → List ℕ) (tables : Tables) (taken : List Taken) : Type 0 where
@@ -44,7 +44,7 @@ pub record IsPlanOf (address_text : List ℕ → List ℕ) (plan : Plan) (before
   pub acts_are : acts_of (now ++ before) ≡ reverse plan.acts ++ acts_of before
   pub held_are : (p n : ℕ) → holds (acts_of (now ++ before)) p n ≡ changed plan.last (changed plan.see (holds (acts_of before))) p n
   pub addresses_are : (s : ℕ) → address_of (acts_of (now ++ before)) s ≡ readdressed plan.address (address_of (acts_of before)) s
-  pub names_are : all_given address_text (acts_of (now ++ before)) ≡ all_given address_text (acts_of before) ++ pairs_of plan.given
+  pub names_are : SameNames (all_given address_text (acts_of (now ++ before))) (all_given address_text (acts_of before) ++ pairs_of plan.given)
   pub objects_are : objects (acts_of (now ++ before)) ≡ entered (objects (acts_of before)) plan.keys
   pub flows_are : flows (now ++ before) ≡ flows before ++ plan.flows
   pub count_is : length (now ++ before) ≡ length before + length plan.acts

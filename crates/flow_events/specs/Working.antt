@@ -5,7 +5,10 @@ use Rattle.acts.specs.declared.act.Act.TheVariants.{See}
 use Rattle.acts.specs.declared.act.Taken.{Taken}
 use Rattle.acts.specs.Admitted.{Admitted}
 use Rattle.acts.specs.Holding.{holds, address_of}
+use Rattle.acts.specs.Keys.{all_given}
 use Rattle.acts.specs.Flows.{acts_of, objects, flows}
+use Rattle.name_text.specs.Addresses.{text_of}
+use Rattle.entity_names.specs.Known.{NamesAs}
 use Rattle.proc_table.specs.Table.{StandsFor as LivesAs}
 use Rattle.fd_table.specs.Table.{HoldsAs, AddressesAs}
 use Rattle.flow_events.specs.declared.draft.Ground.{Ground}
@@ -25,6 +28,7 @@ pub record Grounded (ground : Ground) (before : List Taken) : Type 0 where
   pub addresses_are : AddressesAs ground.fds.now (acts_of before)
   pub births_are : BornAs ground.births.now (acts_of before)
   pub objects_are : ground.entities.now.keys ≡ objects (acts_of before)
+  pub names_are : NamesAs ground.entities.now (all_given text_of (acts_of before))
   pub flows_are : ground.flows ≡ length (flows before)
   pub admitted : Admitted (acts_of before)
   pub few : length before < 2 ^ 63 - 1

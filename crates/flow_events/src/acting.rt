@@ -3,7 +3,7 @@
 //! An event sees its process, has births and moves, and then at most one act of another kind. So after its first act
 //! the process is in one life, and holds what one process holds in the tables: itself, or its parent where the see
 //! linked them.
-ghost use Rattle.std.specs.Prelude.{◌≡◌, ◌==◌, ◌<◌, ◌++◌, ◌^◌, ◌-◌, ◌∷◌, ℕ, List, Option, IfOk, false};
+ghost use Rattle.std.specs.Prelude.{◌≡◌, ◌==◌, ◌<◌, ◌++◌, ◌^◌, ◌-◌, ◌∷◌, ℕ, List, Option, IfOk};
 ghost use Rattle.flow_base.specs.declared.types.Key.TheVariants as key;
 ghost use Rattle.acts.specs.declared.act.Act.{Act};
 ghost use Rattle.acts.specs.declared.act.Act.TheVariants as act;
@@ -12,12 +12,12 @@ ghost use Rattle.acts.specs.Admitted.{Admitted};
 ghost use Rattle.acts.specs.Lives.{life_of};
 ghost use Rattle.acts.specs.Births.{born, file_key, path_or_none};
 ghost use Rattle.acts.specs.Holding.{holds};
-ghost use Rattle.acts.specs.Keys.{object_key, held_key, thing_key, given};
+ghost use Rattle.acts.specs.Keys.{object_key, held_key, thing_key};
 ghost use Rattle.acts.specs.Flows.{between, link_of};
 ghost use Rattle.proc_table.specs.Table.{Table, StandsFor};
 ghost use Rattle.fd_table.specs.Table.{AddressesAs, Table as Descriptors};
 ghost use Rattle.flow_events.specs.Lives.{LivesBelow};
-ghost use Rattle.flow_events.specs.Acting.{IsActing, IsBorn, pair_if};
+ghost use Rattle.flow_events.specs.Acting.{IsActing, IsBorn};
 
 use crate::births::Births;
 use acts::{FileRef, Link, Object, Thing, copy_key, only_live_pids_hold, sees_hand_on};

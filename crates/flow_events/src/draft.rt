@@ -1,5 +1,5 @@
 //! What is worked out of an event, act by act.
-ghost use Rattle.std.specs.Prelude.{◌≡◌, ◌≤◌, ◌<◌, ◌+◌, ◌-◌, ◌++◌, ◌^◌, ◌∷◌, ℕ, [], List, Err, length, map, OnOk};
+ghost use Rattle.std.specs.Prelude.{◌≡◌, ◌≤◌, ◌<◌, ◌+◌, ◌-◌, ◌++◌, ◌^◌, ◌∷◌, [], List, Err, length, map, OnOk};
 ghost use Rattle.std.specs.Prelude.{All};
 ghost use Rattle.flow_base.specs.declared.limits.Full.{Full};
 ghost use Rattle.acts.specs.declared.act.Act.TheVariants as act;
@@ -21,9 +21,9 @@ ghost use Rattle.flow_events.specs.Entering.{pair_of};
 use crate::acting::{Acting, see_link};
 use crate::added::Added;
 use crate::births::{Births, bear};
-use crate::effects::see_name;
 use crate::fault::PrepareFault;
 use crate::given::Given;
+use crate::naming::{if_new, new_exe};
 use crate::steps::{link_of, name_of};
 use acts::{Act, Link};
 use entity_names::Entities;
@@ -127,7 +127,7 @@ impl Draft {
         ensures room { self.new.births ≡ self.old.births }
     {
         let link = see_link(ground.procs, acting.pid, ppid);
-        let name = see_name(acting, exe)?;
+        let name = new_exe(ground.entities, acting, exe)?;
         let at = Stamp {
             ms: ground.ms,
             place: ground.flows + self.added.count(),
@@ -175,6 +175,7 @@ impl Draft {
             act,
         )?;
         let name = name_of(ground.alloc, ground.births, &self.births, act)?;
+        let name = if_new(ground.entities, name);
         let at = Stamp {
             ms: ground.ms,
             place: ground.flows + self.added.count(),

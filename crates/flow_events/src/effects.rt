@@ -1,20 +1,19 @@
 //! What each act of an event does to descriptors and addresses, and which name it gives.
-ghost use Rattle.std.specs.Prelude.{◌≡◌, ◌==◌, ◌<◌, ◌++◌, ◌^◌, ◌-◌, ◌∷◌, ℕ, List, Option, None, Some, Bool, IfOk, length, option_copied};
+ghost use Rattle.std.specs.Prelude.{◌≡◌, ◌==◌, ◌<◌, ◌++◌, ◌∷◌, ℕ, List, Option, None, Some, Bool, IfOk, length, option_copied};
 ghost use Rattle.acts.specs.declared.act.Act.{Act};
 ghost use Rattle.acts.specs.declared.act.Act.TheVariants as act;
 ghost use Rattle.acts.specs.declared.act.Opens.TheVariants as opens;
 ghost use Rattle.acts.specs.declared.act.FileRef.{FileRef};
 ghost use Rattle.acts.specs.Admitted.{Admitted};
-ghost use Rattle.acts.specs.Lives.{life_of, begins};
 ghost use Rattle.acts.specs.Births.{file_key};
-ghost use Rattle.acts.specs.Holding.{holds, opened, object_or, address_of, addressed, socket_held};
+ghost use Rattle.acts.specs.Holding.{holds, opened, address_of, addressed, socket_held};
 ghost use Rattle.acts.specs.Keys.{given, name_if};
 ghost use Rattle.acts.specs.declared.held.Held.{Held};
 ghost use Rattle.flow_base.specs.declared.types.Key.TheVariants as key;
 ghost use Rattle.name_text.specs.Addresses.{text_of};
 ghost use Rattle.acts.specs.Standing.{is_awaiting};
 ghost use Rattle.proc_table.specs.Table.{Table, StandsFor, standing_of, at};
-ghost use Rattle.fd_table.specs.Table.{HoldsAs, Table as Descriptors};
+ghost use Rattle.fd_table.specs.Table.{HoldsAs};
 ghost use Rattle.flow_events.specs.Acting.{IsActing, IsBorn, DoesAs, address_through, pair_if, stated};
 ghost use Rattle.flow_events.specs.Entering.{pair_of};
 ghost use Rattle.flow_events.specs.Standing.{readdressed};

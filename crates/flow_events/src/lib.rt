@@ -13,6 +13,7 @@ mod fault;
 mod given;
 mod laws;
 mod lives;
+mod naming;
 mod parts;
 mod passes;
 mod plan;

@@ -1,5 +1,5 @@
 //! What an act does to lives.
-ghost use Rattle.std.specs.Prelude.{◌≡◌, ◌≤◌, ◌<◌, ◌+◌, ◌-◌, ◌^◌, ◌∷◌, List};
+ghost use Rattle.std.specs.Prelude.{◌≤◌, ◌+◌, ◌-◌, ◌^◌, ◌∷◌, List};
 ghost use Rattle.acts.specs.declared.act.Act.{Act};
 ghost use Rattle.proc_table.specs.Table.{StandsFor};
 ghost use Rattle.flow_events.specs.Lives.{LivesBelow};

@@ -1,5 +1,5 @@
 //! The parts of a plan, put in the order in which they are done.
-ghost use Rattle.std.specs.Prelude.{◌≡◌, ◌++◌, ◌∷◌, [], List, IfOk, map, reverse};
+ghost use Rattle.std.specs.Prelude.{◌≡◌, List, IfOk, map, reverse};
 
 use crate::given::Given;
 use acts::copy_key;

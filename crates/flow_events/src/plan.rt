@@ -1,5 +1,5 @@
 //! What an event will do, with all the memory for it.
-ghost use Rattle.std.specs.Prelude.{◌≡◌, ◌≤◌, ◌+◌, ℕ, IfOk, reverse};
+ghost use Rattle.std.specs.Prelude.{◌≡◌, ◌≤◌, ℕ, IfOk, reverse};
 ghost use Rattle.fd_table.specs.Table.{address_at};
 ghost use Rattle.flow_events.specs.Standing.{readdressed, addresses_in};
 
@@ -30,7 +30,7 @@ pub struct Plan {
     /// What the last act does to descriptors.
     pub last: Change,
     pub address: Option<NewAddress>,
-    /// The names that the acts give, the newest first.
+    /// The names that the acts give to keys which don't have them yet, the newest first.
     pub given: List<Given>,
     /// The objects that are new, the newest first.
     pub keys: List<Key>,

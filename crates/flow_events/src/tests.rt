@@ -1,6 +1,6 @@
 //! Events through the tables. The objects and flows that are wanted are worked out by hand from the rules of lives,
 //! descriptors, keys and flows; long runs of events are held against the plain program, which looks back over all acts.
-ghost use Rattle.std.specs.Prelude.{◌≡◌, ⊤, not};
+ghost use Rattle.std.specs.Prelude.{◌≡◌, ⊤};
 ghost use Rattle.acts.specs.LookBack.{opens};
 
 use crate::parts::newest_first;
@@ -202,7 +202,7 @@ fn body(alloc: Global, said: Said) -> Result<Body, NoMemory> {
     }
 }
 
-fn call(alloc: Global, step: &Step) -> Result<Body, NoMemory> {
+fn call(alloc: Global, step: &Step, exe: &'static str) -> Result<Body, NoMemory> {
     let (pid, ppid, number, exit, [a0, a1, a2], _) = *step;
     Ok(Body::Syscall(Syscall {
         arch: 0xc000_003e,
@@ -215,7 +215,7 @@ fn call(alloc: Global, step: &Step) -> Result<Body, NoMemory> {
         a3: 0,
         ppid,
         pid,
-        exe: Some(bytes(alloc, "/p")?),
+        exe: Some(bytes(alloc, exe)?),
     }))
 }
 
@@ -229,7 +229,7 @@ fn record(alloc: Global, body: Body) -> Record {
 
 fn records(alloc: Global, step: &Step) -> Result<List<Record>, NoMemory> {
     let mut records = List::new(alloc);
-    records.push(record(alloc, call(alloc, step)?))?;
+    records.push(record(alloc, call(alloc, step, "/p")?))?;
     for said in step.5 {
         records.push(record(alloc, body(alloc, *said)?))?;
     }
@@ -459,6 +459,48 @@ fn names_hold(alloc: Global) -> bool {
 #[test]
 fn objects_have_the_names_that_acts_gave_them(rt: HostRuntime) {
     assert!(rt; names_hold(rt.alloc()));
+}
+
+static PROGRAMS: [&str; 17] = [
+    "/a", "/b", "/c", "/d", "/e", "/f", "/g", "/h", "/i", "/j", "/k", "/l", "/m", "/n", "/o", "/p",
+    "/q",
+];
+
+// A process that runs this program reads.
+fn reads_as(
+    alloc: Global,
+    course: &mut Course,
+    program: &'static str,
+    number: u32,
+) -> Result<(), PrepareFault> {
+    let read: Step = (100, 1, 0, 5, [3, 0, 0], &[]);
+    let mut records = List::new(alloc);
+    records.push(record(alloc, call(alloc, &read, program)?))?;
+    course.take(alloc, &view(records.as_slice(), number))?;
+    Ok(())
+}
+
+// After each program the first one is given again.
+fn programs_are_kept(alloc: Global, course: &mut Course) -> Result<bool, PrepareFault> {
+    for program in PROGRAMS.iter() {
+        reads_as(alloc, course, *program, 0)?;
+        reads_as(alloc, course, PROGRAMS[0], 0)?;
+    }
+    let process = [EntityId(1)];
+    let first = has_name(course, PROGRAMS[0].as_bytes(), process.as_slice())?;
+    let sixteenth = has_name(course, PROGRAMS[15].as_bytes(), process.as_slice())?;
+    let none = has_name(course, PROGRAMS[16].as_bytes(), [].as_slice())?;
+    Ok(first && sixteenth && none)
+}
+
+fn programs_hold(alloc: Global) -> bool {
+    let mut course = Course::new(alloc, Limits::standard());
+    programs_are_kept(alloc, &mut course) == Ok(true)
+}
+
+#[test]
+fn a_name_given_again_takes_no_place_and_a_seventeenth_is_not_kept(rt: HostRuntime) {
+    assert!(rt; programs_hold(rt.alloc()));
 }
 
 fn small(entities: u32, flows: u64) -> Limits {

@@ -1,5 +1,5 @@
 //! How an event is worked out: its see, the births and moves after it, and its last act.
-ghost use Rattle.std.specs.Prelude.{◌≡◌, ◌≤◌, ◌<◌, ◌+◌, ◌-◌, ◌++◌, ◌^◌, ◌∷◌, ℕ, [], List, Err, IfErr, IfOk, length};
+ghost use Rattle.std.specs.Prelude.{◌≡◌, ◌≤◌, ◌<◌, ◌+◌, ◌-◌, ◌++◌, ◌^◌, ◌∷◌, [], List, Err, IfErr, IfOk, length};
 ghost use Rattle.flow_base.specs.declared.limits.Full.{Full};
 ghost use Rattle.acts.specs.declared.act.Act.TheVariants as act;
 ghost use Rattle.std.specs.Prelude.{All};

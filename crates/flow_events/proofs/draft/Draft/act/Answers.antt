@@ -1,12 +1,11 @@
-use Rattle.std.proofs.Common.{◌≡◌, ◌+◌, ◌-◌, ◌++◌, ◌^◌, ◌∙◌, ap, sym, length, map, ◌∷◌, append_assoc, arith}
-use Rattle.name_text.specs.Addresses.{text_of}
-use Rattle.acts.specs.Keys.{all_given}
+use Rattle.std.proofs.Common.{◌≡◌, ◌+◌, ◌-◌, ◌++◌, ◌^◌, ◌∙◌, ap, sym, subst, length, ◌∷◌, arith}
 use Rattle.acts.specs.Flows.{acts_of, objects, flows, link_of, with_ends}
-use Rattle.flow_events.specs.Acting.{IsBorn}
+use Rattle.flow_events.specs.Acting.{IsBorn, pair_if}
 use Rattle.flow_events.specs.Added.{flows_if}
-use Rattle.flow_events.specs.Entering.{pair_of}
+use Rattle.flow_events.specs.Entering.{NameAlike}
 use Rattle.std.proofs.lemmas.Result.{err_from_is_err_and}
 use Rattle.flow_events.proofs.Drafting.{few_births, joined, flows_after}
+use Rattle.flow_events.proofs.KnownNames.{named_after}
 use Rattle.flow_events.proofs.Past.{link_past}
 use Rattle.flow_events.proofs.draft.Draft.act.Goals as goal
 
@@ -61,15 +60,14 @@ returns-clause-next c = λ before now base acting so_far.
     let acts = acts_of now ++ acts_of before in
     let link = c.in_ok-link.ensures (acts_of before) (acts_of now) born acting in
     let name = c.in_ok-name.ensures (acts_of before) (acts_of now) born in
+    let named = subst (λ given. NameAlike c.args.ground.now.entities.now given (pair_if c.if_new-name.result)) name c.if_new-name.ensures in
     let objects_are : objects (act ∷ acts) ≡ known ++ c.add_link.new.added.keys =
     (λ i. with_ends (so_far.objects_are i) (sym link i)) ∙ sym c.in_ok-add_link.ensures.keys in
     record {
       before_are = so_far.before_are;
       now_are = c.bear.ensures.next (acts_of now) so_far.now_are;
-      names_are =
-          (λ i. so_far.names_are i ++ sym name i)
-          ∙ append_assoc (all_given text_of (acts_of before)) (map pair_of c.args.self.now.given) _
-          ∙ ap (λ pairs. all_given text_of (acts_of before) ++ pairs) (sym c.in_ok-put_name.ensures);
+      known_are = so_far.known_are;
+      names_are = named_after c.args.ground.now.entities.now _ _ _ _ _ _ so_far.known_are so_far.names_are named c.in_ok-put_name.ensures;
       objects_are = objects_are;
       flows_are =
           flows_after before now (record { act = act; ms = c.args.ground.now.ms; serial = c.args.ground.now.serial }) c.args.self.now.added.flows (known ++ c.add_link.new.added.keys) c.in_ok-link.link

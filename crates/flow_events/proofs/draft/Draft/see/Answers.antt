@@ -1,13 +1,14 @@
-use Rattle.std.proofs.Common.{◌≡◌, ◌+◌, ◌++◌, ◌∙◌, [], ap, sym, length, map, ◌∷◌, append_assoc}
-use Rattle.name_text.specs.Addresses.{text_of}
+use Rattle.std.proofs.Common.{◌≡◌, ◌+◌, ◌++◌, ◌∙◌, [], ap, sym, subst, length, ◌∷◌}
 use Rattle.flow_base.specs.declared.types.Key.TheVariants.{Process}
 use Rattle.acts.specs.declared.act.Act.TheVariants.{See}
-use Rattle.acts.specs.Keys.{all_given, name_if}
+use Rattle.acts.specs.Keys.{name_if}
 use Rattle.acts.specs.Flows.{acts_of, objects, flows, with_ends}
+use Rattle.flow_events.specs.Acting.{pair_if}
 use Rattle.flow_events.specs.Added.{flows_if}
-use Rattle.flow_events.specs.Entering.{pair_of}
+use Rattle.flow_events.specs.Entering.{NameAlike}
 use Rattle.std.proofs.lemmas.Result.{err_from_is_err_and}
 use Rattle.flow_events.proofs.Drafting.{flows_after}
+use Rattle.flow_events.proofs.KnownNames.{named_after}
 use Rattle.flow_events.proofs.Past.{link_past}
 use Rattle.flow_events.proofs.draft.Draft.see.Goals as goal
 
@@ -18,16 +19,14 @@ returns-clause-next c = λ before base lives life so_far.
     let act = See pid c.args.ppid exe in
     let known = c.args.ground.now.entities.now.keys in
     let link = c.see_link-link.ensures (acts_of before) exe lives in
-    let name = c.in_ok-name.ensures ∙ ap (λ l. name_if (Process pid l) exe) (sym life) in
+    let named = subst (λ l. NameAlike c.args.ground.now.entities.now (name_if (Process pid l) exe) (pair_if c.in_ok-name.name)) (sym life) c.in_ok-name.ensures in
     let objects_are : objects (act ∷ acts_of before) ≡ known ++ c.add_link.new.added.keys =
     (λ i. with_ends (so_far.objects_are i) (sym link i)) ∙ sym c.in_ok-add_link.ensures.keys in
     record {
       before_are = so_far.before_are;
       now_are = record { each = so_far.now_are.each };
-      names_are =
-          (λ i. so_far.names_are i ++ sym name i)
-          ∙ append_assoc (all_given text_of (acts_of before)) (map pair_of c.args.self.now.given) _
-          ∙ ap (λ pairs. all_given text_of (acts_of before) ++ pairs) (sym c.in_ok-put_name.ensures);
+      known_are = so_far.known_are;
+      names_are = named_after c.args.ground.now.entities.now _ _ _ _ _ _ so_far.known_are so_far.names_are named c.in_ok-put_name.ensures;
       objects_are = objects_are;
       flows_are =
           flows_after before [] (record { act = act; ms = c.args.ground.now.ms; serial = c.args.ground.now.serial }) c.args.self.now.added.flows (known ++ c.add_link.new.added.keys) c.see_link-link.result

@@ -2,10 +2,9 @@ use Rattle.std.proofs.Common.{◌≤◌, refl, ◌+◌, ◌++◌, ◌∙◌, ap,
 use Rattle.acts.specs.Keys.{all_given}
 use Rattle.acts.specs.Flows.{acts_of, flows}
 use Rattle.proc_table.specs.Table.{StandsFor as LivesAs}
-use Rattle.entity_names.specs.Known.{NamesAs}
 use Rattle.flow_events.specs.Births.{BornAs}
 use Rattle.flow_events.specs.Entering.{entered}
-use Rattle.flow_events.proofs.Applying.{held_after, addresses_after, names_kept}
+use Rattle.flow_events.proofs.Applying.{held_after, addresses_after, names_kept, same_kept}
 use Rattle.flow_events.proofs.tables.Tables.apply.Goals as goal
 
 pub returns-clause-next : goal.returns-clause-next
@@ -27,7 +26,7 @@ returns-clause-next c = λ text before now stands plan.
       objects_are = c.enter_all.ensures.keys
           ∙ ap (λ seen. entered seen done.keys) (ap (λ e. e.keys) c.give_all.ensures.rest ∙ stands.objects_are)
           ∙ sym plan.objects_are;
-      names_are = subst (λ all. NamesAs c.enter_all.new.entities all) (sym plan.names_are)
+      names_are = same_kept c.enter_all.new.entities _ _ plan.names_are
           (names_kept mid c.enter_all.new.entities _ c.enter_all.ensures.rest (c.give_all.ensures.next (all_given text (acts_of before)) stands.names_are));
       flows_are = (λ i. stands.flows_are i + ap length c.as_slice-3.ensures i) ∙ sym (length-append (flows before) done.flows) ∙ ap length (sym plan.flows_are);
       acts_are = (λ i. stands.acts_are i + ap length c.as_slice-4.ensures i) ∙ sym plan.count_is;

@@ -39,6 +39,7 @@ returns-clause-plan c = λ before may.
         addresses_are = stands.addresses_are;
         births_are = stands.births_are;
         objects_are = stands.objects_are;
+        names_are = stands.names_are;
         flows_are = stands.flows_are;
         admitted = may.admitted;
         few = (let few = may.few in omega (arith, few));
@@ -73,6 +74,7 @@ returns-in_err-worked-clause-full c =
         addresses_are = stands.addresses_are;
         births_are = stands.births_are;
         objects_are = stands.objects_are;
+        names_are = stands.names_are;
         flows_are = stands.flows_are;
         admitted = may.admitted;
         few = (let few = may.few in omega (arith, few));
