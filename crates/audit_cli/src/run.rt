@@ -1,5 +1,5 @@
 //! The top call: from words, a log, questions and a sink to a status.
-ghost use Rattle.std.specs.Prelude.{◌≡◌, ◌≢◌, ◌↔◌, ◌⊎◌, ◌^◌, ℕ, List, [], map, string_bytes, None, Some, OnOk, IfErr};
+ghost use Rattle.std.specs.Prelude.{◌≡◌, ◌↔◌, ◌⊎◌, ℕ, List, [], map, string_bytes, None, Some, OnOk, IfErr};
 ghost use Rattle.flow_base.specs.declared.limits.Full.{Full};
 ghost use Rattle.outside.specs.Cause.{Rose};
 ghost use Rattle.audit_cli.specs.declared.words.Job.{Job};

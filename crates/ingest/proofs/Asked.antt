@@ -1,12 +1,12 @@
 -- Facts on replies.
-use Rattle.std.proofs.Common.{◌≡◌, ◌<◌, ◌≤◌, subst, ap, sym, ℕ, List, length, arith, Option, None, Some}
+use Rattle.std.proofs.Common.{◌≡◌, ◌<◌, ◌≤◌, subst, ap, ℕ, List, length, None, Some}
 use Rattle.flow_base.specs.declared.limits.Limits.{Limits}
 use Rattle.flow_base.specs.declared.types.EntityId.{EntityId}
 use Rattle.flow_base.specs.declared.types.Flow.{Flow}
 use Rattle.record_join.specs.Events.{Joining}
 use Rattle.record_join.specs.declared.event.Event.{Event}
 use Rattle.reach_model.specs.declared.modes.Mode.{Mode}
-use Rattle.reach_model.specs.Rows.{Row, Keeps}
+use Rattle.reach_model.specs.Rows.{Keeps}
 use Rattle.reach_rows.specs.Asked.{IsAnswerable, subject}
 use Rattle.reach_rows.specs.declared.questions.Question.{Question}
 use Rattle.reach_rows.specs.declared.questions.Question.TheVariants as question

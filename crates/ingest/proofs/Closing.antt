@@ -8,11 +8,11 @@ use Rattle.flow_base.specs.declared.limits.Limits.{Limits}
 use Rattle.audit_lex.specs.declared.header.EventKey.{EventKey}
 use Rattle.audit_record.specs.declared.types.Record.{Record}
 use Rattle.record_join.specs.Keys.{is_key}
-use Rattle.record_join.specs.Events.{Joining, settled, waits, least_key, only_ripe, ripe_key, without, event_of, event_at, left_at, next_event, next_left}
+use Rattle.record_join.specs.Events.{Joining, settled, waits, least_key, is_ripe_at, only_ripe, ripe_key, without, event_of, event_at, left_at, next_event, next_left}
 use Rattle.record_join.specs.History.{released, left, released_after, left_after}
 use Rattle.record_join.specs.declared.event.Event.{Event}
-use Rattle.ingest.proofs.Turns.{one_release, one_left}
-use Rattle.ingest.proofs.Fewer.{least_waits, only_least}
+use Rattle.record_join.proofs.HoldsAll.{ripe_waits}
+use Rattle.record_join.proofs.Turns.{one_release, one_left}
 
 among_keys : (k : EventKey) (rs : List Record) → list_any (is_key k) (map (λ r. r.key) rs) ≡ waits k rs
 among_keys k [] = refl
@@ -35,13 +35,22 @@ ripe_where : (a b c d : Bool) (k : EventKey) → a ≡ true → (if a || b || c 
 ripe_where true b c d k e = refl
 ripe_where false b c d k e = absurd (true≢false (sym e))
 
+only_if : (ripe : Bool) (k m : EventKey) → (if ripe then Some k else None) ≡ Some m → k ≡ m
+only_if true k m e = cc e
+only_if false k m e = absurd (cc e)
+
 module _ (limits : Limits) where
+  -- the key that is ripe is the least
+  only_least : (s : Joining) (o : Option EventKey) (m : EventKey) → only_ripe limits s o ≡ Some m → o ≡ Some m
+  only_least s None m e = absurd (cc e)
+  only_least s (Some k) m e = ap Some (only_if (is_ripe_at limits s k) k m e)
+
   -- the group that is ripe stays ripe
   ripe_closed : (s : Joining) (k : EventKey) → ripe_key limits s ≡ Some k → ripe_key limits (settled s) ≡ Some k
   ripe_closed s k e =
-      let least = only_least limits s (least_key s.waiting) k e in
+      let least = only_least s (least_key s.waiting) k e in
       ap (only_ripe limits (settled s)) least
-      ∙ ripe_where (list_any (is_key k) (map (λ (r : Record). r.key) s.waiting)) _ _ _ k (among_keys k s.waiting ∙ least_waits s.waiting k least)
+      ∙ ripe_where (list_any (is_key k) (map (λ (r : Record). r.key) s.waiting)) _ _ _ k (among_keys k s.waiting ∙ ripe_waits limits s (least_key s.waiting) refl k e)
 
   -- one release of what waits, and then all that is closed
   one_closed : (s : Joining) (o : Option EventKey) → ripe_key limits s ≡ o

@@ -14,7 +14,7 @@ use Rattle.record_join.specs.Events.{Joining, enter, settled, next_left}
 use Rattle.record_join.specs.History.{Step as Told, Came, Settle as Settles, events, state, released_after, left_after}
 use Rattle.record_join.specs.declared.event.Event.{Event}
 use Rattle.ingest.proofs.Quiet.{quiet, quiet_released, quiet_left}
-use Rattle.ingest.proofs.Turns.{ends, one_release}
+use Rattle.record_join.proofs.Turns.{one_release}
 use Rattle.ingest.specs.Counting.{bytes_in}
 use Rattle.ingest.specs.Ending.{EndsLast}
 use Rattle.ingest.specs.Events.{lines_since, line_tells, lines_tell, tells_at, tells_after, state_of, events_of, released_at}
@@ -134,10 +134,10 @@ module _ (limits : Limits) where
   -- ---- nothing is ripe after a history
 
   pub nothing_released : (h : History) → released_after limits (state_of limits h) ≡ []
-  nothing_released h = quiet_released limits (state_of limits h) (quiet limits ends h)
+  nothing_released h = quiet_released limits (state_of limits h) (quiet limits h)
 
   pub nothing_left : (h : History) → left_after limits (state_of limits h) ≡ state_of limits h
-  nothing_left h = quiet_left limits (state_of limits h) (quiet limits ends h)
+  nothing_left h = quiet_left limits (state_of limits h) (quiet limits h)
 
   -- ---- standing and owing
 

@@ -1,63 +1,19 @@
 -- A release takes a record, and tells the time.
-use Rattle.std.proofs.Common.{◌≡◌, ◌≤◌, ◌<◌, ◌+◌, ◌++◌, ◌∙◌, sym, refl, ap, subst, ℕ, suc, Bool, true, false, not, List, [], ◌∷◌, length, filter, arith, length-append, Option, None, Some}
-use Rattle.std.specs.Prelude.{◌||◌, if◌then◌else◌}
-use Rattle.std.specs.List.{list_any}
-use Rattle.std.specs.Ordering.{is_eq}
-use Rattle.std.specs.Cmp.{IsTotalOrder, nat_cmp_total, on_total, then_total}
-use Rattle.std.proofs.lemmas.Bool.{true≢false, or_right}
-use Rattle.std.proofs.lemmas.Cmp.{tied_itself}
+use Rattle.std.proofs.Common.{◌≡◌, ◌≤◌, ◌<◌, ◌+◌, ◌++◌, ◌∙◌, sym, refl, ap, subst, ℕ, suc, Bool, true, false, [], ◌∷◌, length, arith, length-append, Option, None, Some}
+use Rattle.std.specs.Prelude.{if◌then◌else◌}
 use Rattle.flow_base.specs.declared.limits.Limits.{Limits}
 use Rattle.audit_lex.specs.declared.header.EventKey.{EventKey}
 use Rattle.audit_record.specs.declared.types.Record.{Record}
-use Rattle.record_join.specs.Keys.{key_cmp, is_key, is_below, ends_event}
+use Rattle.record_join.specs.Keys.{ends_event}
 use Rattle.record_join.specs.declared.clock.JoinClock.{JoinClock}
-use Rattle.record_join.specs.Events.{Joining, group_of, is_excess, close, put, enter, saw, waits, least_key, lesser_key, is_ripe_at, only_ripe, ripe_key, without, event_of, event_at, left_at, next_event, next_left}
+use Rattle.record_join.specs.Events.{Joining, group_of, is_excess, close, put, enter, saw, waits, ripe_key, without, event_of, event_at, left_at, next_event, next_left}
 use Rattle.record_join.specs.declared.event.Event.{Event}
-
-no_longer : {A : Type 0} (p : A → Bool) (xs : List A) → length (filter (λ x. not (p x)) xs) ≤ length xs
-no_longer p [] = omega arith
-no_longer p (x ∷ xs) = let ih = no_longer p xs in grind (arith, ih)
-
-pub shorter : {A : Type 0} (p : A → Bool) (xs : List A) → list_any p xs ≡ true → length (filter (λ x. not (p x)) xs) < length xs
-shorter p [] e = absurd (true≢false (sym e))
-shorter p (x ∷ xs) e = let ih = shorter p xs in let le = no_longer p xs in grind (arith, ih, le, e)
-
-key_cmp_total : IsTotalOrder key_cmp
-key_cmp_total = then_total (on_total (λ (k : EventKey). k.ms) nat_cmp_total) (on_total (λ (k : EventKey). k.serial) nat_cmp_total)
-
-is_itself : (k : EventKey) → is_key k k ≡ true
-is_itself k = ap is_eq (tied_itself key_cmp_total k)
+use Rattle.record_join.proofs.Turns.{fewer_left}
 
 inside : {A : Type 0} (a b : A) → Some a ≡ Some b → a ≡ b
 inside a b e = cc e
 
-here : (m : EventKey) (r : Record) (rs : List Record) → r.key ≡ m → waits m (r ∷ rs) ≡ true
-here m r rs e = ap (λ b. b || waits m rs) (ap (is_key m) e ∙ is_itself m)
-
-there : (m : EventKey) (r : Record) (rs : List Record) → waits m rs ≡ true → waits m (r ∷ rs) ≡ true
-there m r rs e = or_right (is_key m r.key) (waits m rs) e
-
-lesser_waits : (r : Record) (rs : List Record) (k m : EventKey) (below : Bool) → waits k rs ≡ true → (if below then k else r.key) ≡ m → waits m (r ∷ rs) ≡ true
-lesser_waits r rs k m true w e = there m r rs (subst (λ (z : EventKey). waits z rs ≡ true) e w)
-lesser_waits r rs k m false w e = here m r rs e
-
-pub least_waits : (rs : List Record) (m : EventKey) → least_key rs ≡ Some m → waits m rs ≡ true
-least_waits [] m e = absurd (cc e)
-least_waits (r ∷ rs) m e = join (least_key rs) (λ k. least_waits rs k) refl e
-  where
-    join : (o : Option EventKey) → ((k : EventKey) → least_key rs ≡ Some k → waits k rs ≡ true) → least_key rs ≡ o → Some (lesser_key r.key o) ≡ Some m → waits m (r ∷ rs) ≡ true
-    join None ih l e = here m r rs (inside _ _ e)
-    join (Some k) ih l e = lesser_waits r rs k m (is_below k r.key) (ih k l) (inside _ _ e)
-
 module _ (limits : Limits) (s : Joining) where
-  ripe_if : (ripe : Bool) (k m : EventKey) → (if ripe then Some k else None) ≡ Some m → k ≡ m
-  ripe_if true k m e = inside _ _ e
-  ripe_if false k m e = absurd (cc e)
-
-  pub only_least : (o : Option EventKey) (m : EventKey) → only_ripe limits s o ≡ Some m → o ≡ Some m
-  only_least None m e = absurd (cc e)
-  only_least (Some k) m e = ap Some (ripe_if (is_ripe_at limits s k) k m e)
-
   -- what the release of an event leaves
   pub record Released (event : Event) : Type 0 where
     pub fewer : length (next_left limits s).waiting < length s.waiting
@@ -68,11 +24,10 @@ module _ (limits : Limits) (s : Joining) where
   released_if : (event : Event) (o : Option EventKey) → ripe_key limits s ≡ o → Some event ≡ event_at s o → Released event
   released_if event None e is = absurd (cc is)
   released_if event (Some m) e is =
-      let there : waits m s.waiting ≡ true = least_waits s.waiting m (only_least (least_key s.waiting) m e) in
       let left : without s m ≡ next_left limits s = sym (ap (left_at s) e) in
       let event_is : event_of s m ≡ event = sym (inside _ _ is) in
       record {
-        fewer = subst (λ (t : Joining). length t.waiting < length s.waiting) left (shorter (λ (r : Record). is_key m r.key) s.waiting there);
+        fewer = fewer_left limits s m e;
         no_less = subst (λ (e : Event). s.clock.effective ≤ e.ms) event_is (omega arith);
         time = ap (λ (t : Joining). t.clock.effective) (sym left) ∙ ap (λ (e : Event). e.ms) event_is;
         excess = ap (λ (t : Joining). t.excess) (sym left);

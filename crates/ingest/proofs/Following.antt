@@ -1,12 +1,11 @@
 -- One more event is followed.
-use Rattle.std.proofs.Common.{◌≡◌, ◌≤◌, ◌<◌, ◌+◌, ◌*◌, ◌-◌, ◌^◌, ◌++◌, ◌∙◌, sym, refl, ap, subst, ℕ, suc, true, false, List, [], ◌∷◌, length, map, arith, append_assoc, append-nil, Option, None, Some}
-use Rattle.std.specs.Prelude.{is_some, reverse, OnSome, Result, Ok, Err}
+use Rattle.std.proofs.Common.{◌≡◌, ◌≤◌, ◌<◌, ◌+◌, ◌*◌, ◌-◌, ◌^◌, ◌++◌, ◌∙◌, sym, refl, ap, subst, ℕ, suc, true, List, [], ◌∷◌, length, map, arith, append-nil, Option, None, Some}
+use Rattle.std.specs.Prelude.{is_some, reverse, OnSome, Result, Err}
 use Rattle.std.specs.List.{flat_map}
-use Rattle.std.proofs.lemmas.List.{map-append, reverse-append}
+use Rattle.std.proofs.lemmas.List.{map-append}
 use Rattle.name_text.specs.Addresses.{text_of}
 use Rattle.flow_base.specs.declared.limits.Limits.{Limits}
 use Rattle.flow_base.specs.declared.limits.Full.{Full}
-use Rattle.flow_base.specs.declared.types.Flow.{Flow}
 use Rattle.reach_model.specs.Flows.{IsLawful}
 use Rattle.reach_model.specs.Numbers.{IsNumbered, IsLawfulWith, known}
 use Rattle.record_join.specs.Events.{Joining, ripe_key, next_event, next_left}

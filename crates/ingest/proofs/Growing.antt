@@ -1,8 +1,7 @@
 -- Objects and flows grow with the acts.
-use Rattle.std.proofs.Common.{◌≡◌, ◌≤◌, ◌<◌, ◌||◌, subst, ◌+◌, ◌++◌, ◌∙◌, sym, refl, ap, ℕ, Bool, true, false, List, [], ◌∷◌, length, map, arith, append_assoc, append-nil, length-append, Option, None, Some, if◌then◌else◌}
+use Rattle.std.proofs.Common.{◌≡◌, ◌≤◌, ◌+◌, ◌++◌, ◌∙◌, sym, refl, ap, Bool, true, false, List, [], ◌∷◌, length, map, arith, length-append, Option, None, Some, if◌then◌else◌}
 use Rattle.std.specs.Prelude.{reverse}
-use Rattle.std.specs.List.{list_any, flat_map, All}
-use Rattle.std.proofs.lemmas.List.Elements.{All-head, All-tail}
+use Rattle.std.specs.List.{list_any, flat_map}
 use Rattle.std.proofs.lemmas.List.{map-append, reverse-append}
 use Rattle.std.proofs.lemmas.Grind.{flat_map-append}
 use Rattle.flow_base.specs.declared.types.Key.{Key}
@@ -13,11 +12,8 @@ use Rattle.acts.specs.declared.act.Act.{Act}
 use Rattle.acts.specs.declared.act.Taken.{Taken}
 use Rattle.acts.specs.declared.link.Link.{Link}
 use Rattle.acts.specs.Keys.{put_new}
-use Rattle.acts.specs.LookBack.{opens, any_opens}
-use Rattle.std.proofs.lemmas.Bool.{or_parts}
 use Rattle.acts.specs.Flows.{acts_of, objects, flows, flow_if, link_of, with_ends}
-use Rattle.ingest.specs.Events.{taken_at, taken_by, taken_in}
-use Rattle.ingest.specs.EventActs.{acts_of_event}
+use Rattle.ingest.specs.Events.{taken_by, taken_in}
 
 put_if : (seen : List Key) (x : Key) (known : Bool) → length seen ≤ length (if known then seen else seen ++ x ∷ [])
 put_if seen x true = omega arith

@@ -13,7 +13,6 @@ pub mod Releasing
 pub mod Following
 pub mod Quiet
 pub mod FewEvents
-pub mod Turns
 pub mod Closing
 pub mod EngineSteps
 pub mod StopLemmas

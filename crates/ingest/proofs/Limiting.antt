@@ -1,14 +1,12 @@
 -- Limits that are passed stay passed.
-use Rattle.std.proofs.Common.{◌≡◌, ◌≤◌, ◌<◌, ◌+◌, ◌++◌, ◌∙◌, ◌⊎◌, inl, inr, sym, refl, ap, subst, ℕ, Bool, true, false, List, [], ◌∷◌, length, arith, append_assoc, Option, None, Some, nat_lt, if◌then◌else◌, rules}
+use Rattle.std.proofs.Common.{◌≡◌, ◌≤◌, ◌+◌, ◌++◌, ◌∙◌, inl, inr, sym, ap, subst, ℕ, List, [], ◌∷◌, length, arith, append_assoc, Option, None, Some}
 use Rattle.std.proofs.lemmas.Grind.{common_steps}
 use Rattle.flow_base.specs.declared.limits.Limits.{Limits}
 use Rattle.flow_base.specs.declared.limits.Full.{Full}
-use Rattle.flow_base.specs.declared.limits.Limit.TheVariants as limit
 use Rattle.audit_lex.specs.History.{History, Step}
 use Rattle.record_join.specs.declared.event.Event.{Event}
-use Rattle.acts.specs.Flows.{acts_of, objects, flows}
+use Rattle.acts.specs.Flows.{objects, flows}
 use Rattle.acts.specs.LookBack.{full_by}
-use Rattle.acts.specs.declared.act.Taken.{Taken}
 use Rattle.ingest.specs.Counting.{bytes_in}
 use Rattle.ingest.specs.Events.{taken_in, objects_in, flows_in, events_of, released_at, tells_after, state_of}
 use Rattle.record_join.specs.History.{events}

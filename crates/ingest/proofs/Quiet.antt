@@ -11,11 +11,7 @@ use Rattle.ingest.specs.Owing.{MayOwe}
 use Rattle.ingest.specs.Parts.{Engine}
 use Rattle.ingest.specs.StandsFor.{JoinedStandsFor, StandsFor}
 use Rattle.ingest.proofs.Limiting.{fit_so}
-use Rattle.ingest.proofs.Releasing.{none_released, none_left}
-
--- the law of joining: after all releases nothing is ripe
-abbrev pub ReleasesEnd : Type 0
-ReleasesEnd = (limits : Limits) (s : Joining) → ripe_key limits (left_after limits s) ≡ None
+use Rattle.record_join.proofs.Turns.{none_released, none_left, ends}
 
 no_key : (s : Joining) (o : Option EventKey) → event_at s o ≡ None → o ≡ None
 no_key s None e = refl
@@ -30,13 +26,13 @@ module _ (limits : Limits) where
   pub none_next : (s : Joining) → ripe_key limits s ≡ None → next_event limits s ≡ None
   none_next s e = ap (event_at s) e
 
-  quiet_after : ReleasesEnd → (s : Joining) (steps : List Told) → ripe_key limits s ≡ None → ripe_key limits (state limits s steps) ≡ None
-  quiet_after ends s [] e = e
-  quiet_after ends s (step ∷ steps) e = quiet_after ends (left_after limits (told limits s step)) steps (ends limits (told limits s step))
+  quiet_after : (s : Joining) (steps : List Told) → ripe_key limits s ≡ None → ripe_key limits (state limits s steps) ≡ None
+  quiet_after s [] e = e
+  quiet_after s (step ∷ steps) e = quiet_after (left_after limits (told limits s step)) steps (ends limits (told limits s step))
 
   -- after every history nothing is ripe
-  pub quiet : ReleasesEnd → (h : History) → ripe_key limits (state_of limits h) ≡ None
-  quiet ends h = quiet_after ends start (told_of limits h) refl
+  pub quiet : (h : History) → ripe_key limits (state_of limits h) ≡ None
+  quiet h = quiet_after start (told_of limits h) refl
 
   -- where nothing is ripe, nothing is released, and all is left
   pub quiet_released : (s : Joining) → ripe_key limits s ≡ None → released_after limits s ≡ []
@@ -46,9 +42,9 @@ module _ (limits : Limits) where
   quiet_left s e = none_left limits (length s.waiting) s e
 
   -- what stands owes nothing
-  pub stands_owes : ReleasesEnd → (engine : Engine) (h : History) → StandsFor limits engine h → (w : MayOwe limits engine h) × (next_event limits w.rest ≡ None)
-  stands_owes ends engine h stands =
-      let still = quiet ends h in
+  pub stands_owes : (engine : Engine) (h : History) → StandsFor limits engine h → (w : MayOwe limits engine h) × (next_event limits w.rest ≡ None)
+  stands_owes engine h stands =
+      let still = quiet h in
       let owes : MayOwe limits engine h = record {
         reader = stands.reader;
         rest = state_of limits h;

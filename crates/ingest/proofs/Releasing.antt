@@ -1,32 +1,26 @@
 -- A loop that releases all that is ripe, and follows each event.
-use Rattle.std.proofs.Common.{◌≡◌, ◌≤◌, ◌<◌, ◌+◌, ◌^◌, ◌++◌, ◌∙◌, sym, refl, ap, subst, ℕ, zero, suc, Bool, true, false, List, [], ◌∷◌, length, arith, append_assoc, append-nil, length-append, Option, None, Some}
-use Rattle.std.specs.Prelude.{is_some, Result, Ok, Err}
+use Rattle.std.proofs.Common.{◌≡◌, ◌≤◌, ◌<◌, ◌+◌, ◌^◌, ◌++◌, ◌∙◌, sym, refl, ap, subst, true, false, List, [], ◌∷◌, length, arith, append_assoc, append-nil, length-append, Option, None, Some}
+use Rattle.std.specs.Prelude.{is_some}
 use Rattle.std.specs.Option.{option_to_list}
 use Rattle.std.proofs.lemmas.Bool.{true≢false}
 use Rattle.flow_base.specs.declared.limits.Limits.{Limits}
 use Rattle.flow_base.specs.declared.limits.Full.{Full}
 use Rattle.audit_lex.specs.declared.header.EventKey.{EventKey}
 use Rattle.audit_record.specs.declared.types.Record.{Record}
-use Rattle.record_join.specs.Events.{Joining, enter, settled, ripe_key, event_of, event_at, left_at, next_event, next_left}
+use Rattle.record_join.specs.Events.{Joining, enter, ripe_key, event_of, event_at, next_event, next_left}
 use Rattle.record_join.specs.History.{released, left, released_after, left_after}
 use Rattle.record_join.specs.StandsFor.{Joiner, StandsFor as JoinStandsFor}
 use Rattle.record_join.specs.declared.clock.JoinClock.{JoinClock}
 use Rattle.record_join.specs.declared.event.Event.{Event}
-use Rattle.acts.specs.Flows.{latest, TimesNeverFall}
 use Rattle.flow_events.specs.declared.tables.Tables.{Tables}
 use Rattle.kept_flows.specs.KeptFlows.{KeptFlows}
 use Rattle.ingest.specs.Owing.{IsOwed, OwesBy, NextPasses}
 use Rattle.ingest.specs.Parts.{Joined}
 use Rattle.ingest.specs.StandsFor.{IsInTime, JoinedStandsFor}
-use Rattle.ingest.specs.Stops.{full_of}
 use Rattle.ingest.specs.declared.stop.StopWhy.{StopWhy}
 use Rattle.ingest.specs.declared.stop.StopWhy.TheVariants as why
+use Rattle.record_join.proofs.Turns.{none_released, none_left, one_release, one_left}
 use Rattle.ingest.proofs.Fewer.{released_so, enter_time}
-
--- the laws of joining that the loop needs
-pub record Ends : Type 0 where
-  pub events : (limits : Limits) (s : Joining) → released_after limits s ≡ option_to_list (next_event limits s) ++ released_after limits (next_left limits s)
-  pub left : (limits : Limits) (s : Joining) → left_after limits s ≡ left_after limits (next_left limits s)
 
 -- some events of those that s releases were followed, and the rest is left
 pub record IsUnderWay (limits : Limits) (s : Joining) (before : List Event) (joined : Joined) : Type 0 where
@@ -53,28 +47,20 @@ module _ (limits : Limits) where
       by None e = refl
       by (Some key) e = absurd (true≢false e)
 
-  pub none_released : (n : ℕ) (s : Joining) → ripe_key limits s ≡ None → released n limits s ≡ []
-  none_released zero s e = refl
-  none_released (suc n) s e = ap (λ (o : Option EventKey). option_to_list (event_at s o) ++ released n limits (left_at s o)) e ∙ none_released n s e
-
-  pub none_left : (n : ℕ) (s : Joining) → ripe_key limits s ≡ None → left n limits s ≡ s
-  none_left zero s e = refl
-  none_left (suc n) s e = ap (λ (o : Option EventKey). left n limits (left_at s o)) e ∙ none_left n s e
-
   pub all_done : (s : Joining) (before : List Event) (joined : Joined) (w : IsUnderWay limits s before joined) → is_some (ripe_key limits w.rest) ≡ false
       → JoinedStandsFor limits joined (left_after limits s) (before ++ released_after limits s)
   all_done s before joined w none =
       let quiet = not_ripe w.rest none in
-      let left : w.rest ≡ left_after limits s = sym (none_left (length w.rest.waiting) w.rest quiet) ∙ w.left_is in
-      let done : w.done ≡ released_after limits s = sym (append-nil w.done) ∙ ap (λ l. w.done ++ l) (sym (none_released (length w.rest.waiting) w.rest quiet)) ∙ w.done_is in
+      let left : w.rest ≡ left_after limits s = sym (none_left limits (length w.rest.waiting) w.rest quiet) ∙ w.left_is in
+      let done : w.done ≡ released_after limits s = sym (append-nil w.done) ∙ ap (λ l. w.done ++ l) (sym (none_released limits (length w.rest.waiting) w.rest quiet)) ∙ w.done_is in
       subst (λ (t : Joining). JoinedStandsFor limits joined t (before ++ released_after limits s)) left
       (subst (λ (l : List Event). JoinedStandsFor limits joined w.rest (before ++ l)) done w.stands)
 
-  goes_by : (s : Joining) (before : List Event) (joined after : Joined) (event : Event) (w : IsUnderWay limits s before joined) → Ends
+  goes_by : (s : Joining) (before : List Event) (joined after : Joined) (event : Event) (w : IsUnderWay limits s before joined)
       → Some event ≡ next_event limits w.rest
       → JoinedStandsFor limits after (next_left limits w.rest) ((before ++ w.done) ++ event ∷ [])
       → IsUnderWay limits s before after
-  goes_by s before joined after event w ends is stands =
+  goes_by s before joined after event w is stands =
       let so = released_so limits w.rest event is in
       let parts : (before ++ w.done) ++ event ∷ [] ≡ before ++ (w.done ++ event ∷ []) = append_assoc before w.done (event ∷ []) in
       let longer : length ((before ++ w.done) ++ event ∷ []) ≡ length (before ++ w.done) + 1 = length-append (before ++ w.done) (event ∷ []) in
@@ -85,9 +71,9 @@ module _ (limits : Limits) where
         done_is =
             append_assoc w.done (event ∷ []) (released_after limits (next_left limits w.rest))
             ∙ ap (λ (o : Option Event). w.done ++ (option_to_list o ++ released_after limits (next_left limits w.rest))) is
-            ∙ ap (λ (es : List Event). w.done ++ es) (sym (ends.events limits w.rest))
+            ∙ ap (λ (es : List Event). w.done ++ es) (sym (one_release limits w.rest))
             ∙ w.done_is;
-        left_is = sym (ends.left limits w.rest) ∙ w.left_is;
+        left_is = sym (one_left limits w.rest) ∙ w.left_is;
         few = subst (λ (l : List Event). length l + length (next_left limits w.rest).waiting ≤ 2 ^ 61) parts (omega (arith, longer, w.few, so.fewer));
       }
 
@@ -97,12 +83,12 @@ Follows old new = (limits : Limits) (s : Joining) (released : List Event) (event
     → JoinedStandsFor limits new (next_left limits s) (released ++ event ∷ [])
 
 -- one more event is followed
-pub goes_on : (limits : Limits) (s : Joining) (before : List Event) (joined after : Joined) (w : IsUnderWay limits s before joined) → Ends
+pub goes_on : (limits : Limits) (s : Joining) (before : List Event) (joined after : Joined) (w : IsUnderWay limits s before joined)
     → is_some (ripe_key limits w.rest) ≡ true → Follows joined after → IsUnderWay limits s before after
-goes_on limits s before joined after w ends ripe follows =
+goes_on limits s before joined after w ripe follows =
     let next = ripe_event limits w.rest ripe in
     let few : length (before ++ w.done) < 2 ^ 62 = omega (arith, w.few) in
-    goes_by limits s before joined after next.0 w ends (sym next.1) (follows limits w.rest (before ++ w.done) next.0 w.stands few next.1)
+    goes_by limits s before joined after next.0 w (sym next.1) (follows limits w.rest (before ++ w.done) next.0 w.stands few next.1)
 
 -- the event that was refused is owed with those behind it
 pub owed : (limits : Limits) (s : Joining) (before : List Event) (joined after : Joined) (cause : StopWhy) (w : IsUnderWay limits s before joined)

@@ -1,5 +1,5 @@
 -- What an engine stands for.
-use Rattle.std.specs.Prelude.{◌≡◌, ◌≤◌, ◌+◌, ◌^◌, ◌-◌, ℕ, List, [], false, length, None}
+use Rattle.std.specs.Prelude.{◌≡◌, ◌≤◌, ◌^◌, ℕ, List, [], false, None}
 use Rattle.flow_base.specs.declared.limits.Limits.{Limits}
 use Rattle.audit_lex.specs.History.{History}
 use Rattle.audit_lex.specs.LineCut.{Cutter, StandsFor as CutStandsFor}

@@ -1,5 +1,5 @@
 //! The engine.
-ghost use Rattle.std.specs.Prelude.{◌≡◌, ◌≤◌, ◌<◌, ◌+◌, ◌^◌, ◌++◌, ◌⊎◌, ◌∷◌, [], ℕ, List, Some, Err, false, length, take, is_some, OnOk, OnErr, IfOk, IfErr};
+ghost use Rattle.std.specs.Prelude.{◌≡◌, ◌≤◌, ◌<◌, ◌+◌, ◌^◌, ◌++◌, ◌⊎◌, ◌∷◌, [], Some, Err, false, length, take, is_some, OnOk, OnErr, IfOk, IfErr};
 ghost use Rattle.std.specs.List.{position_or_len};
 ghost use Rattle.memchr.specs.Find.{is_byte};
 ghost use Rattle.flow_base.specs.declared.limits.Full.{Full};
@@ -9,7 +9,7 @@ ghost use Rattle.record_join.specs.Events.{next_event};
 ghost use Rattle.kept_flows.specs.Answering.{NeverFail};
 ghost use Rattle.ingest.specs.Ending.{EndsLast};
 ghost use Rattle.ingest.specs.Events.{events_of};
-ghost use Rattle.ingest.specs.Owing.{MayOwe, Halts, HaltsSettling, OwesFor};
+ghost use Rattle.ingest.specs.Owing.{MayOwe, Halts, HaltsSettling};
 ghost use Rattle.ingest.specs.Replies.{IsQuestion, IsReply};
 ghost use Rattle.ingest.specs.StandsFor.{StandsFor, HasNoTail};
 ghost use Rattle.ingest.specs.Stops.{Fits, Stops, StopsFor};

@@ -1,5 +1,5 @@
 //! How many events there were.
-ghost use Rattle.std.specs.Prelude.{◌≡◌, ◌<◌, ◌≤◌, ◌^◌, ◌++◌, ◌∷◌, [], List, length};
+ghost use Rattle.std.specs.Prelude.{◌≡◌, ◌<◌, ◌^◌, ◌++◌, ◌∷◌, [], List, length};
 ghost use Rattle.record_join.specs.declared.event.Event.{Event};
 ghost use Rattle.ingest.specs.Counting.{counts_in};
 ghost use Rattle.ingest.specs.EventActs.{is_unmapped};

@@ -2,7 +2,7 @@
 //!
 //! An event that is ripe is prepared by the tables, with all the memory for it. Then its flows are taken in, and last the
 //! tables follow it, which can't fail: so an event that is refused has changed nothing, and stays in the joiner.
-ghost use Rattle.std.specs.Prelude.{◌≡◌, ◌≤◌, ◌<◌, ◌+◌, ◌^◌, ◌++◌, ◌∷◌, [], ℕ, suc, List, None, Some, Err, true, length, is_some, OnOk, IfOk, OnErr, IfErr};
+ghost use Rattle.std.specs.Prelude.{◌≡◌, ◌≤◌, ◌<◌, ◌+◌, ◌^◌, ◌++◌, ◌∷◌, [], suc, List, None, Some, Err, true, length, is_some, OnOk, IfOk, OnErr, IfErr};
 ghost use Rattle.flow_base.specs.declared.limits.Full.{Full};
 ghost use Rattle.flow_base.specs.declared.limits.Limits.{Limits};
 ghost use Rattle.record_join.specs.Events.{Joining, enter, settled, count_keys, ripe_key, next_event, next_left};
@@ -24,7 +24,6 @@ ghost use Rattle.ingest.specs.Following.{HasTaken, MayComeAt, turned_by};
 ghost use Rattle.ingest.specs.Owing.{IsOwed, NextPasses};
 ghost use Rattle.ingest.specs.Replies.{KeepsSoMany};
 ghost use Rattle.ingest.specs.StandsFor.{JoinedStandsFor};
-ghost use Rattle.ingest.specs.Stops.{full_of};
 ghost use Rattle.ingest.specs.declared.stop.StopWhy.TheVariants as why;
 ghost use Rattle.flow_events.specs.declared.fault.PrepareFault.TheVariants as fault;
 
@@ -39,7 +38,7 @@ use kept_flows::KeptFlows;
 use query_walk::WalkFault;
 use reach_model::Mode;
 use reach_rows::{Keep, Question, Reducer};
-use record_join::{EventView, Join, Taken as Entered, releases_end};
+use record_join::{EventView, Join, Taken as Entered};
 use std::alloc::Global;
 use std::marker::Model;
 
@@ -122,7 +121,6 @@ impl<R: Reducer, K: Keep> EventFlows<R, K> {
         ensures owed { IfErr result (λ cause. (limits : Limits) (s : Joining) (released : List TheEvent) → JoinedStandsFor limits self.old s released → length released + length s.waiting ≤ 2 ^ 61
             → IsOwed limits self.new s released cause) }
     {
-        releases_end();
         while self.join.ripe() {
             match self.follow() {
                 Ok(()) => {}

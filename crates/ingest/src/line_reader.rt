@@ -1,14 +1,14 @@
 //! The lines of a log: cut, counted and read.
 //!
 //! A line that came whole is read where it stands. Only a line that began in an earlier piece is held.
-ghost use Rattle.std.specs.Prelude.{◌≡◌, ◌≤◌, ◌<◌, ◌+◌, ◌⊎◌, ◌^◌, ◌++◌, ◌∷◌, [], ℕ, List, None, Some, true, false, length, IfOk, OnOk, OnErr};
+ghost use Rattle.std.specs.Prelude.{◌≡◌, ◌≤◌, ◌<◌, ◌+◌, ◌⊎◌, ◌^◌, ◌++◌, ◌∷◌, [], None, Some, true, false, length, IfOk, OnOk, OnErr};
 ghost use Rattle.std.specs.List.{position_or_len};
 ghost use Rattle.memchr.specs.Find.{is_byte};
 ghost use Rattle.flow_base.specs.declared.limits.Limits.{Limits};
 ghost use Rattle.audit_record.specs.declared.types.Record.{Record as TheRecord};
 ghost use Rattle.audit_lex.specs.History.{History, Settle, with_bytes, lines_of, tail_of};
-ghost use Rattle.audit_lex.specs.Lexing.{class_seen, LendsLine};
-ghost use Rattle.audit_lex.specs.LineClass.{Blank, class_of};
+ghost use Rattle.audit_lex.specs.Lexing.{class_seen};
+ghost use Rattle.audit_lex.specs.LineClass.{class_of};
 ghost use Rattle.audit_lex.specs.LineCut.{StandsFor as CutStandsFor};
 ghost use Rattle.ingest.specs.Counting.{tally_of_lines, total};
 ghost use Rattle.ingest.specs.LineRecords.{record_of};
@@ -216,9 +216,7 @@ fn count_line(
 // The class of the line that ends with these bytes. One that is too long is held without its text.
 fn class_of_line<'a>(cut: &'a LineCut, part: &'a [u8], limit: usize) -> Lexed<'a>
     requires whole { ((cut.now.tail ≡ []) × (cut.now.long ≡ false)) ⊎ (part.now ≡ []) }
-    ensures class { (h : History) → CutStandsFor cut.now h → cut.now.limit ≡ limit → class_seen result ≡ class_of limit (tail_of h ++ part.now) }
-    ensures lends { (h : History) → CutStandsFor cut.now h → cut.now.limit ≡ limit → LendsLine result (tail_of h ++ part.now) }
-    ensures nothing { cut.now.tail ≡ [] → cut.now.long ≡ false → part.now ≡ [] → class_seen result ≡ Blank }
+    ensures { (h : History) → CutStandsFor cut.now h → cut.now.limit ≡ limit → class_seen result ≡ class_of limit (tail_of h ++ part.now) }
 {
     if cut.long() {
         return Lexed::Malformed(LineFault::TooLong);

@@ -5,7 +5,6 @@ ghost use Rattle.flow_base.specs.declared.types.Flow.{Flow};
 ghost use Rattle.audit_lex.specs.History.{History};
 ghost use Rattle.record_join.specs.Events.{Joining};
 ghost use Rattle.record_join.specs.declared.event.Event.{Event};
-ghost use Rattle.reach_rows.specs.Asked.{subject};
 ghost use Rattle.kept_flows.specs.Answering.{AreAnswers, NeverFail};
 ghost use Rattle.ingest.specs.Replies.{AnswersQuestion, SaysAnswers, SaysCounts};
 ghost use Rattle.ingest.specs.StandsFor.{ReaderStandsFor, JoinedStandsFor};
@@ -30,22 +29,13 @@ pub fn answer_question<R: Reducer, K: Keep>(
     ensures never { NeverFail K.faults K.spent → IfErr result (λ why. why ≡ fault.NoMemory) }
     ensures same { joined.new ≡ joined.old }
 {
-    if subject_of(question).0 >= joined.known() {
+    if question.subject().0 >= joined.known() {
         return Ok(Reply::Unknown);
     }
     match joined.ask(question) {
         Ok(None) => Ok(Reply::NotKept),
         Ok(Some(ids)) => Ok(say(joined.mode(), question, ids)),
         Err(fault) => Err(fault_of(fault)),
-    }
-}
-
-// The object that a question is about.
-fn subject_of(question: &Question) -> EntityId
-    ensures { result.0 ≡ subject question.now }
-{
-    match *question {
-        Question::Back { of, until: _ } | Question::Fore { of, since: _ } => of,
     }
 }
 

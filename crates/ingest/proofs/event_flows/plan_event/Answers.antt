@@ -1,4 +1,4 @@
-use Rattle.std.proofs.Common.{◌≡◌, arith, ap, length, Err}
+use Rattle.std.proofs.Common.{arith, ap, length, Err}
 use Rattle.name_text.specs.Addresses.{text_of}
 use Rattle.ingest.proofs.Following.{may_follow, same_err}
 use Rattle.ingest.proofs.event_flows.plan_event.Goals as goal

@@ -2,4 +2,4 @@ use Rattle.ingest.proofs.Quiet.{stands_owes}
 use Rattle.ingest.proofs.laws.what_stands_owes_nothing.Goals as goal
 
 pub returns : goal.returns
-returns c = λ limits engine h stands. stands_owes limits c.releases_end.ensures.ends engine h stands
+returns c = stands_owes

@@ -21,4 +21,4 @@ returns-clause-counted c = then_ok c.count.result _ _ (λ is. λ h stands line b
     let number : c.lines.result + 1 ≡ length (lines_of h) + 1 = omega (arith, c.lines.ensures, stands.count) in
     is
     ∙ ap (λ n. one_counted c.args.limits.now.shown c.args.tally.now (record { number = n; class = class })) number
-    ∙ class_more c.args.limits.now c.args.tally.now (lines_of h) (tail_of h ++ c.args.part.now) class before (c.class_of_line-class.ensures.class h stands line)) c.count.ensures.ok
+    ∙ class_more c.args.limits.now c.args.tally.now (lines_of h) (tail_of h ++ c.args.part.now) class before (c.class_of_line-class.ensures h stands line)) c.count.ensures.ok

@@ -1,4 +1,4 @@
-use Rattle.std.proofs.Common.{◌≡◌, refl, arith, []}
+use Rattle.std.proofs.Common.{refl, arith, []}
 use Rattle.name_text.specs.Addresses.{text_of}
 use Rattle.record_join.specs.History.{start}
 use Rattle.ingest.proofs.Limiting.{full_none}

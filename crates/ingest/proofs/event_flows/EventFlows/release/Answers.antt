@@ -1,13 +1,12 @@
-use Rattle.std.proofs.Common.{◌≡◌, ◌∙◌, sym, ap, Err}
-use Rattle.ingest.proofs.Releasing.{Ends, joined_at, goes_on, owed, all_done}
+use Rattle.std.proofs.Common.{◌∙◌, sym, ap, Err}
+use Rattle.ingest.proofs.Releasing.{joined_at, goes_on, owed, all_done}
 use Rattle.ingest.proofs.event_flows.EventFlows.release.Goals as goal
 
 pub loop-self-preserved : goal.loop-self-preserved
 loop-self-preserved g c = λ limits s released stands few.
     let w = c.loop-self.invariant limits s released stands few in
-    let ends : Ends = record { events = c.releases_end.ensures.events; left = c.releases_end.ensures.left } in
     let own = joined_at limits _ _ w.rest _ c.self.view_is w.stands in
-    goes_on limits s released _ _ w ends (sym (c.ripe.ensures limits w.rest own.join) ∙ c.loop-self-test.true) c.in-Ok.ensures.next
+    goes_on limits s released _ _ w (sym (c.ripe.ensures limits w.rest own.join) ∙ c.loop-self-test.true) c.in-Ok.ensures.next
 
 pub returns-in-Err-clause-owed : goal.returns-in-Err-clause-owed
 returns-in-Err-clause-owed g c = λ limits s released stands few.
