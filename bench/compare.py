@@ -44,14 +44,19 @@ def answers(words, questions):
     return subprocess.run(words, input=questions, stdout=subprocess.PIPE, check=False).stdout.split(b'\n')
 
 
-def differs(options, mode, log, seed):
-    questions = questions_for(log, seed)
-    got = answers([options.program, 'watch', mode, log], questions)
-    want = answers([sys.executable, os.path.join(HERE, 'plain_reading.py'), mode, log, '--calls', options.calls], questions)
+def difference(program, mode, log, questions, calls='all'):
+    """Where the program's answers and those of the plain reading part first, or None."""
+    got = answers([program, 'watch', mode, log], questions)
+    want = answers([sys.executable, os.path.join(HERE, 'plain_reading.py'), mode, log, '--calls', calls], questions)
     for number, (one, other) in enumerate(zip(got, want)):
         if one != other:
-            return f'{mode}, {log}: line {number + 1}, {questions.splitlines()[number]!r}: {one[:300]!r}, but by the plain reading {other[:300]!r}'
-    return f'{mode}, {log}: {len(got)} lines, but {len(want)} by the plain reading' if len(got) != len(want) else None
+            return f'line {number + 1}, {questions.splitlines()[number]!r}: {one[:300]!r}, but by the plain reading {other[:300]!r}'
+    return f'{len(got)} lines, but {len(want)} by the plain reading' if len(got) != len(want) else None
+
+
+def differs(options, mode, log, seed):
+    text = difference(options.program, mode, log, questions_for(log, seed), options.calls)
+    return text and f'{mode}, {log}: {text}'
 
 
 def main():

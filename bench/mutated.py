@@ -15,7 +15,7 @@ import subprocess
 import sys
 import tempfile
 
-from compare import HERE, answers
+from compare import HERE, difference
 
 # Values at the edge of what a field may hold.
 EDGES = [b'', b'-1', b'(null)', b'""', b'"x', b'"a b c"', b'2F6', b'2f66', b'4294967295', b'4294967296', b'18446744073709551615',
@@ -86,15 +86,6 @@ def questions_for(rng, size):
     lines = [f'take {rng.randrange(1, size + 1)}', 'stat', f'take {size}', 'stat', 'settle', 'stat']
     lines += [f'{rng.choice(["back", "fore"])} {rng.randrange(25)}' for _ in range(12)]
     return '\n'.join(lines + ['end', '']).encode()
-
-
-def difference(program, mode, log, questions):
-    got = answers([program, 'watch', mode, log], questions)
-    want = answers([sys.executable, os.path.join(HERE, 'plain_reading.py'), mode, log], questions)
-    for asked, one, other in zip(questions.splitlines(), got, want):
-        if one != other:
-            return f'{asked!r}: {one[:300]!r}, but by the plain reading {other[:300]!r}'
-    return f'{len(got)} lines, but {len(want)} by the plain reading' if len(got) != len(want) else None
 
 
 def main():

@@ -7,7 +7,7 @@ use Rattle.audit_gen.specs.Lines.{call_line, end_line, file_line, stamp_text}
 use Rattle.audit_gen.specs.declared.deeds.Deed.{Deed}
 use Rattle.audit_gen.specs.declared.deeds.Deed.TheVariants as deed
 
--- the generator with this seed, on stream 1
+-- the generator that begins with a 64-bit seed, on stream 1
 abbrev pub generator_of : ℕ → Lcg
 generator_of seed = started 64 multiplier_64 seed (increment_of 64 1)
 
@@ -38,7 +38,7 @@ lines_of stamp pid (deed.Fork child) = call_line stamp 57 pid child ++ end_line 
 abbrev pub event_text : ℕ → ℕ → List ℕ
 event_text number word = lines_of (stamp_text (1000000 + number) (number + 1)) (pid_of word) (deed_of word)
 
--- the log of a seed and a number of events, a word of the seed's generator for each
+-- the log of so many events by a 64-bit seed, a word of its generator for each event
 abbrev pub generated : ℕ → ℕ → List ℕ
 generated seed events =
     flat_map (λ number. event_text number (word_after number (generator_of seed))) (range_with_len 0 events)

@@ -1,5 +1,5 @@
-//! Audit logs that a seed determines, for trials of the program: the same seed and number of events give the same
-//! bytes on every machine.
+//! Audit logs that a 64-bit seed determines, for trials of the program: the same seed and number of events give the
+//! same bytes on every machine.
 //!
 //! Event i, from 0 on, takes one word of 32 bits from the generator Lcg64Xsh32 with that seed on stream 1:
 //!

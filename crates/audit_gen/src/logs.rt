@@ -10,7 +10,7 @@ use rand_core::utils::NextWord;
 use rand_pcg::Lcg64Xsh32;
 use std::alloc::{AllocError, Global};
 
-/// The log of a seed with so many events.
+/// The log of so many events by this 64-bit seed.
 pub fn generate(alloc: Global, seed: u64, events: u32) -> Result<Bytes, NoMemory>
     ensures { IfOk result (λ log. log ≡ generated seed events) }
 {
@@ -23,7 +23,7 @@ pub fn generate(alloc: Global, seed: u64, events: u32) -> Result<Bytes, NoMemory
     Ok(log)
 }
 
-// The generator that gives the words of a seed's log.
+// The generator that gives the words of a log, by its 64-bit seed.
 fn generator_of(seed: u64) -> Lcg64Xsh32
     ensures { result ≡ logs.generator_of seed }
 {
