@@ -1,12 +1,13 @@
 #!/usr/bin/env python3
 """Times the built program on logs of three sizes, beside grep -c and ausearch --raw on the same files in the same run.
 
-    bench/time_log.py [--seed N] [--sizes 10,30,100] [--modes plain,continuous] [--asked 100] [--program ./crates/audit_cli/out/audit_cli]
+    bench/time_log.py [--seed N] [--sizes 10,30,100] [--modes plain,continuous] [--asked 100] [--trial EVENTS]
+                      [--program ./crates/audit_cli/out/audit_cli]
 
 Each log comes from make_log.py, by the number that --seed names. In each mode the program takes the whole log and settles; then it is asked
-`back` and `fore` of objects by chance. Printed are the machine, megabytes a second, the peak of memory, the rows kept, the median and the
-95th of a hundred of each question's time from its line to its reply, and the exponent between the smallest and the largest log. ausearch is
-Debian's package auditd.
+`back`, `fore`, `why`, `show` and `find` about random objects, `find` for a name that such an object has. Printed are the machine, megabytes a
+second, the peak of memory, the rows kept, the median and the 95th of a hundred of each question's time from its line to its reply, and the
+exponent between the smallest and the largest log. With --trial the program also runs `trial SEED EVENTS`. ausearch is Debian's package auditd.
 """
 import argparse, json, math, os, platform, random, resource, subprocess, sys, tempfile, time
 
@@ -37,7 +38,7 @@ def run(words, stdin=b''):
 
 
 def ask(words, count, seed):
-    """The sorted seconds of so many `back` and of so many `fore` over objects by chance, once the log is taken."""
+    """For each kind of question the sorted seconds of this many about random objects, once the log is taken."""
     child = subprocess.Popen(words, stdin=subprocess.PIPE, stdout=subprocess.PIPE, bufsize=0)
     replies = os.fdopen(os.dup(child.stdout.fileno()), 'rb', 1 << 20)
 
@@ -51,7 +52,13 @@ def ask(words, count, seed):
     say('settle')
     known = json.loads(say('stat')[1])['known']
     rng = random.Random(seed)
-    taken = {way: sorted(say(f'{way} {rng.randrange(known)}')[0] for _ in range(count)) for way in ('back', 'fore')}
+    one = lambda: rng.randrange(known)
+    questions = {way: [f'{way} {one()}' for _ in range(count)] for way in ('back', 'fore')}
+    questions['why'] = [f'why {one()} {one()}' for _ in range(count)]
+    questions['show'] = [f'show {one()}' for _ in range(count)]
+    names = [name for line in questions['show'] for name in json.loads(say(line)[1])['names']]
+    questions['find'] = [f'find {rng.choice(names)}' for _ in range(count)] if names else []
+    taken = {way: sorted(say(line)[0] for line in lines) for way, lines in questions.items() if lines}
     say('end')
     child.wait()
     return taken
@@ -63,6 +70,7 @@ def main():
     parser.add_argument('--sizes', default='10,30,100')
     parser.add_argument('--modes', default='plain,continuous')
     parser.add_argument('--asked', type=int, default=100)
+    parser.add_argument('--trial', type=int)
     parser.add_argument('--program', default=os.path.join(HERE, '..', 'crates', 'audit_cli', 'out', 'audit_cli'))
     options = parser.parse_args()
     program, modes = os.path.abspath(options.program), options.modes.split(',')
@@ -86,6 +94,9 @@ def main():
                       f'{stat["kept"]} rows of {stat["flows"]} flows ({100 * stat["kept"] / max(stat["flows"], 1):.0f}%), {stat["known"]} objects')
                 for way, times in (ask(words, options.asked, options.seed) if options.asked else {}).items():
                     print(f'  {mode:10}  {way}: median {1000 * times[len(times) // 2]:.2f} ms, 95th of 100 {1000 * times[len(times) * 95 // 100]:.2f} ms')
+    if options.trial:
+        seconds, peak, out = run([program, 'trial', str(options.seed), str(options.trial)])
+        print(f'trial {options.seed} {options.trial}: {seconds:.2f} s, peak {peak:.1f} MB: {" ".join(out.decode().split())}')
     for mode, points in taken.items():
         if len(points) > 1:
             (small, first), (large, last) = points[0], points[-1]
