@@ -1,5 +1,6 @@
 -- How a run ended: numbers and texts.
 use Rattle.std.specs.Prelude.{⊤, ℕ, ◌++◌, List, [], Result, Ok, Err, codes, decimal}
+use Rattle.flow_base.specs.declared.limits.Full.{Full}
 use Rattle.flow_base.specs.declared.limits.Limit.{Limit}
 use Rattle.flow_base.specs.declared.limits.Limit.TheVariants as limit
 use Rattle.audit_cli.specs.declared.halt.Halt.{Halt}
@@ -24,14 +25,22 @@ limit_name limit.Flows = codes "flows"
 limit_name limit.Payload = codes "payload"
 limit_name limit.Store = codes "store"
 
+-- which limit was reached, and its number
+abbrev pub full_text : Full → List ℕ
+full_text full = codes "full: " ++ (limit_name full.limit ++ (codes " " ++ decimal full.number))
+
+-- a text after the program's name
+abbrev pub as_line : List ℕ → List ℕ
+as_line text = codes "audit_cli: " ++ (text ++ codes "\n")
+
 -- what the program says of its end
-abbrev pub text_of : Status → List ℕ
-text_of status.Done = []
-text_of status.BadWords = codes "bad words"
-text_of status.NoMemory = codes "no memory"
-text_of status.ReadFault = codes "read fault"
-text_of status.WriteFault = codes "write fault"
-text_of (status.Full full) = codes "full: " ++ (limit_name full.limit ++ (codes " " ++ decimal full.number))
+abbrev pub line_of : Status → List ℕ
+line_of status.Done = []
+line_of status.BadWords = as_line (codes "bad words")
+line_of status.NoMemory = as_line (codes "no memory")
+line_of status.ReadFault = as_line (codes "read fault")
+line_of status.WriteFault = as_line (codes "write fault")
+line_of (status.Full full) = as_line (full_text full)
 
 -- the status of a run
 abbrev pub status_for : Result Unit Halt → Status

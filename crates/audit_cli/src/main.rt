@@ -23,7 +23,7 @@ use flow_base::Bytes;
 use outside::put_all;
 use outside_real::{Reading, Writing, open_log};
 pub use run::{audit_main, audit_run};
-pub use status::{Status, status_number, status_text};
+pub use status::{Status, status_line, status_number};
 use std::fs::File;
 use std::process::ExitCode;
 use std::{env, io, str};
@@ -70,7 +70,7 @@ fn log_named(rt: &HostRuntime, name: &Bytes) -> Reading<File> {
     }
 }
 
-// The words behind the program's own name. Words that aren't UTF-8 name no job.
+// The words after the program's own name. Words that aren't UTF-8 name no job.
 fn arguments(rt: &HostRuntime) -> Result<Vec<String>, Status> {
     let mut words = Vec::new(rt.alloc());
     let args = match env::args(rt) {
@@ -86,15 +86,8 @@ fn arguments(rt: &HostRuntime) -> Result<Vec<String>, Status> {
     Ok(words)
 }
 
-// Says on standard error how a run ended that wasn't done.
+// Says on standard error how a run ended that wasn't done. It takes no memory.
 fn report(rt: &HostRuntime, status: &Status) {
-    if *status == Status::Done {
-        return;
-    }
-    if let Ok(text) = status_text(rt.alloc(), status) {
-        let mut err = Writing::new(rt.stderr());
-        for piece in [b"audit_cli: ".as_slice(), text.as_slice(), b"\n".as_slice()] {
-            let _ = put_all(&mut err, piece);
-        }
-    }
+    let mut err = Writing::new(rt.stderr());
+    let _ = put_all(&mut err, status_line(status).as_str().as_bytes());
 }

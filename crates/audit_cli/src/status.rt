@@ -7,12 +7,17 @@
 //!     4        ReadFault     read fault
 //!     5        WriteFault    write fault
 //!     9        Full          full: LIMIT NUMBER
-ghost use Rattle.std.specs.Prelude.{◌≡◌, ◌++◌, IfOk, codes, decimal, string_bytes};
-ghost use Rattle.audit_cli.specs.Statuses.{number_of, text_of, limit_name, status_for};
+ghost use Rattle.std.specs.Prelude.{◌≡◌, ◌≤◌, length};
+ghost use Rattle.arrayvec.specs.ArrayString.{array_string_len};
+ghost use Rattle.audit_cli.specs.Statuses.{number_of, line_of, as_line, full_text, limit_name, status_for};
 
 use crate::halt::Halt;
-use flow_base::{Bytes, Full, Limit, NoMemory};
-use std::alloc::{AllocError, Global};
+use arrayvec::ArrayString;
+use flow_base::{Full, Limit};
+use itoa::Buffer;
+
+/// The most bytes of a line about the program's end.
+pub const LINE: usize = 80;
 
 /// How a run ended.
 #[derive(Clone, Copy, Debug, PartialEq, Eq)]
@@ -21,7 +26,7 @@ pub enum Status {
     Done,
     /// The words name no job.
     BadWords,
-    /// No memory was found.
+    /// An allocation failed.
     NoMemory,
     /// The log or the questions couldn't be read.
     ReadFault,
@@ -45,34 +50,52 @@ pub fn status_number(status: &Status) -> u8
     }
 }
 
-/// What the program says of its end. At `Done` it says nothing.
-pub fn status_text(alloc: Global, status: &Status) -> Result<Bytes, NoMemory>
-    ensures { IfOk result (λ text. text ≡ text_of status.now) }
+/// The line that the program says of its end on standard error, with its line feed. At `Done` it is empty.
+///
+/// It takes no memory, so that it can be said when nothing can be allocated.
+pub fn status_line(status: &Status) -> ArrayString<LINE>
+    ensures { result.bytes ≡ line_of status.now }
 {
     match *status {
-        Status::Done => Ok(Bytes::new(alloc)),
-        Status::BadWords => Bytes::from_slice(alloc, b"bad words"),
-        Status::NoMemory => Bytes::from_slice(alloc, b"no memory"),
-        Status::ReadFault => Bytes::from_slice(alloc, b"read fault"),
-        Status::WriteFault => Bytes::from_slice(alloc, b"write fault"),
-        Status::Full(full) => {
-            let text = full_text(alloc, full)?;
-            Bytes::from_slice(alloc, text.as_bytes())
-        }
+        Status::Done => ArrayString::new(),
+        Status::BadWords => as_line("bad words"),
+        Status::NoMemory => as_line("no memory"),
+        Status::ReadFault => as_line("read fault"),
+        Status::WriteFault => as_line("write fault"),
+        Status::Full(full) => as_line(full_text(full).as_str()),
     }
 }
 
-fn full_text(alloc: Global, full: Full) -> Result<String, AllocError>
-    ensures { IfOk result (λ text. string_bytes text ≡ codes "full: " ++ (limit_name full.limit ++ (codes " " ++ decimal full.number))) }
+// A text after the program's name.
+fn as_line(text: &str) -> ArrayString<LINE>
+    requires { length text.now ≤ 64 }
+    ensures { result.bytes ≡ as_line text.now }
 {
-    let limit = name_of(full.limit);
-    let number = full.number;
-    format!(in alloc; "full: {limit} {number}")
+    let mut line = ArrayString::new();
+    line.push_str("audit_cli: ");
+    line.push_str(text);
+    line.push_str("\n");
+    line
+}
+
+// Which limit was reached, and its number.
+fn full_text(full: Full) -> ArrayString<LINE>
+    ensures text { result.bytes ≡ full_text full }
+    ensures short { array_string_len result ≤ 64 }
+{
+    let mut digits = Buffer::new();
+    let mut text = ArrayString::new();
+    text.push_str("full: ");
+    text.push_str(name_of(full.limit));
+    text.push_str(" ");
+    text.push_str(digits.format(full.number));
+    text
 }
 
 // The name of a limit.
 fn name_of(limit: Limit) -> &'static str
-    ensures { result.now ≡ limit_name limit }
+    ensures name { result.now ≡ limit_name limit }
+    ensures short { length result.now ≤ 8 }
 {
     match limit {
         Limit::Input => "input",

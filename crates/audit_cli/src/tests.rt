@@ -634,25 +634,23 @@ fn a_log_that_is_not_asked_for_is_not_read(rt: HostRuntime) -> Result<(), Fail> 
 }
 
 #[test]
-fn a_status_has_its_number_and_text(rt: HostRuntime) -> Result<(), Fail> {
+fn a_status_has_its_number_and_line(rt: HostRuntime) -> Result<(), Fail> {
     let rows = [
-        (Status::Done, 0, b"".as_slice()),
-        (Status::BadWords, 2, b"bad words".as_slice()),
-        (Status::NoMemory, 3, b"no memory".as_slice()),
-        (Status::ReadFault, 4, b"read fault".as_slice()),
-        (Status::WriteFault, 5, b"write fault".as_slice()),
+        (Status::Done, 0, ""),
+        (Status::BadWords, 2, "audit_cli: bad words\n"),
+        (Status::NoMemory, 3, "audit_cli: no memory\n"),
+        (Status::ReadFault, 4, "audit_cli: read fault\n"),
+        (Status::WriteFault, 5, "audit_cli: write fault\n"),
+        (full(Limit::Entities, 2), 9, "audit_cli: full: entities 2\n"),
         (
-            Status::Full(Full {
-                limit: Limit::Entities,
-                number: 2,
-            }),
+            full(Limit::Payload, 18_446_744_073_709_551_615),
             9,
-            b"full: entities 2".as_slice(),
+            "audit_cli: full: payload 18446744073709551615\n",
         ),
     ];
     for (status, number, text) in rows {
         assert_eq!(rt; status_number(&status), number);
-        assert_eq!(rt; status_text(rt.alloc(), &status)?.as_slice(), text);
+        assert_eq!(rt; status_line(&status).as_str(), text);
     }
     Ok(())
 }
