@@ -10,6 +10,7 @@ use Rattle.reach_model.specs.Ids.{IsAscending, numbers}
 use Rattle.reach_rows.specs.declared.questions.Question.{Question}
 use Rattle.reach_rows.specs.declared.questions.Question.TheVariants.{Back, Fore}
 use Rattle.reach_rows.specs.Asked.{IsAnswer, IsAnswerable, IsAnsweredFor, counted}
+use Rattle.kept_flows.specs.KeptFlows.{KeptFlows, StandsFor}
 
 -- the ids ascend, and are the answers by the flows F: in source mode backward the sources among them, and else all
 pub record AreAnswers (mode : Mode) (F : List Flow) (question : Question) (ids : List EntityId) : Type 0 where
@@ -20,6 +21,10 @@ pub record AreAnswers (mode : Mode) (F : List Flow) (question : Question) (ids :
 abbrev pub AnswersFor : Mode → List Flow → Question → Option (List EntityId) → Type 0
 AnswersFor mode F question None = ¬ IsAnswerable mode F question
 AnswersFor mode F question (Some ids) = IsAnswerable mode F question × AreAnswers mode F question ids
+
+-- what is found answers the question by whatever flows are kept
+abbrev pub AnswersBy : Mode → KeptFlows → Question → Option (List EntityId) → Type 0
+AnswersBy mode kept question found = (F : List Flow) → StandsFor kept F → AnswersFor mode F question found
 
 -- of the numbers xs those that meet P, in their order
 pub record AreThose (P : ℕ → Type 0) (xs those : List ℕ) : Type 0 where
