@@ -5,9 +5,10 @@ ghost use Rattle.reach_model.specs.Numbers.{known};
 ghost use Rattle.reach_rows.specs.Asked.{subject};
 ghost use Rattle.query_walk.specs.declared.fault.WalkFault.TheVariants as fault;
 ghost use Rattle.kept_flows.specs.KeptFlows.{StandsFor, ComeNext, TakesIn, SameFaults, HasCauses};
-ghost use Rattle.kept_flows.specs.Answering.{AnswersBy, NeverFail};
+ghost use Rattle.kept_flows.specs.Answering.{AnswersBy, NeverFail, ShowsBy};
 
 use crate::one_flow::take_all;
+use crate::one_path::{Way, find_way};
 use crate::one_question::answer;
 use flow_base::{EntityId, Flow, List, NoMemory};
 use query_walk::WalkFault;
@@ -107,5 +108,25 @@ impl<R: Reducer, K: Keep> KeptFlows<R, K> {
         ensures same { self.new.kept ≡ self.old.kept }
     {
         answer(alloc, &self.reducer, &mut self.rows, question)
+    }
+
+    /// How one known object reached another, by flows no later than `until` in milliseconds: along which path, or that
+    /// there is none, or that the mode doesn't answer it. Source mode answers it for sources alone, and every other mode
+    /// for all objects. Errors and what they leave are those of `ask`.
+    pub fn path(
+        &mut self,
+        alloc: Global,
+        from: EntityId,
+        to: EntityId,
+        until: Option<u64>,
+    ) -> Result<Way, WalkFault>
+        requires known { (from.0 < self.old.kept.objects) × (to.0 < self.old.kept.objects) }
+        ensures exact { IfOk result (λ way. ShowsBy R.mode self.old.kept from.0 to.0 until way) }
+        ensures cause { HasCauses K.faults K.spent self.old self.new result }
+        ensures never { NeverFail K.faults K.spent → (F : List AFlow) → StandsFor self.old.kept F
+            → IfErr result (λ why. why ≡ fault.NoMemory) }
+        ensures same { self.new.kept ≡ self.old.kept }
+    {
+        find_way(alloc, &self.reducer, &mut self.rows, from, to, until)
     }
 }
