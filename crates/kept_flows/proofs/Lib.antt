@@ -3,3 +3,4 @@ pub mod Next
 pub mod Room
 pub mod Those
 pub mod Answered
+pub mod Shown

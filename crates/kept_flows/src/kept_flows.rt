@@ -1,13 +1,14 @@
 //! A reducer with its rows.
-ghost use Rattle.std.specs.Prelude.{◌≡◌, ◌<◌, ◌++◌, [], List, Some, IfOk, IfErr, OnErr, OnOk};
+ghost use Rattle.std.specs.Prelude.{◌≡◌, ◌<◌, [], List, Some, IfOk, IfErr, OnErr, OnOk};
 ghost use Rattle.flow_base.specs.declared.types.Flow.{Flow as AFlow};
 ghost use Rattle.reach_model.specs.Numbers.{known};
 ghost use Rattle.reach_rows.specs.Asked.{subject};
 ghost use Rattle.query_walk.specs.declared.fault.WalkFault.TheVariants as fault;
-ghost use Rattle.kept_flows.specs.KeptFlows.{StandsFor, ComeNext};
-ghost use Rattle.kept_flows.specs.Answering.{AnswersFor, NeverFail};
+ghost use Rattle.kept_flows.specs.KeptFlows.{StandsFor, ComeNext, TakesIn, SameFaults, HasCauses};
+ghost use Rattle.kept_flows.specs.Answering.{AnswersBy, NeverFail, ShowsBy};
 
 use crate::one_flow::take_all;
+use crate::one_path::{Way, find_way};
 use crate::one_question::answer;
 use flow_base::{EntityId, Flow, List, NoMemory};
 use query_walk::WalkFault;
@@ -24,11 +25,14 @@ pub struct KeptFlows<R: Reducer, K: Keep> {
 }
 
 impl<R: Reducer, K: Keep> Model for KeptFlows<R, K> {
-    ghost use Rattle.kept_flows.specs.KeptFlows.{KeptFlows, AreTied};
+    ghost use Rattle.kept_flows.specs.KeptFlows.{OverRows, AreTied, kept_by};
 
-    ghost Value = { KeptFlows };
+    ghost Value = { OverRows K };
 
-    ghost view = { λ a. record { mode = R.mode; told = K.rows a.rows; count = K.count a.rows; objects = K.known a.rows } };
+    ghost view = { λ a. record {
+      kept = kept_by R.mode (K.rows a.rows) (K.count a.rows) (K.known a.rows);
+      keep = a.rows;
+    } };
 
     ghost invariant = { λ a. AreTied (R.stands_for a.reducer) (R.holds a.reducer) (K.rows a.rows) (K.count a.rows) (K.known a.rows) };
 }
@@ -41,7 +45,8 @@ impl<R: Reducer, K: Keep> KeptFlows<R, K> {
         requires told { K.rows rows ≡ Some [] }
         requires count { K.count rows ≡ 0 }
         requires known { K.known rows ≡ 0 }
-        ensures { StandsFor result [] }
+        ensures none { StandsFor result.kept [] }
+        ensures keep { result.keep ≡ rows }
     {
         lawful_flows_grow();
         verdicts_make_the_rows();
@@ -51,7 +56,7 @@ impl<R: Reducer, K: Keep> KeptFlows<R, K> {
     /// The mode.
     pub fn mode(&self) -> Mode
         ensures mode { result ≡ R.mode }
-        ensures own { result ≡ self.now.mode }
+        ensures own { result ≡ self.now.kept.mode }
     {
         let _ = &self.rows;
         self.reducer.mode()
@@ -59,7 +64,7 @@ impl<R: Reducer, K: Keep> KeptFlows<R, K> {
 
     /// How many rows are kept.
     pub fn count(&self) -> u64
-        ensures { result ≡ self.now.count }
+        ensures { result ≡ self.now.kept.count }
     {
         let _ = &self.reducer;
         self.rows.count()
@@ -67,33 +72,61 @@ impl<R: Reducer, K: Keep> KeptFlows<R, K> {
 
     /// How many objects the flows know.
     pub fn known(&self) -> u32
-        ensures count { result ≡ self.now.objects }
-        ensures flows { (F : List AFlow) → StandsFor self.now F → result ≡ known F }
+        ensures count { result ≡ self.now.kept.objects }
+        ensures flows { (F : List AFlow) → StandsFor self.now.kept F → result ≡ known F }
     {
         let _ = &self.reducer;
         self.rows.known()
     }
 
-    /// Takes the flows in that come next. Where no memory is found nothing has changed.
+    /// Takes in the flows that come next. The only error is that allocation fails, and then the kept flows are as before.
+    /// Taking flows in reads no rows, so no read of them can fail.
     pub fn take(&mut self, flows: &[Flow]) -> Result<(), NoMemory>
-        requires next { (F : List AFlow) × StandsFor self.old F × ComeNext F flows.now }
-        ensures taken { OnOk result ((F : List AFlow) → StandsFor self.old F → ComeNext F flows.now → StandsFor self.new (F ++ flows.now)) }
-        ensures same { OnErr result (self.new ≡ self.old) }
+        requires next { (F : List AFlow) × StandsFor self.old.kept F × ComeNext F flows.now }
+        ensures taken { OnOk result (TakesIn self.old.kept flows.now self.new.kept) }
+        ensures same { OnErr result (self.new.kept ≡ self.old.kept) }
+        ensures faults { SameFaults K.faults K.spent self.old.keep self.new.keep }
     {
         take_all(&mut self.reducer, &mut self.rows, flows)
     }
 
-    /// The answer to a question about a known object, and none where the mode doesn't answer it. Asking changes nothing.
+    /// The answer to a question about a known object, or `None` if the mode doesn't answer it.
+    ///
+    /// `StoreFault` means that a read of the rows failed during this call, or that the rows have stopped counting failed
+    /// reads. `BadStore` comes only from rows that aren't observable, and `NoMemory` means that allocation failed. Whatever
+    /// is returned, the kept flows are as before, so they stand for the same flows.
     pub fn ask(
         &mut self,
         alloc: Global,
         question: &Question,
     ) -> Result<Option<List<EntityId>>, WalkFault>
-        requires known { subject question.now < self.old.objects }
-        ensures exact { IfOk result (λ found. (F : List AFlow) → StandsFor self.old F → AnswersFor R.mode F question.now found) }
-        ensures never { NeverFail K.faults K.spent → (F : List AFlow) → StandsFor self.old F → IfErr result (λ why. why ≡ fault.NoMemory) }
-        ensures same { self.new ≡ self.old }
+        requires known { subject question.now < self.old.kept.objects }
+        ensures exact { IfOk result (λ found. AnswersBy R.mode self.old.kept question.now found) }
+        ensures cause { HasCauses K.faults K.spent self.old self.new result }
+        ensures never { NeverFail K.faults K.spent → (F : List AFlow) → StandsFor self.old.kept F
+            → IfErr result (λ why. why ≡ fault.NoMemory) }
+        ensures same { self.new.kept ≡ self.old.kept }
     {
         answer(alloc, &self.reducer, &mut self.rows, question)
+    }
+
+    /// How one known object reached another, by flows no later than `until` in milliseconds: along which path, or that
+    /// there is none, or that the mode doesn't answer it. Source mode answers it for sources alone, and every other mode
+    /// for all objects. Errors and what they leave are those of `ask`.
+    pub fn path(
+        &mut self,
+        alloc: Global,
+        from: EntityId,
+        to: EntityId,
+        until: Option<u64>,
+    ) -> Result<Way, WalkFault>
+        requires known { (from.0 < self.old.kept.objects) × (to.0 < self.old.kept.objects) }
+        ensures exact { IfOk result (λ way. ShowsBy R.mode self.old.kept from.0 to.0 until way) }
+        ensures cause { HasCauses K.faults K.spent self.old self.new result }
+        ensures never { NeverFail K.faults K.spent → (F : List AFlow) → StandsFor self.old.kept F
+            → IfErr result (λ why. why ≡ fault.NoMemory) }
+        ensures same { self.new.kept ≡ self.old.kept }
+    {
+        find_way(alloc, &self.reducer, &mut self.rows, from, to, until)
     }
 }

@@ -7,9 +7,11 @@
 
 mod kept_flows;
 mod one_flow;
+mod one_path;
 mod one_question;
 
 pub use kept_flows::KeptFlows;
+pub use one_path::Way;
 
 #[cfg(test)]
 mod tests;

@@ -1,21 +1,18 @@
 //! Flows on their way from the verdict to the rows and the tables.
-ghost use Rattle.std.specs.Prelude.{◌≡◌, ◌<◌, ◌≤◌, ◌+◌, ◌^◌, ◌∷◌, ◌++◌, [], ℕ, List, length, OnErr, OnOk, IsTrue};
+ghost use Rattle.std.specs.Prelude.{◌≡◌, ◌<◌, ◌≤◌, ◌+◌, ◌^◌, ◌∷◌, ◌++◌, [], ℕ, List, length, OnErr, OnOk};
 ghost use Rattle.flow_base.specs.declared.types.Flow.{Flow as AFlow};
 ghost use Rattle.reach_model.specs.Rows.{Row as ARow, rows_after};
 ghost use Rattle.reach_rows.specs.Kept.{ComesAfter, GoesOn};
 ghost use Rattle.reach_rows.specs.Verdicts.{FitsRows};
-ghost use Rattle.kept_flows.specs.KeptFlows.{AreTied, AreTold, ComeNext, StandsFor, kept_by};
+ghost use Rattle.kept_flows.specs.KeptFlows.{AreTied, AreTold, ComeNext, SameFaults, StandsFor, kept_by};
 ghost use Rattle.kept_flows.specs.Taking.{HasRoomFor, IsNextOf};
 
 use flow_base::{Flow, NoMemory};
 use reach_model::{Verdict, first_flows_are_kept};
 use reach_rows::{Keep, Reducer, verdicts_make_the_rows};
 
-/// Fewer rows than this are counted, and fewer flows at once. No memory holds as many.
-const MOST: u64 = 1 << 62;
-
-/// Takes in the flows that come next. Where no memory is found the tables and the rows are as before: room for all of
-/// them is made first, and from there on nothing fails.
+/// Takes in the flows that come next. If allocation fails the tables and the rows are as before: room for all of the flows
+/// is made first, and from there on nothing fails.
 pub fn take_all<M: Reducer, K: Keep>(
     reducer: &mut M,
     rows: &mut K,
@@ -27,24 +24,16 @@ pub fn take_all<M: Reducer, K: Keep>(
     ensures taken { OnOk result ((F : List AFlow) → StandsFor (kept_by M.mode (K.rows rows.old) (K.count rows.old) (K.known rows.old)) F → ComeNext F flows.now
         → StandsFor (kept_by M.mode (K.rows rows.new) (K.count rows.new) (K.known rows.new)) (F ++ flows.now)) }
     ensures same { OnErr result ((K.rows rows.new ≡ K.rows rows.old) × (K.count rows.new ≡ K.count rows.old) × (K.known rows.new ≡ K.known rows.old)) }
+    ensures faults { SameFaults K.faults K.spent rows.old rows.new }
 {
     // Most events make no flow.
     if flows.is_empty() {
         return Ok(());
     }
-    if !are_few(rows.count(), flows.len() as u64) {
-        return Err(NoMemory);
-    }
+    verdicts_make_the_rows();
     make_room(reducer, rows, flows)?;
     put_all(reducer, rows, flows);
     Ok(())
-}
-
-/// Whether so many more flows can be counted after so many rows.
-fn are_few(rows: u64, flows: u64) -> bool
-    ensures { IsTrue result → rows + flows < 2 ^ 63 }
-{
-    rows < MOST && flows < MOST
 }
 
 /// Makes room for these flows. The tables and the rows stay as they are.
@@ -58,6 +47,7 @@ fn make_room<M: Reducer, K: Keep>(
     ensures stands { (R : List ARow) → M.stands_for reducer.old R → M.stands_for reducer.new R }
     ensures holds { (R : List ARow) → M.holds reducer.old R → M.holds reducer.new R }
     ensures same { (K.rows rows.new ≡ K.rows rows.old) × (K.count rows.new ≡ K.count rows.old) × (K.known rows.new ≡ K.known rows.old) }
+    ensures faults { SameFaults K.faults K.spent rows.old rows.new }
 {
     reducer.reserve(flows)?;
     rows.reserve(flows.len())
@@ -73,6 +63,7 @@ fn put_all<M: Reducer, K: Keep>(reducer: &mut M, rows: &mut K, flows: &[Flow])
     ensures tied { AreTied (M.stands_for reducer.new) (M.holds reducer.new) (K.rows rows.new) (K.count rows.new) (K.known rows.new) }
     ensures taken { (F : List AFlow) → StandsFor (kept_by M.mode (K.rows rows.old) (K.count rows.old) (K.known rows.old)) F → ComeNext F flows.now
         → StandsFor (kept_by M.mode (K.rows rows.new) (K.count rows.new) (K.known rows.new)) (F ++ flows.now) }
+    ensures faults { SameFaults K.faults K.spent rows.old rows.new }
 {
     for flow in flows {
         put(reducer, rows, flow);
@@ -92,6 +83,7 @@ fn put<M: Reducer, K: Keep>(reducer: &mut M, rows: &mut K, flow: &Flow)
     ensures count { K.count rows.new ≤ K.count rows.old + 1 }
     ensures covers { (rest : List AFlow) → M.covers reducer.old (flow.now ∷ rest) → M.covers reducer.new rest }
     ensures room { (n : ℕ) → HasRoomFor (K.has_room rows.old) (n + 1) → HasRoomFor (K.has_room rows.new) n }
+    ensures faults { SameFaults K.faults K.spent rows.old rows.new }
 {
     first_flows_are_kept();
     verdicts_make_the_rows();
@@ -108,6 +100,7 @@ fn put_row<K: Keep>(rows: &mut K, flow: &Flow, verdict: Verdict)
     ensures rows { (R : List ARow) → AreTold (K.rows rows.old) (K.count rows.old) (K.known rows.old) R → AreTold (K.rows rows.new) (K.count rows.new) (K.known rows.new) (rows_after R flow.now verdict) }
     ensures count { K.count rows.new ≤ K.count rows.old + 1 }
     ensures room { (n : ℕ) → HasRoomFor (K.has_room rows.old) (n + 1) → HasRoomFor (K.has_room rows.new) n }
+    ensures faults { SameFaults K.faults K.spent rows.old rows.new }
 {
     match verdict {
         Verdict::Drop => {}

@@ -1,5 +1,5 @@
 //! One question, from the mode's leave to the ids.
-ghost use Rattle.std.specs.Prelude.{◌≡◌, ◌↔◌, ◌<◌, ◌∷◌, ◌++◌, [], ℕ, List, Some, IfOk, IfErr, IfSome, IsTrue, OnOk};
+ghost use Rattle.std.specs.Prelude.{◌≡◌, ◌↔◌, ◌<◌, ◌∷◌, ◌++◌, [], ℕ, List, Some, IfOk, IfSome, IsTrue, OnOk};
 ghost use Rattle.std.specs.List.{Contains};
 ghost use Rattle.flow_base.specs.declared.types.Flow.{Flow as AFlow};
 ghost use Rattle.reach_model.specs.Flows.{IsLawful};
@@ -7,9 +7,8 @@ ghost use Rattle.reach_model.specs.Ids.{IsAscending, numbers};
 ghost use Rattle.reach_model.specs.Rows.{Row as ARow, Keeps, firsts};
 ghost use Rattle.reach_model.specs.Sources.{IsSource};
 ghost use Rattle.reach_rows.specs.Asked.{IsAnswer, IsAnsweredFor, counted, subject};
-ghost use Rattle.query_walk.specs.declared.fault.WalkFault.TheVariants as fault;
 ghost use Rattle.query_walk.specs.Fault.{IsWalk};
-ghost use Rattle.kept_flows.specs.Answering.{AnswersFor, AreFound, AreThose, NeverFail, is_for_sources};
+ghost use Rattle.kept_flows.specs.Answering.{AnswersFor, AreFound, AreThose, is_for_sources};
 
 use flow_base::{EntityId, List, NoMemory};
 use query_walk::{WalkFault, backward, forward};
@@ -29,7 +28,7 @@ pub fn answer<M: Reducer, W: Rows>(
 ) -> Result<Option<List<EntityId>>, WalkFault>
     requires known { subject question.now < W.known rows.old }
     ensures exact { IfOk result (λ found. (F : List AFlow) (R : List ARow) → W.rows rows.old ≡ Some R → IsLawful F → Keeps M.mode F R → AnswersFor M.mode F question.now found) }
-    ensures never { NeverFail W.faults W.spent → (R : List ARow) → W.rows rows.old ≡ Some R → IfErr result (λ why. why ≡ fault.NoMemory) }
+    ensures cause { IsWalk (W.rows rows.old) (W.faults rows.old) (W.faults rows.new) (W.spent rows.old) (W.spent rows.new) result }
     ensures same { (W.rows rows.new ≡ W.rows rows.old) × (W.count rows.new ≡ W.count rows.old) × (W.known rows.new ≡ W.known rows.old) }
 {
     first_flows_are_kept();

@@ -1,4 +1,4 @@
-use Rattle.std.proofs.Common.{◌≡◌, ◌<◌, ◌+◌, ◌-◌, ◌++◌, length, take, drop, subst, arith}
+use Rattle.std.proofs.Common.{◌≡◌, ◌<◌, ◌+◌, ◌-◌, ◌++◌, length, take, drop, subst, ◌∙◌, arith}
 use Rattle.std.proofs.lemmas.List.{drop_more}
 use Rattle.flow_base.specs.declared.types.Flow.{Flow}
 use Rattle.flow_base.specs.declared.types.How.TheVariants.{Fork}
@@ -42,5 +42,9 @@ loop-flow-preserved g c =
           (c.put.ensures.taken (F ++ take i more) (before.taken F s n) (next_of F more i no_flow h n));
       count = omega (arith, before.count, c.put.ensures.count);
       covers = c.put.ensures.covers (drop (i + 1) more) (subst (R.covers c.loop-flow.reducer) (drop_more more i no_flow h) before.covers);
+      faults = (
+        c.put.ensures.faults.0 ∙ before.faults.0,
+        (λ s. c.put.ensures.faults.1.0 (before.faults.1.0 s), λ s. before.faults.1.1 (c.put.ensures.faults.1.1 s)),
+      );
       room = c.put.ensures.room (length more - (i + 1)) (subst (HasRoomFor (g.K.Keep.has_room c.loop-flow.rows)) one before.room);
     }

@@ -1,6 +1,6 @@
 use Rattle.std.proofs.Common.{◌≤◌, ◌+◌, ◌-◌, ◌++◌, List, length, take, drop}
 use Rattle.flow_base.specs.declared.types.Flow.{Flow}
-use Rattle.kept_flows.specs.KeptFlows.{AreTied, ComeNext, StandsFor, kept_by}
+use Rattle.kept_flows.specs.KeptFlows.{AreTied, ComeNext, SameFaults, StandsFor, kept_by}
 use Rattle.kept_flows.specs.Taking.{HasRoomFor}
 use Rattle.kept_flows.proofs.one_flow.put_all.Given as goal
 
@@ -12,5 +12,6 @@ invariant-loop-flow g l = record {
       → StandsFor (kept_by g.M.Reducer.mode (g.K.Rows.rows l.rows) (g.K.Rows.count l.rows) (g.K.Rows.known l.rows)) (F ++ take l.flow-index l.flows);
   count : g.K.Rows.count l.rows ≤ g.K.Rows.count l.initial.rows + l.flow-index;
   covers : g.M.Reducer.covers l.reducer (drop l.flow-index l.flows);
+  faults : SameFaults g.K.Rows.faults g.K.Rows.spent l.initial.rows l.rows;
   room : HasRoomFor (g.K.Keep.has_room l.rows) (length l.flows - l.flow-index);
 }

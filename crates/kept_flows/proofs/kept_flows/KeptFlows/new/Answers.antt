@@ -1,8 +1,8 @@
 use Rattle.std.proofs.Common.{sym, []}
 use Rattle.kept_flows.proofs.kept_flows.KeptFlows.new.Goals as goal
 
-pub returns : goal.returns
-returns g c = record {
+pub returns-clause-none : goal.returns-clause-none
+returns-clause-none g c = record {
   rows = [];
   told = c.requires.told;
   lawful = c.lawful_flows_grow.ensures.none.lawful;
