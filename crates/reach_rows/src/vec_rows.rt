@@ -83,10 +83,9 @@ impl Keep for VecRows {
     ghost has_room = { HasRoom };
 
     fn reserve(&mut self, flows: usize) -> Result<(), NoMemory> {
-        // Two objects a flow. So many that their number passes 64 bits find no memory.
-        let objects = flows.checked_mul(2).ok_or(NoMemory)?;
         self.rows.reserve(flows)?;
-        self.objects.reserve(objects)?;
+        // Two objects a flow. The room for rows holds fewer than 2^63 flows, so the product doesn't overflow.
+        self.objects.reserve(2 * flows)?;
         Ok(())
     }
 

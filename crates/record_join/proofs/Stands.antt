@@ -1,6 +1,6 @@
 -- What a joiner stands for after each step.
-use Rattle.std.proofs.Common.{◌≡◌, ◌-◌, ◌+◌, ◌<◌, Bool, true, false, cond, List, [], ◌∷◌, ◌++◌, map, length, refl, sym, ◌∙◌, ap, subst, append-nil, Some, None, inl, inr, arith, ℕ}
-use Rattle.std.specs.Prelude.{Result, Ok, Err, OnErr, Option, ◌||◌, not, option_map, is_some, suc}
+use Rattle.std.proofs.Common.{◌≡◌, ◌-◌, ◌+◌, ◌<◌, ◌≤◌, Bool, true, false, cond, List, [], ◌∷◌, ◌++◌, map, length, refl, sym, ◌∙◌, ap, subst, append-nil, Some, None, inl, inr, arith, ℕ}
+use Rattle.std.specs.Prelude.{Result, Ok, Err, OnErr, Option, ◌||◌, not, option_map, is_some, suc, nat_lt}
 use Rattle.std.specs.List.{list_any, AllByRecursion}
 use Rattle.std.specs.List.Sorted.{IsStrictlySortedBy}
 use Rattle.std.specs.Map.{lookup, keys_of}
@@ -14,9 +14,11 @@ use Rattle.std.proofs.lemmas.List.Filters.{sum_by-filter_both}
 use Rattle.std.proofs.lemmas.List.Sums.{sum_by_push}
 use Rattle.std.proofs.lemmas.Map.Keys.{IsDistinct-from_sorted, sorted_head, sorted_tail}
 use Rattle.std.proofs.lemmas.Map.Made.{length-from_keys}
+use Rattle.std.proofs.lemmas.Bool.Decides.{nat_tests}
 use Rattle.record_join.specs.Keys.{key_cmp, is_key, is_below, ends_event}
-use Rattle.record_join.specs.Events.{Joining, group_of, waits, is_among, least_key, count_keys, text_of, is_excess, put, enter, saw, taken_as, settled, is_ripe_at, only_ripe, ripe_key, event_of, without, event_at, left_at, next_event, next_left, let_go, event_time, is_late}
-use Rattle.record_join.specs.StandsFor.{Joiner, StandsFor, group_at, records_in, shut, grown, is_ripe_group, ripe_first}
+use Rattle.record_join.specs.Events.{Joining, group_of, waits, is_among, least_key, count_keys, text_of, is_excess, put, enter, saw, taken_as, settled, is_past, is_ripe_at, only_ripe, ripe_key, event_of, without, event_at, left_at, next_event, next_left, let_go, event_time, is_late}
+use Rattle.record_join.specs.PutBack.{fresh}
+use Rattle.record_join.specs.StandsFor.{Joiner, StandsFor, NothingRipe, group_at, records_in, shut, grown, is_ripe_group, ripe_first}
 use Rattle.audit_lex.specs.declared.header.EventKey.{EventKey}
 use Rattle.audit_record.specs.declared.types.Record.{Record}
 use Rattle.flow_base.specs.declared.limits.Limits.{Limits}
@@ -423,3 +425,86 @@ none_there (e ∷ es) h = let l : 0 < length (e ∷ es) = omega arith in absurd 
 pub on_err : {A E : Type 0} {P : Type 0} (r : Result A E) → P → OnErr r P
 on_err (Ok x) p = tt
 on_err (Err e) p = p
+
+-- ---- an end
+
+shut_open : (w c v : Bool) (rs : List Record) → v ≡ true → shut (made w c rs) ≡ made w v rs
+shut_open true c v rs e = ap (λ z. made true z rs) (sym e)
+shut_open false c v rs e = refl
+
+shut_gone : (w c : Bool) (rs : List Record) → w ≡ false → shut (made w c rs) ≡ made w c rs
+shut_gone true c rs e = absurd (true≢false e)
+shut_gone false c rs e = refl
+
+module _ {limits : Limits} {join : Joiner} {s : Joining} (stands : StandsFor limits join s) (r : Record) (after : List (EventKey × Group)) (keys : keys_of after ≡ keys_of join.groups)
+    (put : (q : EventKey) → lookup (is_key q) after ≡ cond (is_key r.key q) (shut (lookup (is_key q) join.groups)) (lookup (is_key q) join.groups)) where
+  abbrev ended : Joiner
+  ended = record join { groups = after; clock = saw join.clock r.key.ms }
+
+  -- the key waits, and is closed
+  end_there : waits r.key s.waiting ≡ true → StandsFor limits ended (record s { clock = saw s.clock r.key.ms; closed = r.key ∷ s.closed })
+  end_there there = record {
+    ascend = subst (λ ks. IsStrictlySortedBy key_cmp ks) (sym keys) stands.ascend;
+    each = λ q. put q ∙ by_test (is_key r.key q)
+        (λ same. on_true _ _ _ same ∙ ap shut (stands.each q)
+        ∙ shut_open (waits q s.waiting) (is_among q s.closed) (is_key q r.key || is_among q s.closed) (group_of q s.waiting) (ap (λ b. b || is_among q s.closed) (key_laws.symm q r.key ∙ same)))
+        (λ other. on_false _ _ _ other ∙ stands.each q
+        ∙ ap (λ b. made (waits q s.waiting) (b || is_among q s.closed) (group_of q s.waiting)) (sym (key_laws.symm q r.key ∙ other)));
+    closed_wait = λ q w. by_test (is_key q r.key)
+        (λ same. absurd (true≢false (sym there ∙ ap (λ k. waits k s.waiting) (sym (one_key q r.key same)) ∙ w)))
+        (λ other. ap (λ b. b || is_among q s.closed) other ∙ stands.closed_wait q w);
+    text = stands.text;
+    clock = ap (λ (c : JoinClock). saw c r.key.ms) stands.clock;
+    limits_are = stands.limits_are;
+  }
+
+  -- the key doesn't wait, and nothing is closed
+  end_gone : waits r.key s.waiting ≡ false → StandsFor limits ended (record s { clock = saw s.clock r.key.ms })
+  end_gone gone = record {
+    ascend = subst (λ ks. IsStrictlySortedBy key_cmp ks) (sym keys) stands.ascend;
+    each = λ q. put q ∙ by_test (is_key r.key q)
+        (λ same. on_true _ _ _ same ∙ ap shut (stands.each q)
+        ∙ shut_gone (waits q s.waiting) (is_among q s.closed) (group_of q s.waiting) (ap (λ k. waits k s.waiting) (sym (one_key r.key q same)) ∙ gone))
+        (λ other. on_false _ _ _ other ∙ stands.each q);
+    closed_wait = stands.closed_wait;
+    text = stands.text;
+    clock = ap (λ (c : JoinClock). saw c r.key.ms) stands.clock;
+    limits_are = stands.limits_are;
+  }
+
+  pub end_stands : ends_event r ≡ true → StandsFor limits ended (enter limits s r)
+  end_stands ends =
+      subst (λ (t : Joining). StandsFor limits ended t) (sym (on_true (ends_event r) _ _ ends))
+      (by_test (waits r.key s.waiting)
+      (λ there. subst (λ (t : Joining). StandsFor limits ended t) (sym (on_true (waits r.key s.waiting) _ _ there)) (end_there there))
+      (λ gone. subst (λ (t : Joining). StandsFor limits ended t) (sym (on_false (waits r.key s.waiting) _ _ gone)) (end_gone gone)))
+
+-- ---- nothing waits, nothing is ripe
+
+none_sorted : IsStrictlySortedBy key_cmp []
+unfolding IsStrictlySortedBy
+none_sorted = tt
+
+-- a joiner without groups stands for one in which nothing waits
+pub fresh_stands : (limits : Limits) (clock : JoinClock) → StandsFor limits (joiner [] 0 clock limits) (fresh clock)
+fresh_stands limits clock = record { ascend = none_sorted; each = λ k. refl; closed_wait = λ k w. refl; text = refl; clock = refl; limits_are = refl }
+
+unless_some : {A : Type 0} (b : Bool) (x : A) → cond b (Some x) None ≡ None → b ≡ false
+unless_some true x e = absurd (some_is_none x e)
+unless_some false x e = refl
+
+not_over : (m n : ℕ) → nat_lt m n ≡ false → n ≤ m
+not_over m n e = grind (arith, nat_tests, e)
+
+-- where nothing is ripe, the text that waits is within its limit
+pub text_within : {limits : Limits} {join : Joiner} {s : Joining} → StandsFor limits join s → NothingRipe join → join.text ≤ join.limits.text
+text_within {limits} {join} {s} stands nothing = by join.groups refl nothing
+  where
+    by : (es : List (EventKey × Group)) → join.groups ≡ es → ripe_first join es ≡ None → join.text ≤ join.limits.text
+    by [] is none =
+        let empty : s.waiting ≡ [] = least_none s.waiting (no_least stands is (least_key s.waiting) refl) in
+        let text : join.text ≡ 0 = stands.text ∙ ap text_of empty in
+        omega (arith, text)
+    by (e ∷ es) is none =
+        let unripe = unless_some (is_ripe_group join e.0 e.1) e none in
+        not_over join.limits.text join.text (or_parts _ (nat_lt join.limits.text join.text) unripe).1

@@ -38,6 +38,12 @@ pub record StandsFor (limits : Limits) (join : Joiner) (s : Joining) : Type 0 wh
 abbrev pub WhereStands : Joiner → (Limits → Joining → Type 0) → Type 0
 WhereStands join P = (limits : Limits) (s : Joining) → StandsFor limits join s → P limits s
 
+-- the joiner stands for some lists
+pub record Stands (join : Joiner) : Type 0 where
+  pub limits : Limits
+  pub lists : Joining
+  pub stands : StandsFor limits join lists
+
 -- an event that is lent
 abbrev pub event_seen : EventView → Event
 event_seen view = record { key = view.key; ms = view.ms; late = view.late; records = view.records.now }
@@ -69,3 +75,7 @@ is_ripe_group join key group =
 abbrev pub ripe_first : Joiner → List (EventKey × Group) → Option (EventKey × Group)
 ripe_first join [] = None
 ripe_first join (e ∷ rest) = if is_ripe_group join e.0 e.1 then Some e else None
+
+-- no event can be released
+abbrev pub NothingRipe : Joiner → Type 0
+NothingRipe join = ripe_first join join.groups ≡ None

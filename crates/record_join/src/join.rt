@@ -1,9 +1,9 @@
 //! The joiner: groups that wait in the order of their keys, and what is released of them.
-ghost use Rattle.std.specs.Prelude.{◌≡◌, OnOk, OnErr, IfOk, Some, None, option_map, OnSome, IfNone, is_some, length, suc};
+ghost use Rattle.std.specs.Prelude.{◌≡◌, ◌↔◌, false, OnOk, OnErr, IfOk, Some, None, option_map, OnSome, IfNone, is_some, length, suc};
 ghost use Rattle.record_join.specs.Events.{enter, taken_as, settled, ripe_key, next_event, next_left, count_keys};
 ghost use Rattle.record_join.specs.History.{start};
 ghost use Rattle.record_join.specs.PutBack.{fresh};
-ghost use Rattle.record_join.specs.StandsFor.{StandsFor, WhereStands, event_seen, ripe_first};
+ghost use Rattle.record_join.specs.StandsFor.{NothingRipe, StandsFor, WhereStands, event_seen, ripe_first};
 
 use crate::clock::JoinClock;
 use crate::event::{Event, EventView, Taken};
@@ -29,17 +29,20 @@ pub struct Join {
 }
 
 impl Model for Join {
-    ghost use Rattle.record_join.specs.StandsFor.{Joiner};
+    ghost use Rattle.record_join.specs.StandsFor.{Joiner, Stands};
 
     ghost Value = { Joiner };
 
     ghost view = { λ j. record { groups = j.groups.entries; text = j.text; clock = j.clock; limits = j.limits } };
+
+    ghost invariant = { λ j. Stands (record { groups = j.groups.entries; text = j.text; clock = j.clock; limits = j.limits }) };
 }
 
 impl Join {
     /// A joiner that has seen nothing.
     pub fn new(alloc: Global, limits: &Limits) -> Join
-        ensures { StandsFor limits.now result start }
+        ensures stands { StandsFor limits.now result start }
+        ensures nothing { NothingRipe result }
     {
         let clock = JoinClock {
             seen: None,
@@ -52,7 +55,8 @@ impl Join {
     /// A joiner without groups that has come as far as another. Its groups are put back by `take` of their records, and
     /// of an EOE behind those that were closed.
     pub fn resume(alloc: Global, limits: &Limits, clock: JoinClock) -> Join
-        ensures { StandsFor limits.now result (fresh clock) }
+        ensures stands { StandsFor limits.now result (fresh clock) }
+        ensures nothing { NothingRipe result }
     {
         Join {
             alloc,
@@ -84,9 +88,10 @@ impl Join {
         Parts::over(self.groups.iter())
     }
 
-    /// Takes one more record. Where no memory is found nothing has changed, and the record is lost: its caller keeps the
-    /// line. Ends and records in excess need no memory.
+    /// Takes one more record, once all that is ripe is released. If allocation fails, nothing has changed, and the record
+    /// is lost: its caller keeps the line. Ends and records in excess need no memory.
     pub fn take(&mut self, item: Record) -> Result<Taken, NoMemory>
+        requires nothing { NothingRipe self.old }
         ensures ok { IfOk result (λ taken. WhereStands self.old (λ limits s. taken ≡ taken_as limits s item)) }
         ensures stands { OnOk result (WhereStands self.old (λ limits s. StandsFor limits self.new (enter limits s item))) }
         ensures err { OnErr result (self.new ≡ self.old) }
@@ -102,10 +107,8 @@ impl Join {
             self.clock.see(key.ms);
             return Ok(Taken::Excess);
         }
-        // The sum is kept exact, so that it never drifts from the lines that wait. So many bytes are in no memory.
-        let Some(text) = self.text.checked_add(item.line.as_slice().len()) else {
-            return Err(NoMemory);
-        };
+        // The sum is exact, so that it never drifts from the lines that wait: they were within the limit.
+        let text = self.text + item.line.as_slice().len();
         hold(self.alloc, &mut self.groups, item)?;
         self.text = text;
         self.clock.see(key.ms);
@@ -114,7 +117,8 @@ impl Join {
 
     /// Whether an event can be released.
     pub fn ripe(&self) -> bool
-        ensures { WhereStands self.now (λ limits s. result ≡ is_some (ripe_key limits s)) }
+        ensures ripe { WhereStands self.now (λ limits s. result ≡ is_some (ripe_key limits s)) }
+        ensures nothing { (result ≡ false) ↔ NothingRipe self.now }
     {
         self.least_ripe().is_some()
     }
@@ -140,6 +144,7 @@ impl Join {
         ensures stands { WhereStands self.old (λ limits s. StandsFor limits self.new (next_left limits s)) }
         ensures some { OnSome result (length self.old.groups ≡ suc (length self.new.groups)) }
         ensures none { IfNone result (self.new ≡ self.old) }
+        ensures nothing { IfNone result (NothingRipe self.new) }
     {
         if !self.ripe() {
             return None;

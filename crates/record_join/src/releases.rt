@@ -1,6 +1,6 @@
 //! All that is ripe at once, and a whole list of records.
 ghost use Rattle.std.specs.Prelude.{◌≡◌, [], ◌∷◌, ◌++◌, map, OnOk, IfOk};
-ghost use Rattle.record_join.specs.StandsFor.{StandsFor, WhereStands};
+ghost use Rattle.record_join.specs.StandsFor.{NothingRipe, StandsFor, WhereStands};
 ghost use Rattle.record_join.specs.History.{Came, Settle, start, events, released_after, left_after};
 
 use crate::event::Event;
@@ -14,6 +14,7 @@ use std::alloc::Global;
 pub fn release_ripe(join: &mut Join, found: &mut List<Event>) -> Result<(), NoMemory>
     ensures stands { OnOk result (WhereStands join.old (λ limits s. StandsFor limits join.new (left_after limits s))) }
     ensures found { OnOk result (WhereStands join.old (λ limits s. found.new ≡ found.old ++ released_after limits s)) }
+    ensures nothing { OnOk result (NothingRipe join.new) }
 {
     while let Some(event) = join.next() {
         found.push(event)?;

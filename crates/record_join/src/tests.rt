@@ -76,14 +76,22 @@ fn lent(view: Option<EventView<'_>>) -> Option<(u64, u32, u64, bool, usize)> {
     }
 }
 
+/// Gives a record to a joiner in which nothing is ripe.
+fn give(join: &mut Join, item: Record) -> Result<Taken, Fail> {
+    if join.ripe() {
+        return Err(Fail::new("an event was ripe"));
+    }
+    Ok(join.take(item)?)
+}
+
 /// Puts a group with as many records into another joiner.
-fn put_back(alloc: Global, group: &GroupView<'_>, again: &mut Join) -> Result<(), NoMemory> {
+fn put_back(alloc: Global, group: &GroupView<'_>, again: &mut Join) -> Result<(), Fail> {
     let EventKey { ms, serial } = group.key;
     for _ in group.records {
-        again.take(record(alloc, ms, serial, Body::Cwd(None)))?;
+        give(again, record(alloc, ms, serial, Body::Cwd(None)))?;
     }
     if group.closed {
-        again.take(record(alloc, ms, serial, Body::Eoe))?;
+        give(again, record(alloc, ms, serial, Body::Eoe))?;
     }
     Ok(())
 }
@@ -93,12 +101,15 @@ fn a_group_waits_for_two_seconds(rt: HostRuntime) -> Result<(), Fail> {
     let alloc = rt.alloc();
     let mut join = Join::new(alloc, &limits());
     assert!(rt; !join.ripe());
-    assert_eq!(rt; join.take(record(alloc, 5000, 1, call()))?, Taken::Held);
-    join.take(record(alloc, 7000, 2, call()))?;
+    assert_eq!(rt;
+        give(&mut join, record(alloc, 5000, 1, call()))?,
+        Taken::Held
+    );
+    give(&mut join, record(alloc, 7000, 2, call()))?;
     // Exactly 2,000 ms above is not yet past.
     assert!(rt; !join.ripe());
     assert!(rt; join.peek().is_none());
-    join.take(record(alloc, 7001, 3, call()))?;
+    give(&mut join, record(alloc, 7001, 3, call()))?;
     assert!(rt; join.ripe());
     assert_eq!(rt; lent(join.peek()), Some((5000, 1, 5000, false, 1)));
     assert_eq!(rt; join.waiting(), 3);
@@ -125,24 +136,24 @@ fn ends_close_their_groups(rt: HostRuntime) -> Result<(), Fail> {
     let mut join = Join::new(alloc, &limits());
     // An end without a group closes nothing.
     assert_eq!(rt;
-        join.take(record(alloc, 5000, 1, Body::Eoe))?,
+        give(&mut join, record(alloc, 5000, 1, Body::Eoe))?,
         Taken::Closed
     );
     assert_eq!(rt; join.waiting(), 0);
-    join.take(record(alloc, 5000, 1, call()))?;
-    join.take(record(alloc, 5000, 2, call()))?;
+    give(&mut join, record(alloc, 5000, 1, call()))?;
+    give(&mut join, record(alloc, 5000, 2, call()))?;
     assert_eq!(rt;
-        join.take(record(alloc, 5000, 2, Body::Eoe))?,
+        give(&mut join, record(alloc, 5000, 2, Body::Eoe))?,
         Taken::Closed
     );
     // A closed group that isn't the least waits, and takes records.
     assert!(rt; !join.ripe());
     assert_eq!(rt;
-        join.take(record(alloc, 5000, 2, Body::Cwd(None)))?,
+        give(&mut join, record(alloc, 5000, 2, Body::Cwd(None)))?,
         Taken::Held
     );
     assert_eq!(rt;
-        join.take(record(alloc, 5000, 1, Body::Proctitle))?,
+        give(&mut join, record(alloc, 5000, 1, Body::Proctitle))?,
         Taken::Closed
     );
     assert_eq!(rt; told(join.next()), Some((5000, 1, 5000, false, 1)));
@@ -163,8 +174,8 @@ fn late_events_keep_the_effective_time(rt: HostRuntime) -> Result<(), Fail> {
         (9000, 4, (9000, 4, 9000, true, 1)),
         (9001, 1, (9001, 1, 9001, false, 1)),
     ] {
-        join.take(record(alloc, ms, serial, call()))?;
-        join.take(record(alloc, ms, serial, Body::Eoe))?;
+        give(&mut join, record(alloc, ms, serial, call()))?;
+        give(&mut join, record(alloc, ms, serial, Body::Eoe))?;
         assert_eq!(rt; told(join.next()), Some(wanted));
     }
     Ok(())
@@ -174,18 +185,24 @@ fn late_events_keep_the_effective_time(rt: HostRuntime) -> Result<(), Fail> {
 fn records_past_the_limit_and_second_calls_are_in_excess(rt: HostRuntime) -> Result<(), Fail> {
     let alloc = rt.alloc();
     let mut join = Join::new(alloc, &limits());
-    assert_eq!(rt; join.take(record(alloc, 5000, 1, call()))?, Taken::Held);
-    assert_eq!(rt; join.take(record(alloc, 5000, 1, call()))?, Taken::Excess);
     assert_eq!(rt;
-        join.take(record(alloc, 5000, 1, Body::Cwd(None)))?,
+        give(&mut join, record(alloc, 5000, 1, call()))?,
         Taken::Held
     );
     assert_eq!(rt;
-        join.take(record(alloc, 5000, 1, Body::Cwd(None)))?,
+        give(&mut join, record(alloc, 5000, 1, call()))?,
         Taken::Excess
     );
     assert_eq!(rt;
-        join.take(record(alloc, 5000, 1, Body::Eoe))?,
+        give(&mut join, record(alloc, 5000, 1, Body::Cwd(None)))?,
+        Taken::Held
+    );
+    assert_eq!(rt;
+        give(&mut join, record(alloc, 5000, 1, Body::Cwd(None)))?,
+        Taken::Excess
+    );
+    assert_eq!(rt;
+        give(&mut join, record(alloc, 5000, 1, Body::Eoe))?,
         Taken::Closed
     );
     assert_eq!(rt; told(join.next()), Some((5000, 1, 5000, false, 2)));
@@ -197,10 +214,10 @@ fn too_many_groups_release_the_least(rt: HostRuntime) -> Result<(), Fail> {
     let alloc = rt.alloc();
     let mut join = Join::new(alloc, &limits());
     for serial in [4, 3, 2] {
-        join.take(record(alloc, 5000, serial, call()))?;
+        give(&mut join, record(alloc, 5000, serial, call()))?;
         assert!(rt; !join.ripe());
     }
-    join.take(record(alloc, 5000, 5, call()))?;
+    give(&mut join, record(alloc, 5000, 5, call()))?;
     assert_eq!(rt; told(join.next()), Some((5000, 2, 5000, false, 1)));
     assert_eq!(rt; told(join.next()), None);
     Ok(())
@@ -210,18 +227,18 @@ fn too_many_groups_release_the_least(rt: HostRuntime) -> Result<(), Fail> {
 fn too_much_text_releases_the_least(rt: HostRuntime) -> Result<(), Fail> {
     let alloc = rt.alloc();
     let mut join = Join::new(alloc, &limits());
-    join.take(lined(alloc, 1, b"seven..".as_slice())?)?;
-    join.take(lined(alloc, 2, b"eight...".as_slice())?)?;
-    join.take(lined(alloc, 1, b"five.".as_slice())?)?;
+    give(&mut join, lined(alloc, 1, b"seven..".as_slice())?)?;
+    give(&mut join, lined(alloc, 2, b"eight...".as_slice())?)?;
+    give(&mut join, lined(alloc, 1, b"five.".as_slice())?)?;
     // 20 bytes are as many as may wait.
     assert!(rt; !join.ripe());
-    join.take(lined(alloc, 2, b"!".as_slice())?)?;
+    give(&mut join, lined(alloc, 2, b"!".as_slice())?)?;
     assert_eq!(rt; told(join.next()), Some((5000, 1, 5000, false, 2)));
     assert_eq!(rt; told(join.next()), None);
     // 9 bytes are left, and 11 more fit.
-    join.take(lined(alloc, 3, b"eleven.....".as_slice())?)?;
+    give(&mut join, lined(alloc, 3, b"eleven.....".as_slice())?)?;
     assert!(rt; !join.ripe());
-    join.take(lined(alloc, 3, b"!".as_slice())?)?;
+    give(&mut join, lined(alloc, 3, b"!".as_slice())?)?;
     assert_eq!(rt; told(join.next()), Some((5000, 2, 5000, false, 2)));
     Ok(())
 }
@@ -231,9 +248,9 @@ fn a_joiner_is_made_again_from_its_groups(rt: HostRuntime) -> Result<(), Fail> {
     let alloc = rt.alloc();
     let limits = limits();
     let mut join = Join::new(alloc, &limits);
-    join.take(record(alloc, 5000, 1, call()))?;
-    join.take(record(alloc, 5000, 2, Body::Cwd(None)))?;
-    join.take(record(alloc, 5000, 2, Body::Eoe))?;
+    give(&mut join, record(alloc, 5000, 1, call()))?;
+    give(&mut join, record(alloc, 5000, 2, Body::Cwd(None)))?;
+    give(&mut join, record(alloc, 5000, 2, Body::Eoe))?;
     let mut again = Join::resume(alloc, &limits, join.clock());
     let mut parts = join.parts();
     for _ in 0..2 {
@@ -246,7 +263,7 @@ fn a_joiner_is_made_again_from_its_groups(rt: HostRuntime) -> Result<(), Fail> {
     assert_eq!(rt; again.clock(), join.clock());
     assert_eq!(rt; again.waiting(), 2);
     assert!(rt; !again.ripe());
-    again.take(record(alloc, 5000, 1, Body::Eoe))?;
+    give(&mut again, record(alloc, 5000, 1, Body::Eoe))?;
     assert_eq!(rt; told(again.next()), Some((5000, 1, 5000, false, 1)));
     assert_eq!(rt; told(again.next()), Some((5000, 2, 5000, false, 1)));
     assert_eq!(rt; told(again.next()), None);
@@ -257,8 +274,8 @@ fn a_joiner_is_made_again_from_its_groups(rt: HostRuntime) -> Result<(), Fail> {
 fn a_settle_releases_all(rt: HostRuntime) -> Result<(), Fail> {
     let alloc = rt.alloc();
     let mut join = Join::new(alloc, &limits());
-    join.take(record(alloc, 6000, 1, call()))?;
-    join.take(record(alloc, 5000, 2, call()))?;
+    give(&mut join, record(alloc, 6000, 1, call()))?;
+    give(&mut join, record(alloc, 5000, 2, call()))?;
     let mut found = List::new(alloc);
     release_ripe(&mut join, &mut found)?;
     assert!(rt; found.as_slice().is_empty());

@@ -35,9 +35,8 @@ impl Versions {
         ensures room { OnOk result (HasRoom self.new (length flows.now)) }
         ensures same { (K : List AFlow) → StandsFor self.old K → StandsFor self.new K }
     {
-        // Two objects a flow. So many that their number passes 64 bits find no memory.
-        let objects = flows.len().checked_mul(2).ok_or(NoMemory)?;
-        self.objects.reserve(objects)?;
+        // Two objects a flow.
+        self.objects.reserve(2 * flows.len())?;
         self.links.reserve(flows.len())?;
         Ok(())
     }

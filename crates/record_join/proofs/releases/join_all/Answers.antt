@@ -22,6 +22,7 @@ loop-item-preserved c =
     record {
       joined = subst (λ (xs : List Step). IsJoined limits c.release_ripe.new.join c.release_ripe.new.found xs) (sym (map-append Came c.loop-item.yielded (c.in-Some.item ∷ [])))
           (joined_more limits _ _ _ _ steps (Came c.in-Some.item) w (c.in_ok-release_ripe.ensures.stands limits _ taken) (c.in_ok-release_ripe.ensures.found limits _ taken));
+      nothing = c.in_ok-release_ripe.ensures.nothing;
       rest = append_assoc at.yielded (c.in-Some.item ∷ []) _ ∙ rw (← moved) at.invariant.rest;
       counted =
           let was = at.invariant.counted in
