@@ -1,5 +1,5 @@
 -- A line is read as an ask exactly where it is written as one.
-use Rattle.std.proofs.Common.{◌≡◌, ◌<◌, ◌≤◌, ◌+◌, ◌*◌, ◌^◌, ◌==◌, ◌&&◌, ◌∙◌, sym, refl, ap, subst, ℕ, Bool, true, false, List, ◌++◌, ◌∷◌, length, Option, None, Some, if◌then◌else◌, nat_lt, nat_le, codes, arith, option_map, ◌⊎◌, inl, inr, IfOk, IfErr}
+use Rattle.std.proofs.Common.{◌≡◌, ◌≢◌, ◌<◌, ◌≤◌, ◌+◌, ◌*◌, ◌^◌, ◌==◌, ◌&&◌, ◌∙◌, sym, refl, ap, subst, ℕ, Bool, true, false, List, [], ◌++◌, ◌∷◌, length, Option, None, Some, if◌then◌else◌, nat_lt, nat_le, codes, arith, option_map, ◌⊎◌, inl, inr, IfOk, IfErr}
 use Rattle.std.specs.List.{list_all}
 use Rattle.std.specs.Option.{option_and_then, ok_or}
 use Rattle.std.specs.Char.{is_ascii_digit, is_ascii_lowercase}
@@ -12,7 +12,7 @@ use Rattle.report_json.specs.declared.ask.Ask.{Ask}
 use Rattle.report_json.specs.declared.ask.Ask.TheVariants as ask
 use Rattle.reach_rows.specs.declared.questions.Question.TheVariants as question
 use Rattle.report_json.specs.Asks.{Spells, IsId, IsTime, IsBounded, IsAsk}
-use Rattle.report_json.specs.Reading.{cut_at, number_of, id_from, id_of, time_from, time_in, time_of, bounded_from, bounded_in, bounded_of, word_of, back_from, fore_from, words_of, ask_in, ask_of}
+use Rattle.report_json.specs.Reading.{cut_at, number_of, id_from, id_of, time_from, time_in, time_of, bounded_from, bounded_in, bounded_of, word_of, back_from, fore_from, why_from, why_in, why_of, find_of, show_of, words_of, ask_in, ask_of}
 use Rattle.report_json.proofs.Cuts.{HasNo, passing_has_no, cut_here, no_cut, chosen_some, cut_is}
 use Rattle.report_json.proofs.DigitLemmas.{digits_are, digits_pass}
 
@@ -53,6 +53,17 @@ bounded_read text of (Some ms) is =
     ∙ ap (λ x. bounded_from x (time_of is.1)) (id_read is.0 of is.3)
     ∙ ap (bounded_from (Some of)) (time_read is.1 ms is.4)
 
+why_read : (first rest : List ℕ) (from to : EntityId) (until : Option ℕ) → IsId first from → IsBounded rest to until
+    → why_of (first ++ 32 ∷ rest) ≡ Some (ask.Why from to until)
+why_read first rest from to until object bounded =
+    ap (option_and_then why_in) (cut_here 32 first rest (no_in_digits 32 first refl object.0.digits))
+    ∙ ap (λ x. why_from x (bounded_of rest)) (id_read first from object)
+    ∙ ap (why_from (Some from)) (bounded_read rest to until bounded)
+
+find_read : (text : List ℕ) → text ≢ [] → find_of text ≡ Some (ask.Find text)
+find_read [] some = absurd (some refl)
+find_read (byte ∷ text) some = refl
+
 -- a line that begins with a word and a space
 worded : (word line rest : List ℕ) → list_all is_ascii_lowercase word ≡ true → line ≡ word ++ 32 ∷ rest → ask_of line ≡ words_of word rest
 worded word line rest lower is = ap ask_of is ∙ ap (ask_in (word ++ 32 ∷ rest)) (cut_here 32 word rest (passing_has_no is_ascii_lowercase 32 word refl lower))
@@ -62,6 +73,11 @@ read_where_written line (ask.Take count) is = worded (codes "take") line is.0 re
 read_where_written line ask.Settle is = ap ask_of is
 read_where_written line (ask.Question (question.Back of until)) is = worded (codes "back") line is.0 refl is.1 ∙ ap (option_map back_from) (bounded_read is.0 of until is.2)
 read_where_written line (ask.Question (question.Fore of since)) is = worded (codes "fore") line is.0 refl is.1 ∙ ap (option_map fore_from) (bounded_read is.0 of since is.2)
+read_where_written line (ask.Why from to until) is =
+    worded (codes "why") line (is.0 ++ 32 ∷ is.1) refl is.2 ∙ why_read is.0 is.1 from to until is.3 is.4
+read_where_written line (ask.Find text) is = worded (codes "find") line text refl is.0 ∙ find_read text is.1
+read_where_written line (ask.Show id) is =
+    worded (codes "show") line is.0 refl is.1 ∙ ap (option_map ask.Show) (id_read is.0 id is.2)
 read_where_written line ask.Stat is = ap ask_of is
 read_where_written line ask.End is = ap ask_of is
 
@@ -192,9 +208,52 @@ back_written line rest asked is made = bounded_asks back_from (bounded_of rest) 
 fore_written : (line rest : List ℕ) (asked : Ask) → Behind line (codes "fore") rest → option_map fore_from (bounded_of rest) ≡ Some asked → IsAsk line asked
 fore_written line rest asked is made = bounded_asks fore_from (bounded_of rest) line rest asked (λ bounded written. (rest, is, written)) refl made
 
+why_of_parts : (first : Option EntityId) (second : Option (EntityId × Option ℕ)) (line text rest : List ℕ) (asked : Ask)
+    → Behind line (codes "why") (text ++ 32 ∷ rest) → id_of text ≡ first → bounded_of rest ≡ second
+    → why_from first second ≡ Some asked → IsAsk line asked
+why_of_parts None second line text rest asked is object bounded made = cc made
+why_of_parts (Some from) None line text rest asked is object bounded made = cc made
+why_of_parts (Some from) (Some to) line text rest asked is object bounded made =
+    word_asks line (ask.Why from to.0 to.1) asked (text, rest, is, id_written text from object, bounded_written rest to bounded) made
+
+why_written_from : (found : Option (List ℕ × List ℕ)) (line rest : List ℕ) (asked : Ask) → Behind line (codes "why") rest
+    → cut_at 32 rest ≡ found → option_and_then why_in found ≡ Some asked → IsAsk line asked
+why_written_from None line rest asked is found made = cc made
+why_written_from (Some parts) line rest asked is found made =
+    let cut = is ∙ ap (λ r. codes "why" ++ 32 ∷ r) (cut_is 32 rest parts.0 parts.1 found) in
+    why_of_parts (id_of parts.0) (bounded_of parts.1) line parts.0 parts.1 asked cut refl refl made
+
+find_written : (line rest : List ℕ) (asked : Ask) → Behind line (codes "find") rest → find_of rest ≡ Some asked → IsAsk line asked
+find_written line [] asked is made = cc made
+find_written line (byte ∷ rest) asked is made = word_asks line (ask.Find (byte ∷ rest)) asked (is, λ none. cc none) made
+
+show_written : (found : Option EntityId) (line rest : List ℕ) (asked : Ask) → Behind line (codes "show") rest → id_of rest ≡ found
+    → option_map ask.Show found ≡ Some asked → IsAsk line asked
+show_written None line rest asked is found made = cc made
+show_written (Some id) line rest asked is found made = word_asks line (ask.Show id) asked (rest, is, id_written rest id found) made
+
 -- the line behind this word, where the first word is the same
 behind_same : (line word known rest : List ℕ) → Behind line word rest → bytes_eq word known ≡ true → Behind line known rest
 behind_same line word known rest is same = is ∙ ap (λ w. w ++ 32 ∷ rest) (same_word word known same)
+
+-- what the words ask that come last
+abbrev last_words_of : List ℕ → List ℕ → Option Ask
+last_words_of word rest =
+    if bytes_eq word (codes "why") then why_of rest else
+    if bytes_eq word (codes "find") then find_of rest else
+    if bytes_eq word (codes "show") then show_of rest else None
+
+last_words_written : (line word rest : List ℕ) (asked : Ask) → Behind line word rest → last_words_of word rest ≡ Some asked → IsAsk line asked
+last_words_written line word rest asked is made =
+    elim (chosen_or (bytes_eq word (codes "why")) _ _ asked made) [
+      | inl why ↦ why_written_from (cut_at 32 rest) line rest asked (behind_same line word _ rest is why.0) refl why.1
+      | inr others ↦ elim (chosen_or (bytes_eq word (codes "find")) _ _ asked others) [
+        | inl find ↦ find_written line rest asked (behind_same line word _ rest is find.0) find.1
+        | inr last ↦
+            let show = if_some (bytes_eq word (codes "show")) (show_of rest) asked last in
+            show_written (id_of rest) line rest asked (behind_same line word _ rest is show.0) refl show.1
+      ]
+    ]
 
 words_written : (line word rest : List ℕ) (asked : Ask) → Behind line word rest → words_of word rest ≡ Some asked → IsAsk line asked
 words_written line word rest asked is made =
@@ -202,9 +261,10 @@ words_written line word rest asked is made =
       | inl take ↦ take_written (number_of 15 rest) line rest asked (behind_same line word _ rest is take.0) refl take.1
       | inr others ↦ elim (chosen_or (bytes_eq word (codes "back")) _ _ asked others) [
         | inl back ↦ back_written line rest asked (behind_same line word _ rest is back.0) back.1
-        | inr last ↦
-            let fore = if_some (bytes_eq word (codes "fore")) (option_map fore_from (bounded_of rest)) asked last in
-            fore_written line rest asked (behind_same line word _ rest is fore.0) fore.1
+        | inr more ↦ elim (chosen_or (bytes_eq word (codes "fore")) _ _ asked more) [
+          | inl fore ↦ fore_written line rest asked (behind_same line word _ rest is fore.0) fore.1
+          | inr last ↦ last_words_written line word rest asked is last
+        ]
       ]
     ]
 

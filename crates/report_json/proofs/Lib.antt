@@ -4,3 +4,4 @@ pub mod DigitLemmas
 pub mod Floats
 pub mod OneLine
 pub mod PlaceLemmas
+pub mod TimeLemmas

@@ -1,5 +1,5 @@
 -- The grammar of question lines, as relations between texts and what they ask.
-use Rattle.std.specs.Prelude.{◌≡◌, ◌<◌, ◌≤◌, ℕ, ◌+◌, ◌*◌, ◌^◌, List, ◌++◌, length, Option, None, Some, codes}
+use Rattle.std.specs.Prelude.{◌≡◌, ◌≢◌, ◌<◌, ◌≤◌, ℕ, ◌+◌, ◌*◌, ◌^◌, List, [], ◌++◌, length, Option, None, Some, codes}
 use Rattle.std.specs.Str.Parse.{IsNumeral, digits_value}
 use Rattle.flow_base.specs.declared.types.EntityId.{EntityId}
 use Rattle.report_json.specs.declared.ask.Ask.{Ask}
@@ -38,10 +38,21 @@ abbrev pub IsQuestion : List ℕ → Question → Type 0
 IsQuestion line (question.Back of until) = (rest : List ℕ) × (line ≡ codes "back " ++ rest) × IsBounded rest of until
 IsQuestion line (question.Fore of since) = (rest : List ℕ) × (line ≡ codes "fore " ++ rest) × IsBounded rest of since
 
+-- the line asks why one object reaches another, by a time where there is one
+abbrev pub IsWhy : List ℕ → EntityId → EntityId → Option ℕ → Type 0
+IsWhy line from to until = (first rest : List ℕ) × (line ≡ codes "why " ++ (first ++ (codes " " ++ rest))) × IsId first from × IsBounded rest to until
+
+-- the line asks for this text
+abbrev pub IsFind : List ℕ → List ℕ → Type 0
+IsFind line text = (line ≡ codes "find " ++ text) × (text ≢ [])
+
 -- the line asks this
 abbrev pub IsAsk : List ℕ → Ask → Type 0
 IsAsk line (ask.Take count) = (digits : List ℕ) × (line ≡ codes "take " ++ digits) × Spells 15 digits count
 IsAsk line ask.Settle = line ≡ codes "settle"
 IsAsk line (ask.Question asked) = IsQuestion line asked
+IsAsk line (ask.Why from to until) = IsWhy line from to until
+IsAsk line (ask.Find text) = IsFind line text
+IsAsk line (ask.Show id) = (digits : List ℕ) × (line ≡ codes "show " ++ digits) × IsId digits id
 IsAsk line ask.Stat = line ≡ codes "stat"
 IsAsk line ask.End = line ≡ codes "end"

@@ -1,5 +1,5 @@
 -- What is found in a line that is cut at its spaces; by the contract of `read_question` it is the grammar of Asks.
-use Rattle.std.specs.Prelude.{ℕ, ◌+◌, ◌*◌, ◌^◌, ◌==◌, ◌&&◌, List, length, Option, None, Some, nat_lt, nat_le, if◌then◌else◌, codes, option_map}
+use Rattle.std.specs.Prelude.{ℕ, ◌+◌, ◌*◌, ◌^◌, ◌==◌, ◌&&◌, List, [], ◌∷◌, length, Option, None, Some, nat_lt, nat_le, if◌then◌else◌, codes, option_map}
 use Rattle.std.specs.List.{list_all, position_or_len, before_first, after_first}
 use Rattle.std.specs.Option.{option_and_then}
 use Rattle.std.specs.Char.{is_ascii_digit}
@@ -75,12 +75,37 @@ back_from asked = ask.Question (question.Back asked.0 asked.1)
 abbrev pub fore_from : EntityId × Option ℕ → Ask
 fore_from asked = ask.Question (question.Fore asked.0 asked.1)
 
--- what a line asks with more behind its first word
+-- the question why one object reaches another
+abbrev pub why_from : Option EntityId → Option (EntityId × Option ℕ) → Option Ask
+why_from (Some from) (Some bounded) = Some (ask.Why from bounded.0 bounded.1)
+why_from _ _ = None
+
+-- what is asked by the first object's text and by the rest
+abbrev pub why_in : List ℕ × List ℕ → Option Ask
+why_in parts = why_from (id_of parts.0) (bounded_of parts.1)
+
+-- two objects, and after one space the time where there is one
+abbrev pub why_of : List ℕ → Option Ask
+why_of text = option_and_then why_in (cut_at 32 text)
+
+-- the objects with a text of at least one byte
+abbrev pub find_of : List ℕ → Option Ask
+find_of [] = None
+find_of (byte ∷ text) = Some (ask.Find (byte ∷ text))
+
+-- what an object is
+abbrev pub show_of : List ℕ → Option Ask
+show_of text = option_map ask.Show (id_of text)
+
+-- what a line asks with more after its first word
 abbrev pub words_of : List ℕ → List ℕ → Option Ask
 words_of word rest =
     if bytes_eq word (codes "take") then option_map ask.Take (number_of 15 rest) else
     if bytes_eq word (codes "back") then option_map back_from (bounded_of rest) else
-    if bytes_eq word (codes "fore") then option_map fore_from (bounded_of rest) else None
+    if bytes_eq word (codes "fore") then option_map fore_from (bounded_of rest) else
+    if bytes_eq word (codes "why") then why_of rest else
+    if bytes_eq word (codes "find") then find_of rest else
+    if bytes_eq word (codes "show") then show_of rest else None
 
 -- what a line asks by its parts around the first space
 abbrev pub ask_in : List ℕ → Option (List ℕ × List ℕ) → Option Ask

@@ -1,9 +1,13 @@
 -- Replies as JSON, and their lines.
-use Rattle.std.specs.Prelude.{◌≡◌, ◌≢◌, ℕ, List, [], ◌∷◌, ◌++◌, map, fold, codes, true}
+use Rattle.std.specs.Prelude.{◌≡◌, ◌≢◌, ℕ, ◌-◌, ◌/◌, ◌%◌, List, [], ◌∷◌, ◌++◌, length, replicate, map, fold, Option, None, Some, codes, decimal, encode_utf8_all, true}
 use Rattle.std.specs.List.{AllByRecursion}
 use Rattle.flow_base.specs.declared.types.Bad.{Bad}
 use Rattle.flow_base.specs.declared.types.EntityId.{EntityId}
-use Rattle.serde_json.specs.Data.{Data, boolean, number, unsigned, string, array, object, item, no_items, Members, member, no_members, put}
+use Rattle.flow_base.specs.declared.types.Flow.{Flow}
+use Rattle.flow_base.specs.declared.types.How.{How}
+use Rattle.flow_base.specs.declared.types.How.TheVariants as how
+use Rattle.bstr.specs.Utf8.{lossy_chars}
+use Rattle.serde_json.specs.Data.{Data, null, boolean, number, unsigned, string, array, object, item, no_items, Members, member, no_members, put}
 use Rattle.serde_json.specs.View.{items_of}
 use Rattle.serde_json.specs.Written.{compact_text}
 use Rattle.report_json.specs.declared.counts.Counts.{Counts}
@@ -41,6 +45,59 @@ fore_data of ids = object (member (codes "fore") (id_data of) (member (codes "id
 -- an object and the sources that reach it
 abbrev pub sources_data : EntityId → List EntityId → Data
 sources_data of ids = object (member (codes "back") (id_data of) (member (codes "sources") (ids_data ids) no_members))
+
+-- a number below a thousand in three digits
+abbrev pub three_digits : ℕ → List ℕ
+three_digits n = replicate (3 - length (decimal n)) 48 ++ decimal n
+
+-- milliseconds as seconds, a point and three digits
+abbrev pub time_text : ℕ → List ℕ
+time_text ms = decimal (ms / 1000) ++ (codes "." ++ three_digits (ms % 1000))
+
+-- the word for how a flow came about
+abbrev pub how_word : How → List ℕ
+how_word how.Fork = codes "fork"
+how_word how.Exec = codes "exec"
+how_word how.Read = codes "read"
+how_word how.Write = codes "write"
+how_word how.Make = codes "make"
+how_word how.Alter = codes "alter"
+
+-- a flow of a path
+abbrev pub flow_data : Flow → Data
+flow_data flow = object (
+    member (codes "at") (string (time_text flow.at.ms)) (
+    member (codes "from") (id_data flow.from) (
+    member (codes "how") (string (how_word flow.how)) (
+    member (codes "serial") (count_data flow.serial) (
+    member (codes "to") (id_data flow.to) no_members)))))
+
+-- a path, if there is one
+abbrev pub path_data : Option (List Flow) → Data
+path_data None = null
+path_data (Some flows) = array (items_of (map flow_data flows))
+
+-- two objects and a path from the first to the second
+abbrev pub why_data : EntityId → EntityId → Option (List Flow) → Data
+why_data from to path = object (
+    member (codes "from") (id_data from) (
+    member (codes "path") (path_data path) (
+    member (codes "to") (id_data to) no_members)))
+
+-- bytes as a text, with U+FFFD in place of each piece that is no UTF-8
+abbrev pub text_data : List ℕ → Data
+text_data bytes = string (encode_utf8_all (lossy_chars bytes))
+
+-- a text and the objects that have it as a name
+abbrev pub find_data : List ℕ → List EntityId → Data
+find_data text ids = object (member (codes "find") (text_data text) (member (codes "ids") (ids_data ids) no_members))
+
+-- an object's key and its names
+abbrev pub show_data : EntityId → List ℕ → List (List ℕ) → Data
+show_data id key names = object (
+    member (codes "is") (text_data key) (
+    member (codes "names") (array (items_of (map text_data names))) (
+    member (codes "show") (id_data id) no_members)))
 
 -- a malformed line as its number and its fault
 abbrev pub bad_data : Bad → Data
@@ -101,6 +158,9 @@ data_of (reply.Settle count) = settle_data count
 data_of (reply.Back of ids) = back_data of ids
 data_of (reply.Fore of ids) = fore_data of ids
 data_of (reply.Sources of ids) = sources_data of ids
+data_of (reply.Why from to path) = why_data from to path
+data_of (reply.Find text ids) = find_data text ids
+data_of (reply.Show id key names) = show_data id key names
 data_of (reply.Stat counts) = stat_data counts
 data_of reply.End = end_data
 data_of reply.BadQuestion = error_data (codes "BadQuestion")

@@ -3,10 +3,12 @@ ghost use Rattle.std.specs.Prelude.{◌≡◌, IfOk, false, codes};
 ghost use Rattle.serde_json.specs.Data.{object, member, no_members};
 ghost use Rattle.serde_json.specs.View.{view};
 ghost use Rattle.serde_json.specs.Written.{has_float};
-ghost use Rattle.report_json.specs.Replies.{id_data, ids_data, back_data, fore_data, sources_data, take_data, settle_data, end_data, error_data, data_of, line_of, text_of, IsLine};
+ghost use Rattle.report_json.specs.Replies.{id_data, ids_data, back_data, fore_data, sources_data, why_data, find_data, show_data, take_data, settle_data, end_data, error_data, data_of, line_of, text_of, IsLine};
 
 use crate::counts::{Counts, stat_value};
-use flow_base::{Bytes, EntityId, List, NoMemory};
+use crate::paths::path_value;
+use crate::texts::{text_value, texts_value};
+use flow_base::{Bytes, EntityId, Flow, List, NoMemory};
 use serde_json::{Value, json};
 use std::alloc::{AllocError, Global};
 
@@ -18,11 +20,37 @@ pub enum Reply {
     /// So many events have been released so far.
     Settle(u64),
     /// The objects from which the contents of this one can have come, ascending.
-    Back { of: EntityId, ids: List<EntityId> },
+    Back {
+        of: EntityId,
+        ids: List<EntityId>,
+    },
     /// The objects to which the contents of this one can have come, ascending.
-    Fore { of: EntityId, ids: List<EntityId> },
+    Fore {
+        of: EntityId,
+        ids: List<EntityId>,
+    },
     /// The sources from which the contents of this object can have come, ascending.
-    Sources { of: EntityId, ids: List<EntityId> },
+    Sources {
+        of: EntityId,
+        ids: List<EntityId>,
+    },
+    /// The flows of one path by which `from` reaches `to`, in order, and none if it doesn't reach it.
+    Why {
+        from: EntityId,
+        to: EntityId,
+        path: Option<List<Flow>>,
+    },
+    /// The known objects that have exactly this name, ascending.
+    Find {
+        text: Bytes,
+        ids: List<EntityId>,
+    },
+    /// An object's key as a text, and its names in the order in which they were first given.
+    Show {
+        id: EntityId,
+        key: Bytes,
+        names: List<Bytes>,
+    },
     Stat(Counts),
     /// The questions have ended.
     End,
@@ -52,6 +80,11 @@ fn reply_value(alloc: Global, reply: &Reply) -> Result<Value, AllocError>
         Reply::Back { of, ids } => back_value(alloc, *of, ids.as_slice()),
         Reply::Fore { of, ids } => fore_value(alloc, *of, ids.as_slice()),
         Reply::Sources { of, ids } => sources_value(alloc, *of, ids.as_slice()),
+        Reply::Why { from, to, path } => why_value(alloc, *from, *to, path),
+        Reply::Find { text, ids } => find_value(alloc, text.as_slice(), ids.as_slice()),
+        Reply::Show { id, key, names } => {
+            show_value(alloc, *id, key.as_slice(), names.as_slice())
+        }
         Reply::Stat(counts) => stat_value(alloc, counts),
         Reply::End => end_value(alloc),
         Reply::BadQuestion => error_value(alloc, "BadQuestion"),
@@ -109,6 +142,59 @@ fn sources_object(alloc: Global, of: EntityId, ids: Value) -> Result<Value, Allo
     ensures { IfOk result (λ value. view value ≡ object (member (codes "back") (id_data of) (member (codes "sources") (view ids) no_members))) }
 {
     json!(in alloc; {"back": of.0, "sources": ids})
+}
+
+fn why_value(
+    alloc: Global,
+    from: EntityId,
+    to: EntityId,
+    path: &Option<List<Flow>>,
+) -> Result<Value, AllocError>
+    ensures { IfOk result (λ value. view value ≡ why_data from to path.now) }
+{
+    let path = path_value(alloc, path)?;
+    why_object(alloc, from, to, path)
+}
+
+fn why_object(alloc: Global, from: EntityId, to: EntityId, path: Value) -> Result<Value, AllocError>
+    ensures { IfOk result (λ value. view value ≡ object (
+        member (codes "from") (id_data from) (
+        member (codes "path") (view path) (
+        member (codes "to") (id_data to) no_members)))) }
+{
+    json!(in alloc; {"from": from.0, "path": path, "to": to.0})
+}
+
+fn find_value(alloc: Global, text: &[u8], ids: &[EntityId]) -> Result<Value, AllocError>
+    ensures { IfOk result (λ value. view value ≡ find_data text.now ids.now) }
+{
+    let text = text_value(alloc, text)?;
+    let ids = ids_value(alloc, ids)?;
+    find_object(alloc, text, ids)
+}
+
+fn find_object(alloc: Global, text: Value, ids: Value) -> Result<Value, AllocError>
+    ensures { IfOk result (λ value. view value ≡ object (
+        member (codes "find") (view text) (member (codes "ids") (view ids) no_members))) }
+{
+    json!(in alloc; {"find": text, "ids": ids})
+}
+
+fn show_value(alloc: Global, id: EntityId, key: &[u8], names: &[Bytes]) -> Result<Value, AllocError>
+    ensures { IfOk result (λ value. view value ≡ show_data id key.now names.now) }
+{
+    let key = text_value(alloc, key)?;
+    let names = texts_value(alloc, names)?;
+    show_object(alloc, id, key, names)
+}
+
+fn show_object(alloc: Global, id: EntityId, key: Value, names: Value) -> Result<Value, AllocError>
+    ensures { IfOk result (λ value. view value ≡ object (
+        member (codes "is") (view key) (
+        member (codes "names") (view names) (
+        member (codes "show") (id_data id) no_members)))) }
+{
+    json!(in alloc; {"is": key, "names": names, "show": id.0})
 }
 
 // The numbers of objects.

@@ -1,22 +1,38 @@
 //! Lines and replies. What is expected was worked out by hand from the formats.
 use crate::*;
-use flow_base::{Bad, EntityId, List, NoMemory};
+use flow_base::{Bad, Bytes, EntityId, Flow, How, List, NoMemory, Stamp};
 use reach_rows::Question;
 use std::alloc::Global;
 use std::test::Fail;
 
-fn back(of: u32, until: Option<u64>) -> Result<Ask, BadQuestion> {
+fn back<'a>(of: u32, until: Option<u64>) -> Result<Ask<'a>, BadQuestion> {
     Ok(Ask::Question(Question::Back {
         of: EntityId(of),
         until,
     }))
 }
 
-fn fore(of: u32, since: Option<u64>) -> Result<Ask, BadQuestion> {
+fn fore<'a>(of: u32, since: Option<u64>) -> Result<Ask<'a>, BadQuestion> {
     Ok(Ask::Question(Question::Fore {
         of: EntityId(of),
         since,
     }))
+}
+
+fn why<'a>(from: u32, to: u32, until: Option<u64>) -> Result<Ask<'a>, BadQuestion> {
+    Ok(Ask::Why {
+        from: EntityId(from),
+        to: EntityId(to),
+        until,
+    })
+}
+
+fn find(text: &[u8]) -> Result<Ask<'_>, BadQuestion> {
+    Ok(Ask::Find(FindText::new(text)))
+}
+
+fn show<'a>(id: u32) -> Result<Ask<'a>, BadQuestion> {
+    Ok(Ask::Show(EntityId(id)))
 }
 
 #[test]
@@ -58,6 +74,29 @@ fn lines_ask_what_they_spell(rt: HostRuntime) {
             b"fore 1 999999999999999.999".as_slice(),
             fore(1, Some(999_999_999_999_999_999)),
         ),
+        (b"why 0 4".as_slice(), why(0, 4, None)),
+        (b"why 4 0".as_slice(), why(4, 0, None)),
+        (b"why 7 7".as_slice(), why(7, 7, None)),
+        (
+            b"why 0000000002 4294967295".as_slice(),
+            why(2, 4_294_967_295, None),
+        ),
+        (b"why 2 4 1.006".as_slice(), why(2, 4, Some(1_006))),
+        (b"why 2 4 0.000".as_slice(), why(2, 4, Some(0))),
+        (
+            b"find /tmp/a b.txt".as_slice(),
+            find(b"/tmp/a b.txt".as_slice()),
+        ),
+        (b"find x".as_slice(), find(b"x".as_slice())),
+        (b"find  x".as_slice(), find(b" x".as_slice())),
+        (b"find x ".as_slice(), find(b"x ".as_slice())),
+        (b"find  ".as_slice(), find(b" ".as_slice())),
+        (b"find find x".as_slice(), find(b"find x".as_slice())),
+        (b"find \"\t\r\0".as_slice(), find(b"\"\t\r\0".as_slice())),
+        (b"find \xff".as_slice(), find(b"\xff".as_slice())),
+        (b"show 0".as_slice(), show(0)),
+        (b"show 0000000002".as_slice(), show(2)),
+        (b"show 4294967295".as_slice(), show(4_294_967_295)),
     ] {
         assert_eq!(rt; read_question(line), want);
     }
@@ -115,6 +154,33 @@ fn other_lines_are_bad_questions(rt: HostRuntime) {
         b"fore 1 1.0000".as_slice(),
         b"fore 1 1.000 2".as_slice(),
         b"fore x".as_slice(),
+        b"why".as_slice(),
+        b"why ".as_slice(),
+        b"why 1".as_slice(),
+        b"why 1 ".as_slice(),
+        b"why  1 2".as_slice(),
+        b"why 1  2".as_slice(),
+        b"why 1 2 ".as_slice(),
+        b"why 1 2 3".as_slice(),
+        b"why 1 2 3.00".as_slice(),
+        b"why 1 2 3.000 4".as_slice(),
+        b"why 1 3.000".as_slice(),
+        b"why 1 4294967296".as_slice(),
+        b"why 4294967296 1".as_slice(),
+        b"why 1 x".as_slice(),
+        b"why x 1".as_slice(),
+        b"whys 1 2".as_slice(),
+        b"find".as_slice(),
+        b"find ".as_slice(),
+        b"find\tx".as_slice(),
+        b"Find x".as_slice(),
+        b"finds x".as_slice(),
+        b"show".as_slice(),
+        b"show ".as_slice(),
+        b"show 1 ".as_slice(),
+        b"show 1 2".as_slice(),
+        b"show 4294967296".as_slice(),
+        b"show x".as_slice(),
         b"fork 1".as_slice(),
         b"Fore 1".as_slice(),
         b"\xff".as_slice(),
@@ -238,6 +304,130 @@ fn replies_have_these_texts(rt: HostRuntime) -> Result<(), Fail> {
     ] {
         let text = reply_text(alloc, &reply)?;
         assert_eq!(rt; text.as_slice(), want.as_bytes());
+    }
+    Ok(())
+}
+
+fn flow(ms: u64, from: u32, how: How, serial: u32, to: u32) -> Flow {
+    Flow {
+        from: EntityId(from),
+        to: EntityId(to),
+        how,
+        at: Stamp { ms, place: 9 },
+        serial,
+    }
+}
+
+fn path_of(alloc: Global, flows: &[Flow]) -> Result<Reply, NoMemory> {
+    let mut path = List::new(alloc);
+    for flow in flows {
+        path.push(*flow)?;
+    }
+    Ok(Reply::Why {
+        from: EntityId(0),
+        to: EntityId(4),
+        path: Some(path),
+    })
+}
+
+#[test]
+fn paths_have_these_texts(rt: HostRuntime) -> Result<(), Fail> {
+    let alloc = rt.alloc();
+    let none = Reply::Why {
+        from: EntityId(4),
+        to: EntityId(4_294_967_295),
+        path: None,
+    };
+    for (reply, want) in [
+        (none, "{\"from\":4,\"path\":null,\"to\":4294967295}\n"),
+        (path_of(alloc, &[])?, "{\"from\":0,\"path\":[],\"to\":4}\n"),
+        (
+            path_of(
+                alloc,
+                &[
+                    flow(1_002, 0, How::Exec, 3, 1),
+                    flow(1_007, 1, How::Write, 8, 4),
+                ],
+            )?,
+            "{\"from\":0,\"path\":[{\"at\":\"1.002\",\"from\":0,\"how\":\"exec\",\"serial\":3,\"to\":1},{\"at\":\"1.007\",\"from\":1,\"how\":\"write\",\"serial\":8,\"to\":4}],\"to\":4}\n",
+        ),
+        (
+            path_of(
+                alloc,
+                &[
+                    flow(0, 0, How::Fork, 0, 1),
+                    flow(7, 1, How::Read, 1, 2),
+                    flow(1_700_000_000_250, 2, How::Make, 4_294_967_295, 3),
+                    flow(u64::MAX, 3, How::Alter, 10, 4),
+                ],
+            )?,
+            "{\"from\":0,\"path\":[{\"at\":\"0.000\",\"from\":0,\"how\":\"fork\",\"serial\":0,\"to\":1},{\"at\":\"0.007\",\"from\":1,\"how\":\"read\",\"serial\":1,\"to\":2},{\"at\":\"1700000000.250\",\"from\":2,\"how\":\"make\",\"serial\":4294967295,\"to\":3},{\"at\":\"18446744073709551.615\",\"from\":3,\"how\":\"alter\",\"serial\":10,\"to\":4}],\"to\":4}\n",
+        ),
+    ] {
+        let text = reply_text(alloc, &reply)?;
+        assert_eq!(rt; text.as_slice(), want.as_bytes());
+    }
+    Ok(())
+}
+
+fn found(alloc: Global, text: &[u8], count: u32) -> Result<Reply, NoMemory> {
+    Ok(Reply::Find {
+        text: Bytes::from_slice(alloc, text)?,
+        ids: ids(alloc, count)?,
+    })
+}
+
+fn shown(alloc: Global, id: u32, key: &[u8], names: &[&[u8]]) -> Result<Reply, NoMemory> {
+    let mut list = List::new(alloc);
+    for name in names {
+        list.push(Bytes::from_slice(alloc, name)?)?;
+    }
+    Ok(Reply::Show {
+        id: EntityId(id),
+        key: Bytes::from_slice(alloc, key)?,
+        names: list,
+    })
+}
+
+#[test]
+fn bytes_are_shown_as_lossy_texts(rt: HostRuntime) -> Result<(), Fail> {
+    let alloc = rt.alloc();
+    for (reply, want) in [
+        (
+            found(alloc, b"/tmp/a b.txt".as_slice(), 2)?,
+            b"{\"find\":\"/tmp/a b.txt\",\"ids\":[0,1]}\n".as_slice(),
+        ),
+        (
+            found(alloc, b" ".as_slice(), 0)?,
+            b"{\"find\":\" \",\"ids\":[]}\n".as_slice(),
+        ),
+        // Quotes and backslashes are escaped, control bytes by their letter or by four digits, and 7F stays.
+        (
+            found(alloc, b"\"\\\t\r\x08\x0c\0\x1f\x7f/".as_slice(), 0)?,
+            b"{\"find\":\"\\\"\\\\\\t\\r\\b\\f\\u0000\\u001f\x7f/\",\"ids\":[]}\n".as_slice(),
+        ),
+        // One U+FFFD, EF BF BD, for a byte that begins nothing, for a prefix of a character, and for each byte of a
+        // longer form than needed.
+        (
+            found(alloc, b"\xff\xc3\xa9\xe2\x82A\xc0\x80".as_slice(), 0)?,
+            b"{\"find\":\"\xef\xbf\xbd\xc3\xa9\xef\xbf\xbdA\xef\xbf\xbd\xef\xbf\xbd\",\"ids\":[]}\n".as_slice(),
+        ),
+        (
+            shown(alloc, 2, b"lost 100 0 3".as_slice(), &[])?,
+            b"{\"is\":\"lost 100 0 3\",\"names\":[],\"show\":2}\n".as_slice(),
+        ),
+        (
+            shown(
+                alloc,
+                4_294_967_295,
+                b"path /\xfe".as_slice(),
+                &[b"b".as_slice(), b"".as_slice(), b"a\"\n\xff".as_slice()],
+            )?,
+            b"{\"is\":\"path /\xef\xbf\xbd\",\"names\":[\"b\",\"\",\"a\\\"\\n\xef\xbf\xbd\"],\"show\":4294967295}\n".as_slice(),
+        ),
+    ] {
+        let text = reply_text(alloc, &reply)?;
+        assert_eq!(rt; text.as_slice(), want);
     }
     Ok(())
 }
