@@ -2,6 +2,7 @@ ghost use Rattle.std.specs.Prelude.{[], IfOk, IfSome};
 ghost use Rattle.reach_model.specs.Numbers.{IsLawfulWith};
 
 use crate::kept_flows::KeptFlows;
+use crate::one_path::Way;
 use flow_base::{EntityId, Flow, How, List, NoMemory, Stamp};
 use reach_model::{Mode, lawful_flows_grow};
 use reach_rows::{Plain, Question, Reducer, VecRows};
@@ -78,6 +79,30 @@ fn answers<R: Reducer>(
     }
 }
 
+/// From one known object to another, by flows no later than a time, leads a path whose flows have these places, or none.
+fn leads<R: Reducer>(
+    alloc: Global,
+    kept: &mut KeptFlows<R, VecRows>,
+    (from, to, until): (u32, u32, Option<u64>),
+    expected: Option<&[u64]>,
+) -> bool {
+    if from >= kept.known() || to >= kept.known() {
+        return false;
+    }
+    match (
+        kept.path(alloc, EntityId(from), EntityId(to), until),
+        expected,
+    ) {
+        (Ok(Way::Nowhere), None) => true,
+        (Ok(Way::Along(flows)), Some(places)) => flows
+            .as_slice()
+            .iter()
+            .map(|flow| flow.at.place)
+            .eq(places.iter().copied()),
+        _ => false,
+    }
+}
+
 #[test]
 fn rows_of_either_mode_answer_for_all_flows(rt: HostRuntime) -> Result<(), Fail> {
     let alloc = rt.alloc();
@@ -115,6 +140,20 @@ fn rows_of_either_mode_answer_for_all_flows(rt: HostRuntime) -> Result<(), Fail>
     for (question, expected) in cases {
         assert!(rt; answers(alloc, &mut all, &question, expected));
         assert!(rt; answers(alloc, &mut merged, &question, expected));
+    }
+    // The second write of 0 is a flow of its own in plain mode, and goes on with the first in continuous mode.
+    assert!(rt; leads(alloc, &mut all, (0, 2, None), Some([1, 2].as_slice())));
+    assert!(rt; leads(alloc, &mut merged, (0, 2, None), Some([0, 2].as_slice())));
+    let ways: [((u32, u32, Option<u64>), Option<&[u64]>); 5] = [
+        ((0, 2, Some(29)), None),
+        ((0, 1, Some(19)), Some([0].as_slice())),
+        ((3, 0, None), Some([4].as_slice())),
+        ((3, 2, None), None),
+        ((2, 2, Some(0)), Some([].as_slice())),
+    ];
+    for (asked, expected) in ways {
+        assert!(rt; leads(alloc, &mut all, asked, expected));
+        assert!(rt; leads(alloc, &mut merged, asked, expected));
     }
     Ok(())
 }

@@ -2,7 +2,7 @@ ghost use Rattle.std.specs.Prelude.{◌≡◌, IfOk};
 
 use crate::table::Table;
 use flow_base::{EntityId, Flow, How, List, NoMemory, Stamp};
-use query_walk::{WalkFault, backward, forward};
+use query_walk::{WalkFault, backward, forward, path};
 use reach_model::Verdict;
 use reach_rows::{Mark, Plain, Reducer, Row};
 use reduce_continuous::Continuous;
@@ -109,6 +109,59 @@ fn walks_go_in_the_order_of_first_and_last_flows(rt: HostRuntime) -> Result<(), 
     Ok(())
 }
 
+/// The places of these flows.
+fn have_places(flows: &List<Flow>, expected: &[u64]) -> bool {
+    flows
+        .as_slice()
+        .iter()
+        .map(|flow| flow.at.place)
+        .eq(expected.iter().copied())
+}
+
+#[test]
+fn a_path_goes_by_first_flows_of_ascending_places(rt: HostRuntime) -> Result<(), Fail> {
+    let alloc = rt.alloc();
+    // The tables of the walks above.
+    let merged = [
+        (0, 1, 10, 0, 20, 1),
+        (1, 2, 30, 2, 30, 2),
+        (0, 1, 40, 3, 40, 3),
+    ]
+    .as_slice();
+    let long = [(0, 1, 10, 0, 50, 5), (2, 0, 30, 3, 30, 3)].as_slice();
+    // From, to and until, with the places of the path's flows.
+    let cases: [(&[Written], u32, u32, Option<u64>, Option<&[u64]>); 10] = [
+        (merged, 0, 2, None, Some([0, 2].as_slice())),
+        (merged, 0, 2, Some(30), Some([0, 2].as_slice())),
+        (merged, 0, 2, Some(29), None),
+        // Of two paths, by the later row, unless it is too late.
+        (merged, 0, 1, None, Some([3].as_slice())),
+        (merged, 0, 1, Some(39), Some([0].as_slice())),
+        (merged, 1, 1, Some(0), Some([].as_slice())),
+        (merged, 2, 0, None, None),
+        (merged, 1, 0, None, None),
+        (long, 2, 0, None, Some([3].as_slice())),
+        // The row from 0 to 1 counts as its first flow, which came before 2 wrote to 0.
+        (long, 2, 1, None, None),
+    ];
+    for (written, from, to, until, expected) in cases {
+        let mut rows = table(alloc, written, 3)?;
+        assert!(rt; from < 3);
+        assert!(rt; to < 3);
+        let Ok(found) = path(alloc, &mut rows, EntityId(from), EntityId(to), until) else {
+            return Err(Fail::new("a search for a path failed"));
+        };
+        match (found, expected) {
+            (None, None) => {}
+            (Some(flows), Some(places)) => {
+                assert!(rt; have_places(&flows, places), "from {from} to {to}");
+            }
+            _ => return Err(Fail::new("a path is shown where none is, or the other way round")),
+        }
+    }
+    Ok(())
+}
+
 #[test]
 fn a_fault_of_a_row_is_handed_on_by_its_cause(rt: HostRuntime) -> Result<(), Fail> {
     let alloc = rt.alloc();
@@ -123,7 +176,11 @@ fn a_fault_of_a_row_is_handed_on_by_its_cause(rt: HostRuntime) -> Result<(), Fai
         forward(alloc, &mut failing, EntityId(0), None).err(),
         Some(WalkFault::StoreFault)
     );
-    assert_eq!(rt; failing.faults, 2);
+    assert_eq!(rt;
+        path(alloc, &mut failing, EntityId(1), EntityId(0), None).err(),
+        Some(WalkFault::StoreFault)
+    );
+    assert_eq!(rt; failing.faults, 3);
     let mut bad = table(alloc, written, 2)?;
     assert_eq!(rt;
         backward(alloc, &mut bad, EntityId(0), None).err(),
@@ -131,6 +188,10 @@ fn a_fault_of_a_row_is_handed_on_by_its_cause(rt: HostRuntime) -> Result<(), Fai
     );
     assert_eq!(rt;
         forward(alloc, &mut bad, EntityId(0), None).err(),
+        Some(WalkFault::BadStore(1))
+    );
+    assert_eq!(rt;
+        path(alloc, &mut bad, EntityId(1), EntityId(0), None).err(),
         Some(WalkFault::BadStore(1))
     );
     Ok(())
