@@ -1,11 +1,11 @@
 #!/usr/bin/env python3
 """Holds the built program against the plain reading of the formats over logs whose lines were changed by chance.
 
-    bench/mutated.py [--program ./audit_cli] [--logs 80] [--seed 1]
+    bench/mutated.py [--program ./audit_cli] [--logs 80] [--seed 1] [--paths]
 
 Each log is a cut of a real or a generated one. Most of its lines are changed: tokens change places, are left out, come twice, lose their value or
-their quotes, get values at the edge of what a field may hold; lines are cut short, and bytes are changed. It ends with status 1 and the first
-difference where the two don't agree.
+their quotes, get values at the edge of what a field may hold; lines are cut short, and bytes are changed. With `--paths` the questions
+`why`, `find` and `show` are asked too. It ends with status 1 and the first difference if the two don't agree.
 """
 import argparse
 import os
@@ -15,7 +15,7 @@ import subprocess
 import sys
 import tempfile
 
-from compare import HERE, difference
+from compare import HERE, asks_for_paths, difference
 
 # Values at the edge of what a field may hold.
 EDGES = [b'', b'-1', b'(null)', b'""', b'"x', b'"a b c"', b'2F6', b'2f66', b'4294967295', b'4294967296', b'18446744073709551615',
@@ -82,10 +82,12 @@ def log_of(rng, lines):
     return b'\n'.join(log) + rng.choice([b'', b'\n'])
 
 
-def questions_for(rng, size):
+def questions_for(rng, log, size, paths):
     lines = [f'take {rng.randrange(1, size + 1)}', 'stat', f'take {size}', 'stat', 'settle', 'stat']
     lines += [f'{rng.choice(["back", "fore"])} {rng.randrange(25)}' for _ in range(12)]
-    return '\n'.join(lines + ['end', '']).encode()
+    if paths:
+        lines += asks_for_paths(rng, log, 25)
+    return '\n'.join(lines + ['end', '']).encode('latin1')
 
 
 def main():
@@ -93,6 +95,7 @@ def main():
     parser.add_argument('--program', default=os.path.join(HERE, '..', 'audit_cli'))
     parser.add_argument('--logs', type=int, default=80)
     parser.add_argument('--seed', type=int, default=1)
+    parser.add_argument('--paths', action='store_true')
     options = parser.parse_args()
     made = subprocess.run([sys.executable, os.path.join(HERE, 'make_log.py'), '1', '2000', '--mix'], stdout=subprocess.PIPE, check=True).stdout
     with open(os.path.join(HERE, '..', 'examples', 'web1_sample.log'), 'rb') as file:
@@ -104,7 +107,7 @@ def main():
             log, mode = log_of(rng, rng.choice(logs)), rng.choice(MODES)
             with open(path, 'wb') as file:
                 file.write(log)
-            text = difference(options.program, mode, path, questions_for(rng, len(log)))
+            text = difference(options.program, mode, path, questions_for(rng, path, len(log), options.paths))
             if text:
                 print(f'log {number} of seed {options.seed}, {mode}: {text}')
                 return 1

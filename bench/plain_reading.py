@@ -1,22 +1,26 @@
 #!/usr/bin/env python3
 """A plain reading of docs/FORMATS.md, written apart from the program, to compare the program with.
 
-    bench/plain_reading.py MODE LOG [--calls three|moves|all] < QUESTIONS
+    bench/plain_reading.py MODE LOG [--calls three|moves|all] [--paths REPLIES] < QUESTIONS
 
-It answers the lines `take`, `settle`, `back`, `fore`, `stat` and `end` as `watch MODE LOG` does. It keeps all flows in every mode,
-goes through them for each question, and proves nothing: what a mode keeps is only counted. With `--calls three` only read, write and
-fork are mapped, with `moves` all calls but those that only make or move descriptors.
+It answers the lines `take`, `settle`, `back`, `fore`, `why`, `find`, `show`, `stat` and `end` as `watch MODE LOG` does. It keeps all
+flows in every mode, goes through them for each question, and proves nothing: what a mode keeps is only counted. With `--calls three`
+only read, write and fork are mapped, with `moves` all calls but those that only make or move descriptors.
+
+Any path is a right answer to `why`. With `--paths` the file REPLIES has a program's replies to the same questions: a path in it is
+repeated if it is one, and else the answer says what is wrong with it.
 """
 import argparse
 import json
+import os
 import re
 import sys
 
-LINE, GROUPS, TEXT, RECORDS, SHOWN, PATH, NAMES, LAPSE = 65536, 4096, 16777216, 512, 100, 4096, 16, 2000
+LINE, ASK, GROUPS, TEXT, RECORDS, SHOWN, PATH, NAMES, LAPSE = 65536, 4096, 4096, 16777216, 512, 100, 4096, 16, 2000
 X86_64 = 0xC000003E
 HEADER = re.compile(
     rb'(?:node=[^ ]+ )?type=([A-Z0-9_\[\]]+) msg=audit\(([0-9]{1,15})\.([0-9]{3}):([0-9]{1,10})\) ?:(?=\Z|[ \x1d])', re.S)
-QUESTION = re.compile(r'take [0-9]{1,15}|settle|stat|end|(back|fore) [0-9]{1,10}( [0-9]{1,15}\.[0-9]{3})?')
+QUESTION = re.compile(r'take [0-9]{1,15}|settle|stat|end|find .+|show [0-9]{1,10}|(back|fore|why [0-9]{1,10}) [0-9]{1,10}( [0-9]{1,15}\.[0-9]{3})?', re.S)
 
 # ---- values and fields: a reader raises the number of the fault
 
@@ -147,6 +151,26 @@ def address_text(key):
     if family(key) == 1:
         return b'unix:' + key[2:] if key[2] else b'unix:@' + key[3:]
     return b'family:' + key.hex().encode()
+
+
+def key_text(key):
+    kind, *parts = key
+    if kind == 'inode':
+        (major, minor), inode = parts[0]
+        return b'file %02x:%02x %d %d' % (major, minor, inode, parts[1])
+    if kind == 'address':
+        return b'address ' + address_text(parts[0])
+    if kind == 'path':
+        return b'path ' + parts[0]
+    return ' '.join([kind, *map(str, parts)]).encode()
+
+
+def lossy(bytes_):
+    return bytes_.decode('utf-8', 'replace')
+
+
+def time_text(ms):
+    return f'{ms // 1000}.{ms % 1000:03}'
 
 
 # ---- calls and acts
@@ -299,13 +323,24 @@ class Host:
         self.acts = 0
         self.begun, self.live, self.awaits, self.linked = {}, set(), {}, set()
         self.held, self.sockets, self.address, self.births = {}, set(), {}, {}
-        self.ids, self.flows = {}, []
+        self.ids, self.flows, self.names = {}, [], {}
 
     def process(self, pid):
         return 'process', pid, max(self.begun.get(pid, 0) - 1, 0)
 
     def file(self, file):
         return ('path', file[2] or b'') if file[1] is None else ('inode', file[1], self.births.get(file[1], 0))
+
+    def name(self, key, text):
+        names = self.names.setdefault(key, [])
+        if text is not None and text not in names and len(names) < NAMES:
+            names.append(text)
+
+    def name_thing(self, thing):
+        if thing[0] == 'file':
+            self.name(self.file(thing), thing[2])
+        elif thing[0] == 'address':
+            self.name(thing, address_text(thing[1]))
 
     def key_of(self, pid, thing):
         if thing[0] == 'file':
@@ -335,8 +370,11 @@ class Host:
         self.acts += 1
 
     def do_see(self, pid, parent, exe, ms, serial):
-        if pid in self.live:
-            return
+        if pid not in self.live:
+            self.do_begin(pid, parent, ms, serial)
+        self.name(self.process(pid), exe)
+
+    def do_begin(self, pid, parent, ms, serial):
         linked = parent in self.live and parent != pid
         self.begin(pid, parent, linked)
         self.awaits[pid] = parent
@@ -365,10 +403,12 @@ class Host:
 
     def do_set(self, pid, fd, what, closes):
         if what[0] == 'file':
+            self.name_thing(what)
             self.held[pid][fd] = (self.file(what), closes)
             return
         socket, listener = ('made', self.acts), self.held[pid].get(what[2])
         if what[1] is not None:
+            self.name_thing(('address', what[1]))
             self.address[socket] = what[1]
         elif listener and listener[0] in self.address:
             self.address[socket] = self.address[listener[0]]
@@ -390,6 +430,7 @@ class Host:
             self.held[pid][fd] = (self.held[pid][fd][0], closes)
 
     def do_address(self, pid, fd, address):
+        self.name_thing(('address', address))
         held = self.held[pid].get(fd)
         if not held or held[0] not in self.sockets:
             held = self.held[pid][fd] = (('made', self.acts), False)
@@ -399,8 +440,10 @@ class Host:
     def do_birth(self, _, file):
         if file[1] is not None:
             self.births[file[1]] = self.births.get(file[1], 0) + 1
+        self.name_thing(file)
 
     def do_move(self, pid, inward, how, thing, ms, serial):
+        self.name_thing(thing)
         ends = self.key_of(pid, thing), self.process(pid)
         self.flow(*(ends if inward else ends[::-1]), how, ms, serial)
 
@@ -528,32 +571,88 @@ class Engine:
         return sorted(found)
 
 
-def answer(engine, log, question):
-    words = question.split(' ')
-    if not QUESTION.fullmatch(question) or words[0] in ('back', 'fore') and int(words[1]) >= 2**32:
+    def first(self, of):
+        """The first flow of an object."""
+        return next(flow for flow in self.host.flows if of in flow[:2])
+
+    def is_source(self, of):
+        return self.first(of)[0] == of
+
+    def allows(self, way, of, bound):
+        if self.mode not in ('full', 'source') or way == 'back':
+            return True
+        if self.mode == 'source' and not self.is_source(of):
+            return False
+        return way == 'why' or bound is None or bound <= self.first(of)[3]
+
+    def fault_of(self, path, source, target, until):
+        """What is wrong with this answer to `why`, or None."""
+        if path is None:
+            return 'there is a path' if source in self.back(target, until) else None
+        at, place = source, -1
+        for hop in path:
+            if hop['from'] != at:
+                return f'{hop} begins elsewhere'
+            flow = next((number for number, (one, other, how, ms, serial) in enumerate(self.host.flows) if number > place and hop == {
+                'at': time_text(ms), 'from': one, 'how': how, 'serial': serial, 'to': other}), None)
+            if flow is None:
+                return f'{hop} is no flow after those before it'
+            if until is not None and self.host.flows[flow][3] > until:
+                return f'{hop} is too late'
+            at, place = hop['to'], flow
+        return None if at == target else 'it ends elsewhere'
+
+    def why(self, source, target, until, reply):
+        """The path of this reply, if it is one."""
+        try:
+            path = json.loads(reply)['path']
+            fault = self.fault_of(path, source, target, until)
+        except (ValueError, KeyError, TypeError):
+            path, fault = None, 'it has no path'
+        return {'from': source, 'path': path if fault is None else f'wrong: {fault}', 'to': target}
+
+    def find(self, text):
+        return [of for key, of in self.host.ids.items() if text in self.host.names.get(key, [])]
+
+    def show(self, of):
+        key = list(self.host.ids)[of]
+        return {'is': lossy(key_text(key)), 'names': [lossy(name) for name in self.host.names.get(key, [])], 'show': of}
+
+
+def answer(engine, log, question, reply):
+    if len(question) > ASK or not QUESTION.fullmatch(question):
         return {'error': 'BadQuestion'}
-    if words[0] == 'take':
-        piece = log.read(int(words[1]))
+    way, *words = question.split(' ')
+    if way == 'take':
+        piece = log.read(int(words[0]))
         engine.feed(piece)
         return {'take': len(piece)}
-    if words[0] == 'settle':
+    if way == 'settle':
         engine.settle()
         return {'settle': engine.counts['events']}
-    if words[0] == 'stat':
+    if way == 'stat':
         return engine.stat()
-    if words[0] == 'end':
+    if way == 'end':
         return {'end': True}
-    of, bound = int(words[1]), int(words[2].replace('.', '')) if len(words) > 2 else None
-    if of >= len(engine.host.ids):
+    if way == 'find':
+        text = question.removeprefix('find ').encode('latin1')
+        return {'find': lossy(text), 'ids': engine.find(text)}
+    ids = [int(word) for word in words if '.' not in word]
+    bound = next((int(word.replace('.', '')) for word in words if '.' in word), None)
+    if max(ids) >= 2**32:
+        return {'error': 'BadQuestion'}
+    if max(ids) >= len(engine.host.ids):
         return {'error': 'Unknown'}
-    first = next(flow for flow in engine.host.flows if of in flow[:2])
-    if words[0] == 'fore' and (engine.mode in ('full', 'source') and bound is not None and bound > first[3]
-                               or engine.mode == 'source' and first[0] != of):
+    if way == 'show':
+        return engine.show(ids[0])
+    if not engine.allows(way, ids[0], bound):
         return {'error': 'NotKept'}
-    found = getattr(engine, words[0])(of, bound)
-    if words[0] == 'back' and engine.mode == 'source':
-        return {'back': of, 'sources': [x for x in found if next(flow for flow in engine.host.flows if x in flow[:2])[0] == x]}
-    return {words[0]: of, 'ids': found}
+    if way == 'why':
+        return engine.why(*ids, bound, reply)
+    found = getattr(engine, way)(ids[0], bound)
+    if way == 'back' and engine.mode == 'source':
+        return {'back': ids[0], 'sources': [of for of in found if engine.is_source(of)]}
+    return {way: ids[0], 'ids': found}
 
 
 def main():
@@ -561,12 +660,15 @@ def main():
     parser.add_argument('mode', choices=KEPT)
     parser.add_argument('log')
     parser.add_argument('--calls', default='all', choices=MAPPED)
+    parser.add_argument('--paths', default=os.devnull)
     options = parser.parse_args()
     engine = Engine(options.mode, MAPPED[options.calls])
-    with open(options.log, 'rb') as log:
+    sys.stdout.reconfigure(encoding='utf-8')
+    with open(options.log, 'rb') as log, open(options.paths, 'rb') as replies:
         for line in sys.stdin.buffer:
-            question = line.decode('latin1').rstrip('\n')
-            print(json.dumps(answer(engine, log, question), separators=(',', ':'), sort_keys=True))
+            question = line.decode('latin1').removesuffix('\n')
+            said = answer(engine, log, question, replies.readline())
+            print(json.dumps(said, ensure_ascii=False, separators=(',', ':'), sort_keys=True))
             if question == 'end':
                 return
 
