@@ -1,6 +1,6 @@
 -- The three questions of `back`.
-use Rattle.std.proofs.Common.{◌≡◌, ◌≤◌, ◌<◌, ◌+◌, ◌-◌, ◌^◌, ℕ, List, [], ◌∷◌, ◌++◌, map, length, take, drop, refl, ap, sym, arith, ◌∙◌, Some, None, subst}
-use Rattle.std.specs.Prelude.{cond}
+use Rattle.std.proofs.Common.{Option, ◌≡◌, ◌≤◌, ◌<◌, ◌+◌, ◌-◌, ◌^◌, ℕ, List, [], ◌∷◌, ◌++◌, map, length, take, drop, refl, ap, sym, arith, ◌∙◌, Some, None, subst, inl, inr}
+use Rattle.std.specs.Prelude.{cond, Err}
 use Rattle.std.proofs.lemmas.List.Sums.{sum_by-append}
 use Rattle.std.proofs.lemmas.List.{length-take, take-append-drop, map-append, take_all as list_take_all}
 use Rattle.std.proofs.Math.ListN.{drop_of_length-le}
@@ -15,8 +15,13 @@ use Rattle.report_json.specs.declared.reply.Reply.TheVariants as reply
 use Rattle.report_json.specs.Replies.{text_of}
 use Rattle.ingest.specs.Counting.{is_byte, bytes_in}
 use Rattle.ingest.specs.Stops.{Fits, Stops}
-use Rattle.audit_cli.specs.Dialogue.{Moment, after, Answers, HistoryStops, begin}
-use Rattle.audit_cli.specs.Headline.{back_questions, IsLast, IsLastFront}
+use Rattle.audit_cli.specs.Dialogue.{Moment, after, Answers, nothing_beyond, begin}
+use Rattle.audit_cli.specs.Course.{Stopped, IsDue, never}
+use Rattle.audit_cli.specs.declared.halt.Halt.{Halt}
+use Rattle.audit_cli.specs.declared.halt.Halt.TheVariants as halt
+use Rattle.audit_cli.specs.Jobs.{LastCourse}
+use Rattle.report_json.specs.declared.ask.Ask.{Ask}
+use Rattle.audit_cli.specs.Headline.{back_questions, unsaid, IsLast, IsLastFront}
 use Rattle.audit_cli.proofs.MomentLemmas.{Stay, take_all}
 use Rattle.audit_cli.proofs.TalkLemmas.{stops_now}
 
@@ -52,11 +57,18 @@ pub nothing_left : (mode : Mode) (limits : Limits) (bytes : List ℕ) → limits
 nothing_left mode limits bytes small fits = drop_of_length-le bytes (all_taken mode limits bytes small fits)
 
 -- the first question passes the limit
-pub take_stops : Stay → (mode : Mode) (limits : Limits) (of : ℕ) (bytes : List ℕ) (full : Full) → Stops limits (taken mode bytes).history full → HistoryStops limits (begin mode bytes) (back_questions of bytes) full
-take_stops stay mode limits of bytes full over =
+pub take_stops : Stay → (mode : Mode) (limits : Limits) (of : ℕ) (bytes : List ℕ) (full : Full) → Fits limits (begin mode bytes).history → Stops limits (taken mode bytes).history full
+    → Stopped limits nothing_beyond unsaid (begin mode bytes) (back_questions of bytes) [] full
+take_stops stay mode limits of bytes full fits over =
     let split : take (length bytes) bytes ≡ take most bytes ++ drop most bytes = list_take_all (length bytes) bytes (omega arith) ∙ sym (take-append-drop most bytes) in
     let longer : (after (Some (ask.Take (length bytes))) (begin mode bytes)).history ≡ (taken mode bytes).history ++ map Byte (drop most bytes) = rw (split, map-append) refl in
-    stops_now limits (begin mode bytes) _ _ full (subst (λ (h : History). Stops limits h full) (sym longer) (stay limits (taken mode bytes).history (map Byte (drop most bytes)) full over))
+    record {
+      said = [];
+      to = begin mode bytes;
+      stops = stops_now limits nothing_beyond (begin mode bytes) _ _ full (subst (λ (h : History). Stops limits h full) (sym longer) (stay limits (taken mode bytes).history (map Byte (drop most bytes)) full over));
+      fits = fits;
+      bytes_are = refl;
+    }
 
 taken_said : (mode : Mode) (limits : Limits) (bytes : List ℕ) (r : Reply) → limits.input < most → Fits limits (taken mode bytes).history → Answers limits (Some (ask.Take most)) (begin mode bytes) r → Answers limits (Some (ask.Take (length bytes))) (begin mode bytes) r
 taken_said mode limits bytes r small fits a =
@@ -68,17 +80,37 @@ taken_said mode limits bytes r small fits a =
 
 -- the second question passes the limit
 pub settle_stops : (mode : Mode) (limits : Limits) (of : ℕ) (bytes : List ℕ) (r : Reply) (full : Full) → limits.input < most → Fits limits (taken mode bytes).history → Answers limits (Some (ask.Take most)) (begin mode bytes) r
-    → Stops limits (after (Some ask.Settle) (taken mode bytes)).history full → HistoryStops limits (begin mode bytes) (back_questions of bytes) full
-settle_stops mode limits of bytes r full small fits a over = record {
-  front = Some (ask.Take (length bytes)) ∷ [];
-  next = Some ask.Settle;
-  rest = Some (ask.Question (question.Back (record { 0 = of }) None)) ∷ [];
-  said = r ∷ [];
-  to = after (Some (ask.Take (length bytes))) (begin mode bytes);
-  parts = refl;
-  leads = λ questions replies end talk. (taken_said mode limits bytes r small fits a, talk);
-  stops = subst (λ (x : Moment). Stops limits (after (Some ask.Settle) x).history full) (takes_all mode limits bytes small fits) over;
-}
+    → Stops limits (after (Some ask.Settle) (taken mode bytes)).history full → Stopped limits nothing_beyond unsaid (begin mode bytes) (back_questions of bytes) [] full
+settle_stops mode limits of bytes r full small fits a over =
+    let all = takes_all mode limits bytes small fits in
+    record {
+      said = r ∷ [];
+      to = after (Some (ask.Take (length bytes))) (begin mode bytes);
+      stops = record {
+        answered = Some (ask.Take (length bytes)) ∷ [];
+        later = Some ask.Settle ∷ Some (ask.Question (question.Back (record { 0 = of }) None)) ∷ [];
+        parts = refl;
+        leads = λ questions replies end talk. (taken_said mode limits bytes r small fits a, talk);
+        cause = inl (subst (λ (x : Moment). Stops limits (after (Some ask.Settle) x).history full) all over);
+      };
+      fits = subst (λ (x : Moment). Fits limits x.history) all fits;
+      bytes_are = refl;
+    }
+
+-- a halt before the last reply, with nothing written
+pub quiet_halt : (limits : Limits) (why : Halt) (from to : Moment) (questions : List (Option Ask)) (passes : Full → Type 0) → IsDue passes why → ((full : Full) → passes full → Stopped limits nothing_beyond unsaid from questions [] full)
+    → LastCourse limits (Err why) from questions [] to
+quiet_halt limits (halt.Full full) from to questions passes due stops = stops full due
+quiet_halt limits halt.NoMemory from to questions passes due stops = inl refl
+quiet_halt limits halt.ReadFault from to questions passes due stops = inl refl
+quiet_halt limits halt.WriteFault from to questions passes due stops = inl refl
+
+-- a halt within the last reply
+pub cut_halt : (limits : Limits) (why : Halt) (from to : Moment) (questions : List (Option Ask)) (bytes : List ℕ) → IsDue never why → IsLastFront limits from questions bytes → LastCourse limits (Err why) from questions bytes to
+cut_halt limits (halt.Full full) from to questions bytes none x = absurd none
+cut_halt limits halt.NoMemory from to questions bytes none x = inr x
+cut_halt limits halt.ReadFault from to questions bytes none x = inr x
+cut_halt limits halt.WriteFault from to questions bytes none x = inr x
 
 -- all three were answered
 pub last_said : (mode : Mode) (limits : Limits) (of : ℕ) (bytes : List ℕ) (a b r : Reply) (text : List ℕ) → limits.input < most → Fits limits (taken mode bytes).history → Answers limits (Some (ask.Take most)) (begin mode bytes) a

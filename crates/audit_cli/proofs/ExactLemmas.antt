@@ -1,5 +1,5 @@
 -- A dialogue within the limits passes no limit.
-use Rattle.std.proofs.Common.{◌≡◌, ℕ, List, [], ◌∷◌, ◌++◌, map, take, length, refl, ap, sym, arith, ◌∙◌, Option, Some, None, subst, suc, append_assoc, inl, inr}
+use Rattle.std.proofs.Common.{◌≡◌, ℕ, List, [], ◌∷◌, ◌++◌, map, take, length, refl, ap, sym, arith, ◌∙◌, Option, Some, None, subst, suc, append_assoc, inl, inr, ⊎_elim}
 use Rattle.std.proofs.lemmas.List.{append-nil, map-append, length-append}
 use Rattle.flow_base.specs.declared.limits.Limits.{Limits}
 use Rattle.flow_base.specs.declared.limits.Full.{Full}
@@ -11,7 +11,7 @@ use Rattle.report_json.specs.declared.reply.Reply.TheVariants as reply
 use Rattle.ingest.specs.Stops.{Fits, Stops}
 use Rattle.audit_cli.specs.declared.halt.Turn.{Turn}
 use Rattle.audit_cli.specs.declared.halt.Turn.TheVariants as turn
-use Rattle.audit_cli.specs.Dialogue.{Moment, after, turn_of, AfterTurn, Dialogue, Leads, Closes, HistoryStops, QuestionsStop, asked, asks}
+use Rattle.audit_cli.specs.Dialogue.{Moment, after, turn_of, AfterTurn, Dialogue, Leads, Closes, Beyond, NextStops, StopsAfter, QuestionsStop, asked, asks}
 use Rattle.audit_cli.specs.Listening.{KeepsWithin}
 use Rattle.audit_cli.proofs.MomentLemmas.{Stay}
 
@@ -81,13 +81,19 @@ next_grows : (limits : Limits) (q : Option Ask) (questions : List (Option Ask)) 
 next_grows limits q questions [] from end talk = absurd talk
 next_grows limits q questions (r ∷ replies) from end talk = either_grows limits (turn_of q) (replies ≡ []) questions replies (after q from) end (talk_grows limits questions replies (after q from) end) talk.1
 
+within_next : Stay → NeverStops → (limits : Limits) (from to end : Moment) (answered later : List (Option Ask)) (said replies : List Reply) (full : Full) → Leads limits from answered said to
+    → Dialogue limits from (answered ++ later) replies end → Fits limits end.history → NextStops limits to later full → ⊥
+within_next stay fitting limits from to end answered [] said replies full leads talk fits none = none
+within_next stay fitting limits from to end answered (next ∷ rest) said replies full leads talk fits over =
+    let left = through limits answered from to said leads (next ∷ rest) replies end talk in
+    let grown = next_grows limits next rest left.0 to end left.1 in
+    fitting limits end.history full fits (subst (λ (h : History). Stops limits h full) (sym grown.is) (stay limits (after next to).history grown.more full over))
+
 -- a dialogue that ends within the limits passes none
-pub within_stops : Stay → NeverStops → (limits : Limits) (from end : Moment) (questions : List (Option Ask)) (replies : List Reply) (full : Full) → Dialogue limits from questions replies end → Fits limits end.history → HistoryStops limits from questions full → ⊥
-within_stops stay fitting limits from end questions replies full talk fits x =
-    let whole = rw (x.parts) at talk in
-    let rest = through limits x.front from x.to x.said x.leads (x.next ∷ x.rest) replies end whole in
-    let grown = next_grows limits x.next x.rest rest.0 x.to end rest.1 in
-    fitting limits end.history full fits (subst (λ (h : History). Stops limits h full) (sym grown.is) (stay limits (after x.next x.to).history grown.more full x.stops))
+pub within_stops : Stay → NeverStops → (limits : Limits) (beyond : Beyond) (from to end : Moment) (questions : List (Option Ask)) (said replies : List Reply) (full : Full) → Dialogue limits from questions replies end → Fits limits end.history
+    → (x : StopsAfter limits beyond from questions said to full) → (beyond x.answered full → ⊥) → ⊥
+within_stops stay fitting limits beyond from to end questions said replies full talk fits x none =
+    ⊎_elim (within_next stay fitting limits from to end x.answered x.later said replies full x.leads (rw (x.parts) at talk) fits) none x.cause
 
 -- how many replies a dialogue has is settled where `end` is among its questions
 ended_same : (limits : Limits) (t : Turn) (next to end : Moment) (front questions : List (Option Ask)) (s xs : List Reply) (A B : Type 0)
@@ -117,9 +123,9 @@ leads_open limits front rest from to end said closed leads closes =
     omega arith
 
 -- `end` within the limit leaves no question past it
-pub questions_within : (limits : Limits) (from : Moment) (q : List ℕ) (full : Full) → KeepsWithin limits from q → QuestionsStop limits from q full → ⊥
-questions_within limits from q full (inl short) x = let over = x.past in omega arith
-questions_within limits from q full (inr e) x =
+pub questions_within : (limits : Limits) (from to : Moment) (q : List ℕ) (answered : List (Option Ask)) (said : List Reply) (full : Full) → KeepsWithin limits from q → Leads limits from answered said to → QuestionsStop limits q answered full → ⊥
+questions_within limits from to q answered said full (inl short) leads x = let over = x.past in omega arith
+questions_within limits from to q answered said full (inr e) leads x =
     let lines : lines_of (with_bytes [] (take limits.input q)) ≡ e.answered ++ e.unheard = e.lines in
-    let leads = rw (lines, map-append (asked limits.question) e.answered e.unheard) at x.leads in
-    leads_open limits (asks limits e.answered) (asks limits e.unheard) from x.to e.to x.said e.said leads e.closes
+    let all : answered ≡ asks limits e.answered ++ asks limits e.unheard = x.all ∙ ap (asks limits) lines ∙ map-append (asked limits.question) e.answered e.unheard in
+    leads_open limits (asks limits e.answered) (asks limits e.unheard) from to e.to said e.said (rw all at leads) e.closes

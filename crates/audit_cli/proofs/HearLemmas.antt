@@ -14,12 +14,11 @@ use Rattle.audit_cli.specs.declared.halt.Halt.{Halt}
 use Rattle.audit_cli.specs.declared.halt.Halt.TheVariants as halt
 use Rattle.audit_cli.specs.declared.halt.Turn.{Turn}
 use Rattle.audit_cli.specs.declared.halt.Turn.TheVariants as turn
-use Rattle.audit_cli.specs.Dialogue.{Moment, Leads, asked, asks, HistoryStops, QuestionsStop, ReadsNoFurther, input_full}
-use Rattle.audit_cli.specs.Course.{At, Course, Talked, IsDue, never}
+use Rattle.audit_cli.specs.Dialogue.{Moment, Beyond, Leads, asked, asks, QuestionsStop, ReadsNoFurther, input_full, nothing_beyond}
+use Rattle.audit_cli.specs.Course.{At, Course, Halted, Talked, IsDue, never}
 use Rattle.audit_cli.specs.Hearing.{Holds, Heard, WhenMore}
 use Rattle.audit_cli.specs.Listening.{PassesRoom, EndsWithin}
-use Rattle.audit_cli.proofs.TalkLemmas.{appends_none, appends_both, leads_none, leads_both, leads_closes, course_after, nothing_said, all_said}
-use Rattle.audit_cli.proofs.MomentLemmas.{due_weaker}
+use Rattle.audit_cli.proofs.TalkLemmas.{appends_none, appends_both, leads_none, leads_both, leads_closes, course_after, nothing_said, other_halt, Carries}
 
 -- lines that have ended stay
 abbrev pub LinesStay : Type 0
@@ -30,29 +29,29 @@ pub pieces : (h : History) (p q : List ℕ) → with_bytes (with_bytes h p) q �
 pieces h p q = rw (map-append, append_assoc) refl
 
 -- the lines of a piece that was heard whole
-pub whole_lines : (mode : Mode) (limits : Limits) (beyond : Full → Type 0) (c : Cutter) (e : Engine) (l old new : Option (List ℕ)) (m : Moment) (h : History) (p : List ℕ)
+pub whole_lines : (mode : Mode) (limits : Limits) (beyond : Beyond) (c : Cutter) (e : Engine) (l old new : Option (List ℕ)) (m : Moment) (h : History) (p : List ℕ)
     → (x : Heard mode limits beyond c e l old new (Ok turn.More) m h p) → lines_of (with_bytes h p) ≡ lines_of h ++ x.answered
 whole_lines mode limits beyond c e l old new m h p x =
     x.lines ∙ ap (λ (ls : List (List ℕ)). lines_of h ++ (x.answered ++ ls)) x.whole ∙ ap (λ (ls : List (List ℕ)). lines_of h ++ ls) (append-nil x.answered)
 
 -- a part of a run after another one that goes on
-pub talked_after : (mode : Mode) (limits : Limits) (beyond : Full → Type 0) (e1 e2 : Engine) (l1 l2 old mid new : Option (List ℕ)) (r : Result Turn Halt) (from : Moment) (f g : List (Option Ask))
-    → (first : Talked mode limits never e1 l1 old mid (Ok turn.More) from f) → Talked mode limits beyond e2 l2 mid new r first.to g → Talked mode limits beyond e2 l2 old new r from (f ++ g)
-talked_after mode limits beyond e1 e2 l1 l2 old mid new r from f g first second = record {
+pub talked_after : (mode : Mode) (limits : Limits) (P Q : Beyond) (e1 e2 : Engine) (l1 l2 old mid new : Option (List ℕ)) (r : Result Turn Halt) (from : Moment) (f g : List (Option Ask))
+    → Carries f P Q → (first : Talked mode limits nothing_beyond e1 l1 old mid (Ok turn.More) from f) → Talked mode limits P e2 l2 mid new r first.to g → Talked mode limits Q e2 l2 old new r from (f ++ g)
+talked_after mode limits P Q e1 e2 l1 l2 old mid new r from f g carries first second = record {
   to = second.to;
   bytes = first.bytes ++ second.bytes;
   wrote = appends_both old mid new first.bytes second.bytes first.wrote second.wrote;
-  course = subst (λ (bs : List ℕ). Course limits beyond r from (f ++ g) (bs ++ second.bytes) second.to) (sym first.course.1)
-      (course_after limits beyond r from first.to second.to f g first.course.0 second.bytes first.course.2 second.course);
+  course = subst (λ (bs : List ℕ). Course limits Q r from (f ++ g) (bs ++ second.bytes) second.to) (sym first.course.1)
+      (course_after limits P Q r from first.to second.to f g first.course.0 second.bytes carries first.course.2 second.course);
   at = second.at;
 }
 
 -- nothing asked yet
-pub talked_none : (mode : Mode) (limits : Limits) (beyond : Full → Type 0) (e : Engine) (l old : Option (List ℕ)) (m : Moment) → At mode limits e l m → Talked mode limits beyond e l old old (Ok turn.More) m []
+pub talked_none : (mode : Mode) (limits : Limits) (beyond : Beyond) (e : Engine) (l old : Option (List ℕ)) (m : Moment) → At mode limits e l m → Talked mode limits beyond e l old old (Ok turn.More) m []
 talked_none mode limits beyond e l old m at = record { to = m; bytes = []; wrote = appends_none old; course = ([], refl, leads_none limits m); at = at }
 
 -- nothing heard yet
-pub heard_none : (mode : Mode) (limits : Limits) (beyond : Full → Type 0) (c : Cutter) (e : Engine) (l old : Option (List ℕ)) (m : Moment) (h : History) → At mode limits e l m → Holds limits c h → Heard mode limits beyond c e l old old (Ok turn.More) m h []
+pub heard_none : (mode : Mode) (limits : Limits) (beyond : Beyond) (c : Cutter) (e : Engine) (l old : Option (List ℕ)) (m : Moment) (h : History) → At mode limits e l m → Holds limits c h → Heard mode limits beyond c e l old old (Ok turn.More) m h []
 heard_none mode limits beyond c e l old m h at holds = record {
   answered = [];
   unheard = [];
@@ -63,17 +62,17 @@ heard_none mode limits beyond c e l old m h at holds = record {
 }
 
 -- one piece after another that was heard whole
-pub heard_both : (mode : Mode) (limits : Limits) (beyond : Full → Type 0) (c1 c2 : Cutter) (e1 e2 : Engine) (l1 l2 old mid new : Option (List ℕ)) (r : Result Turn Halt) (from : Moment) (h : History) (p q : List ℕ)
-    → (first : Heard mode limits never c1 e1 l1 old mid (Ok turn.More) from h p) → Heard mode limits beyond c2 e2 l2 mid new r first.talked.to (with_bytes h p) q → Heard mode limits beyond c2 e2 l2 old new r from h (p ++ q)
-heard_both mode limits beyond c1 c2 e1 e2 l1 l2 old mid new r from h p q first second =
-    let whole = whole_lines mode limits never c1 e1 l1 old mid from h p first in
+pub heard_both : (mode : Mode) (limits : Limits) (P Q : Beyond) (c1 c2 : Cutter) (e1 e2 : Engine) (l1 l2 old mid new : Option (List ℕ)) (r : Result Turn Halt) (from : Moment) (h : History) (p q : List ℕ)
+    → (first : Heard mode limits nothing_beyond c1 e1 l1 old mid (Ok turn.More) from h p) → Carries (asks limits first.answered) P Q → Heard mode limits P c2 e2 l2 mid new r first.talked.to (with_bytes h p) q → Heard mode limits Q c2 e2 l2 old new r from h (p ++ q)
+heard_both mode limits P Q c1 c2 e1 e2 l1 l2 old mid new r from h p q first carries second =
+    let whole = whole_lines mode limits nothing_beyond c1 e1 l1 old mid from h p first in
     record {
       answered = first.answered ++ second.answered;
       unheard = second.unheard;
       lines = ap lines_of (sym (pieces h p q)) ∙ second.lines ∙ ap (λ (ls : List (List ℕ)). ls ++ (second.answered ++ second.unheard)) whole
           ∙ append_assoc (lines_of h) first.answered (second.answered ++ second.unheard)
           ∙ ap (λ (ls : List (List ℕ)). lines_of h ++ ls) (sym (append_assoc first.answered second.answered second.unheard));
-      talked = rw (map-append (asked limits.question) first.answered second.answered) (talked_after mode limits beyond e1 e2 l1 l2 old mid new r from _ _ first.talked second.talked);
+      talked = rw (map-append (asked limits.question) first.answered second.answered) (talked_after mode limits P Q e1 e2 l1 l2 old mid new r from _ _ carries first.talked second.talked);
       holds = subst (λ (x : History). WhenMore r (Holds limits c2 x)) (pieces h p q) second.holds;
       whole = second.whole;
     }
@@ -89,7 +88,7 @@ when_more (Ok turn.Ended) P p = tt
 when_more (Err why) P p = tt
 
 -- a longer piece, of which no more is heard
-pub heard_longer : LinesStay → (mode : Mode) (limits : Limits) (beyond : Full → Type 0) (c : Cutter) (e : Engine) (l old new : Option (List ℕ)) (r : Result Turn Halt) (from : Moment) (h : History) (p q : List ℕ)
+pub heard_longer : LinesStay → (mode : Mode) (limits : Limits) (beyond : Beyond) (c : Cutter) (e : Engine) (l old new : Option (List ℕ)) (r : Result Turn Halt) (from : Moment) (h : History) (p q : List ℕ)
     → WhenMore r ⊥ → Heard mode limits beyond c e l old new r from h p → Heard mode limits beyond c e l old new r from h (p ++ q)
 heard_longer stay mode limits beyond c e l old new r from h p q none x =
     let more = stay (with_bytes h p) (map Byte q) in
@@ -105,7 +104,7 @@ heard_longer stay mode limits beyond c e l old new r from h p q none x =
     }
 
 -- a part that ends a line, which was answered
-pub heard_line : (mode : Mode) (limits : Limits) (beyond : Full → Type 0) (c : Cutter) (e : Engine) (l old new : Option (List ℕ)) (r : Result Turn Halt) (m : Moment) (h : History) (part text : List ℕ) (q : Option Ask)
+pub heard_line : (mode : Mode) (limits : Limits) (beyond : Beyond) (c : Cutter) (e : Engine) (l old new : Option (List ℕ)) (r : Result Turn Halt) (m : Moment) (h : History) (part text : List ℕ) (q : Option Ask)
     → q ≡ asked limits.question text → Holds limits c (with_bytes h part) → lines_of (with_bytes h part) ≡ lines_of h ++ text ∷ [] → Talked mode limits beyond e l old new r m (q ∷ []) → Heard mode limits beyond c e l old new r m h part
 heard_line mode limits beyond c e l old new r m h part text q asks holds lines talked = record {
   answered = text ∷ [];
@@ -117,7 +116,7 @@ heard_line mode limits beyond c e l old new r m h part text q asks holds lines t
 }
 
 -- a part that ends no line
-pub heard_no_line : (mode : Mode) (limits : Limits) (beyond : Full → Type 0) (c : Cutter) (e : Engine) (l old : Option (List ℕ)) (m : Moment) (h : History) (part : List ℕ)
+pub heard_no_line : (mode : Mode) (limits : Limits) (beyond : Beyond) (c : Cutter) (e : Engine) (l old : Option (List ℕ)) (m : Moment) (h : History) (part : List ℕ)
     → At mode limits e l m → Holds limits c (with_bytes h part) → lines_of (with_bytes h part) ≡ lines_of h → Heard mode limits beyond c e l old old (Ok turn.More) m h part
 heard_no_line mode limits beyond c e l old m h part at holds lines = record {
   answered = [];
@@ -129,15 +128,15 @@ heard_no_line mode limits beyond c e l old m h part at holds lines = record {
 }
 
 -- nothing heard before a halt
-pub heard_nothing : LinesStay → (mode : Mode) (limits : Limits) (beyond : Full → Type 0) (c : Cutter) (e : Engine) (l old : Option (List ℕ)) (why : Halt) (m : Moment) (h : History) (piece : List ℕ)
-    → IsDue (λ full. HistoryStops limits m [] full ⊎ beyond full) why → Heard mode limits beyond c e l old old (Err why) m h piece
+pub heard_nothing : LinesStay → (mode : Mode) (limits : Limits) (beyond : Beyond) (c : Cutter) (e : Engine) (l old : Option (List ℕ)) (why : Halt) (m : Moment) (h : History) (piece : List ℕ)
+    → IsDue never why → Heard mode limits beyond c e l old old (Err why) m h piece
 heard_nothing stay mode limits beyond c e l old why m h piece due =
     let more = stay h (map Byte piece) in
     record {
       answered = [];
       unheard = more.0;
       lines = more.1;
-      talked = record { to = m; bytes = []; wrote = appends_none old; course = (nothing_said limits m [], due); at = tt };
+      talked = record { to = m; bytes = []; wrote = appends_none old; course = other_halt limits beyond m [] [] why due (nothing_said limits m []); at = tt };
       holds = tt;
       whole = tt;
     }
@@ -146,14 +145,29 @@ weaker : (A B C : Type 0) → (B → C) → A ⊎ B → A ⊎ C
 weaker A B C f (inl a) = inl a
 weaker A B C f (inr b) = inr (f b)
 
-course_weaker : (limits : Limits) (P Q : Full → Type 0) (r : Result Turn Halt) (a b : Moment) (f : List (Option Ask)) (bytes : List ℕ) → ((full : Full) → P full → Q full) → Course limits P r a f bytes b → Course limits Q r a f bytes b
+-- with one more cause
+abbrev pub Weaker : Beyond → Beyond → Type 0
+Weaker P Q = (answered : List (Option Ask)) (full : Full) → P answered full → Q answered full
+
+halted_weaker : (limits : Limits) (P Q : Beyond) (a : Moment) (f : List (Option Ask)) (bytes : List ℕ) (why : Halt) → Weaker P Q → Halted limits P a f bytes why → Halted limits Q a f bytes why
+halted_weaker limits P Q a f bytes (halt.Full full) more x = record {
+  said = x.said;
+  to = x.to;
+  stops = record { answered = x.stops.answered; later = x.stops.later; parts = x.stops.parts; leads = x.stops.leads; cause = weaker _ _ _ (more x.stops.answered full) x.stops.cause };
+  fits = x.fits;
+  bytes_are = x.bytes_are;
+}
+halted_weaker limits P Q a f bytes halt.NoMemory more x = x
+halted_weaker limits P Q a f bytes halt.ReadFault more x = x
+halted_weaker limits P Q a f bytes halt.WriteFault more x = x
+
+course_weaker : (limits : Limits) (P Q : Beyond) (r : Result Turn Halt) (a b : Moment) (f : List (Option Ask)) (bytes : List ℕ) → Weaker P Q → Course limits P r a f bytes b → Course limits Q r a f bytes b
 course_weaker limits P Q (Ok turn.More) a b f bytes more h = h
 course_weaker limits P Q (Ok turn.Ended) a b f bytes more h = h
-course_weaker limits P Q (Err why) a b f bytes more h = (h.0, due_weaker why _ _ (λ full. weaker _ _ _ (more full)) h.1)
+course_weaker limits P Q (Err why) a b f bytes more h = halted_weaker limits P Q a f bytes why more h
 
--- with one more cause
-pub heard_weaker : (mode : Mode) (limits : Limits) (P Q : Full → Type 0) (c : Cutter) (e : Engine) (l old new : Option (List ℕ)) (r : Result Turn Halt) (from : Moment) (h : History) (p : List ℕ)
-    → ((full : Full) → P full → Q full) → Heard mode limits P c e l old new r from h p → Heard mode limits Q c e l old new r from h p
+pub heard_weaker : (mode : Mode) (limits : Limits) (P Q : Beyond) (c : Cutter) (e : Engine) (l old new : Option (List ℕ)) (r : Result Turn Halt) (from : Moment) (h : History) (p : List ℕ)
+    → Weaker P Q → Heard mode limits P c e l old new r from h p → Heard mode limits Q c e l old new r from h p
 heard_weaker mode limits P Q c e l old new r from h p more x = record {
   answered = x.answered;
   unheard = x.unheard;
@@ -170,9 +184,9 @@ heard_weaker mode limits P Q c e l old new r from h p more x = record {
 }
 
 -- a longer piece, of which the rest may not be heard
-pub heard_full : LinesStay → (mode : Mode) (limits : Limits) (beyond : Full → Type 0) (c : Cutter) (e : Engine) (l old new : Option (List ℕ)) (from : Moment) (h : History) (p q : List ℕ)
-    → beyond (input_full limits) → Heard mode limits never c e l old new (Ok turn.More) from h p → Heard mode limits beyond c e l old new (Err (halt.Full (input_full limits))) from h (p ++ q)
-heard_full stay mode limits beyond c e l old new from h p q over x =
+pub heard_full : LinesStay → (mode : Mode) (limits : Limits) (beyond : Beyond) (c : Cutter) (e : Engine) (l old new : Option (List ℕ)) (from : Moment) (h : History) (p q : List ℕ)
+    → (x : Heard mode limits nothing_beyond c e l old new (Ok turn.More) from h p) → beyond (asks limits x.answered) (input_full limits) → Heard mode limits beyond c e l old new (Err (halt.Full (input_full limits))) from h (p ++ q)
+heard_full stay mode limits beyond c e l old new from h p q x over =
     let more = stay (with_bytes h p) (map Byte q) in
     record {
       answered = x.answered;
@@ -184,7 +198,13 @@ heard_full stay mode limits beyond c e l old new from h p q over x =
         to = x.talked.to;
         bytes = x.talked.bytes;
         wrote = x.talked.wrote;
-        course = (all_said limits from x.talked.to (asks limits x.answered) x.talked.course.0 x.talked.bytes x.talked.course.1 x.talked.course.2, inr over);
+        course = record {
+          said = x.talked.course.0;
+          to = x.talked.to;
+          stops = record { answered = asks limits x.answered; later = []; parts = sym (append-nil (asks limits x.answered)); leads = x.talked.course.2; cause = inr over };
+          fits = x.talked.at.stands.fits;
+          bytes_are = x.talked.course.1;
+        };
         at = tt;
       };
       holds = tt;
@@ -192,7 +212,7 @@ heard_full stay mode limits beyond c e l old new from h p q over x =
     }
 
 -- a part that goes on had no cause to halt
-pub heard_more : (mode : Mode) (limits : Limits) (P Q : Full → Type 0) (c : Cutter) (e : Engine) (l old new : Option (List ℕ)) (from : Moment) (h : History) (p : List ℕ)
+pub heard_more : (mode : Mode) (limits : Limits) (P Q : Beyond) (c : Cutter) (e : Engine) (l old new : Option (List ℕ)) (from : Moment) (h : History) (p : List ℕ)
     → Heard mode limits P c e l old new (Ok turn.More) from h p → Heard mode limits Q c e l old new (Ok turn.More) from h p
 heard_more mode limits P Q c e l old new from h p x = record {
   answered = x.answered;
@@ -205,20 +225,18 @@ heard_more mode limits P Q c e l old new from h p x = record {
 
 -- what was heard within the room leaves more to hear
 pub questions_pass : (mode : Mode) (limits : Limits) (c : Cutter) (e : Engine) (l old new : Option (List ℕ)) (from : Moment) (h : History) (p q : List ℕ) (room : ℕ)
-    → p ≡ take room q → room < length q → Heard mode limits never c e l old new (Ok turn.More) from h p → PassesRoom limits room from h q (input_full limits)
+    → p ≡ take room q → room < length q → (x : Heard mode limits nothing_beyond c e l old new (Ok turn.More) from h p) → PassesRoom limits room h q (asks limits x.answered) (input_full limits)
 questions_pass mode limits c e l old new from h p q room is over x = record {
-  later = x.answered;
-  lines = ap (λ (xs : List ℕ). lines_of (with_bytes h xs)) (sym is) ∙ whole_lines mode limits never c e l old new from h p x;
-  said = x.talked.course.0;
-  to = x.talked.to;
-  leads = x.talked.course.2;
+  ended = x.answered;
+  lines = ap (λ (xs : List ℕ). lines_of (with_bytes h xs)) (sym is) ∙ whole_lines mode limits nothing_beyond c e l old new from h p x;
+  all = refl;
   past = over;
   is = refl;
 }
 
 -- `end` was heard within the room
 pub questions_closed : LinesStay → (mode : Mode) (limits : Limits) (c : Cutter) (e : Engine) (l old new : Option (List ℕ)) (from : Moment) (h : History) (p q : List ℕ) (n room : ℕ)
-    → p ≡ take n q → n ≤ room → Heard mode limits never c e l old new (Ok turn.Ended) from h p → EndsWithin limits room from h q
+    → p ≡ take n q → n ≤ room → Heard mode limits nothing_beyond c e l old new (Ok turn.Ended) from h p → EndsWithin limits room from h q
 questions_closed stay mode limits c e l old new from h p q n room is within x =
     let sum : n + (room - n) ≡ room = omega arith in
     let split : take room q ≡ p ++ take (room - n) (drop n q) = sym (ap (λ (k : ℕ). take k q) sum) ∙ take-add n (room - n) q ∙ ap (λ (xs : List ℕ). xs ++ take (room - n) (drop n q)) (sym is) in
@@ -242,27 +260,26 @@ front_of limits n q within =
     sym (take-add n (limits.input - n) q) ∙ ap (λ (k : ℕ). take k q) sum
 
 -- the same, after all that was heard before
-pub questions_pass_after : (mode : Mode) (limits : Limits) (n : ℕ) (c : Cutter) (e : Engine) (l old new : Option (List ℕ)) (from : Moment) (q : List ℕ) (full : Full)
-    → n ≤ limits.input → n ≤ length q → (first : Heard mode limits never c e l old new (Ok turn.More) from [] (take n q)) → PassesRoom limits (limits.input - n) first.talked.to (with_bytes [] (take n q)) (drop n q) full → QuestionsStop limits from q full
-questions_pass_after mode limits n c e l old new from q full within part first x =
-    let whole = whole_lines mode limits never c e l old new from [] (take n q) first in
-    let lines : lines_of (with_bytes [] (take limits.input q)) ≡ first.answered ++ x.later =
-    ap (λ (xs : List ℕ). lines_of (with_bytes [] xs)) (sym (front_of limits n q within)) ∙ ap lines_of (sym (pieces [] (take n q) (take (limits.input - n) (drop n q)))) ∙ x.lines ∙ ap (λ (ls : List (List ℕ)). ls ++ x.later) whole in
+pub questions_pass_after : (mode : Mode) (limits : Limits) (n : ℕ) (c : Cutter) (e : Engine) (l old new : Option (List ℕ)) (from : Moment) (q : List ℕ)
+    → n ≤ limits.input → n ≤ length q → (first : Heard mode limits nothing_beyond c e l old new (Ok turn.More) from [] (take n q))
+    → Carries (asks limits first.answered) (PassesRoom limits (limits.input - n) (with_bytes [] (take n q)) (drop n q)) (QuestionsStop limits q)
+questions_pass_after mode limits n c e l old new from q within part first = λ answered full x.
+    let whole = whole_lines mode limits nothing_beyond c e l old new from [] (take n q) first in
+    let lines : lines_of (with_bytes [] (take limits.input q)) ≡ first.answered ++ x.ended =
+    ap (λ (xs : List ℕ). lines_of (with_bytes [] xs)) (sym (front_of limits n q within)) ∙ ap lines_of (sym (pieces [] (take n q) (take (limits.input - n) (drop n q)))) ∙ x.lines ∙ ap (λ (ls : List (List ℕ)). ls ++ x.ended) whole in
     let left = length-drop n q in
     let over = x.past in
     record {
-      said = first.talked.course.0 ++ x.said;
-      to = x.to;
-      leads = rw (lines, map-append (asked limits.question) first.answered x.later) (leads_both limits from first.talked.to x.to (asks limits first.answered) (asks limits x.later) first.talked.course.0 x.said first.talked.course.2 x.leads);
+      all = ap (λ (qs : List (Option Ask)). asks limits first.answered ++ qs) x.all ∙ sym (map-append (asked limits.question) first.answered x.ended) ∙ sym (ap (asks limits) lines);
       past = omega arith;
       is = x.is;
     }
 
 -- the same, after all that was heard before
 pub questions_closed_after : (mode : Mode) (limits : Limits) (n : ℕ) (c : Cutter) (e : Engine) (l old new : Option (List ℕ)) (from : Moment) (q : List ℕ)
-    → n ≤ limits.input → (first : Heard mode limits never c e l old new (Ok turn.More) from [] (take n q)) → EndsWithin limits (limits.input - n) first.talked.to (with_bytes [] (take n q)) (drop n q) → EndsWithin limits limits.input from [] q
+    → n ≤ limits.input → (first : Heard mode limits nothing_beyond c e l old new (Ok turn.More) from [] (take n q)) → EndsWithin limits (limits.input - n) first.talked.to (with_bytes [] (take n q)) (drop n q) → EndsWithin limits limits.input from [] q
 questions_closed_after mode limits n c e l old new from q within first x =
-    let whole = whole_lines mode limits never c e l old new from [] (take n q) first in
+    let whole = whole_lines mode limits nothing_beyond c e l old new from [] (take n q) first in
     record {
       answered = first.answered ++ x.answered;
       unheard = x.unheard;
@@ -279,13 +296,13 @@ on_ok (Err e) P p = tt
 
 -- one read more than what was heard whole
 pub no_further : (mode : Mode) (limits : Limits) (c : Cutter) (e : Engine) (l old new : Option (List ℕ)) (from : Moment) (q : List ℕ) (n count : ℕ) (left : Option (List ℕ))
-    → Heard mode limits never c e l old new (Ok turn.More) from [] (take n q) → count ≤ 65536 → left ≡ Some (drop count (drop n q)) → ReadsNoFurther limits from q left
+    → Heard mode limits nothing_beyond c e l old new (Ok turn.More) from [] (take n q) → count ≤ 65536 → left ≡ Some (drop count (drop n q)) → ReadsNoFurther limits from q left
 no_further mode limits c e l old new from q n count left first short told = record {
   before = n;
   count = count;
   said = first.talked.course.0;
   to = first.talked.to;
-  leads = subst (λ (ls : List (List ℕ)). Leads limits from (asks limits ls) first.talked.course.0 first.talked.to) (sym (whole_lines mode limits never c e l old new from [] (take n q) first)) first.talked.course.2;
+  leads = subst (λ (ls : List (List ℕ)). Leads limits from (asks limits ls) first.talked.course.0 first.talked.to) (sym (whole_lines mode limits nothing_beyond c e l old new from [] (take n q) first)) first.talked.course.2;
   short = short;
   told = told ∙ ap Some (drop-drop count n q);
 }

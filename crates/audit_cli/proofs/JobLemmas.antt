@@ -2,6 +2,7 @@
 use Rattle.std.proofs.Common.{subst, ◌≡◌, ℕ, List, [], refl, sym, ◌∙◌, Option, Some, inl, inr}
 use Rattle.std.proofs.lemmas.List.{append-nil}
 use Rattle.std.specs.Prelude.{◌⊎◌, Result, Ok, Err, OnOk, IfErr}
+use Rattle.std.specs.Io.KnownBytes.{Appends}
 use Rattle.reach_model.specs.declared.modes.Mode.{Mode}
 use Rattle.reach_model.specs.declared.modes.Mode.TheVariants.{Plain}
 use Rattle.flow_base.specs.declared.limits.Limits.{Limits}
@@ -12,19 +13,32 @@ use Rattle.audit_cli.specs.declared.halt.Halt.TheVariants as halt
 use Rattle.audit_cli.specs.declared.status.Status.TheVariants as status
 use Rattle.audit_cli.specs.declared.words.Job.{Job}
 use Rattle.audit_cli.specs.declared.words.Job.TheVariants as job
-use Rattle.audit_cli.specs.Dialogue.{Moment, begin, asks, lines_in, QuestionsStop}
-use Rattle.audit_cli.specs.Course.{EndTalked, HasCauses}
-use Rattle.audit_cli.specs.Headline.{back_questions, Writes, WritesFront, Finished, Written, PassesLimit, PassesNone}
-use Rattle.audit_cli.specs.Jobs.{LastTalked, JobTalked, KeepsLimit}
+use Rattle.audit_cli.specs.Dialogue.{Moment, begin, asks, lines_in, nothing_beyond, QuestionsStop}
+use Rattle.audit_cli.specs.Course.{EndTalked, HasCauses, Halted}
+use Rattle.audit_cli.specs.Headline.{back_questions, Writes, WritesFront, Finished, Written, StoppedAt, PassesLimit, PassesNone}
+use Rattle.audit_cli.specs.Jobs.{LastCourse, LastTalked, JobStopped, JobCourse, JobTalked, KeepsLimit}
 use Rattle.audit_cli.specs.Statuses.{status_for, StatusCause}
 use Rattle.audit_cli.proofs.ExactLemmas.{NeverStops, within_stops, questions_within}
 use Rattle.audit_cli.proofs.MomentLemmas.{Stay}
-use Rattle.audit_cli.proofs.TalkLemmas.{appends_none, nothing_said}
+use Rattle.audit_cli.proofs.TalkLemmas.{appends_none, dialogue_of, nothing_said}
+
+last_halt : (limits : Limits) (of : ℕ) (log asked : List ℕ) (why : Halt) (bytes : List ℕ) (to : Moment) → LastCourse limits (Err why) (begin Plain log) (back_questions of log) bytes to → JobCourse limits (job.Back of) (Err why) log asked bytes to
+last_halt limits of log asked (halt.Full full) bytes to x = x
+last_halt limits of log asked halt.NoMemory bytes to x = x
+last_halt limits of log asked halt.ReadFault bytes to x = x
+last_halt limits of log asked halt.WriteFault bytes to x = x
+
+watch_halt : (limits : Limits) (mode : Mode) (name log asked : List ℕ) (why : Halt) (bytes : List ℕ) (to : Moment) → Halted limits (QuestionsStop limits asked) (begin mode log) (asks limits (lines_in asked)) bytes why
+    → JobCourse limits (job.Watch mode name) (Err why) log asked bytes to
+watch_halt limits mode name log asked (halt.Full full) bytes to x = x
+watch_halt limits mode name log asked halt.NoMemory bytes to x = x
+watch_halt limits mode name log asked halt.ReadFault bytes to x = x
+watch_halt limits mode name log asked halt.WriteFault bytes to x = x
 
 plainly_talked : (limits : Limits) (of : ℕ) (log asked : List ℕ) (e : Engine) (left old new : Option (List ℕ)) (r : Result Unit Halt) → LastTalked Plain limits e left old new r (begin Plain log) (back_questions of log)
     → JobTalked limits (job.Back of) log asked left old new r
 plainly_talked limits of log asked e left old new (Ok done) x = record { to = x.to; bytes = x.bytes; wrote = x.wrote; course = x.course; ends = record { within = x.at.stands.fits; told = x.at.told } }
-plainly_talked limits of log asked e left old new (Err why) x = record { to = x.to; bytes = x.bytes; wrote = x.wrote; course = x.course; ends = tt }
+plainly_talked limits of log asked e left old new (Err why) x = record { to = x.to; bytes = x.bytes; wrote = x.wrote; course = last_halt limits of log asked why x.bytes x.to x.course; ends = tt }
 
 -- `back`
 pub back_talked : (kept : Mode) (limits : Limits) (of : ℕ) (log asked : List ℕ) (e : Engine) (left old new : Option (List ℕ)) (r : Result Unit Halt) → kept ≡ Plain → LastTalked kept limits e left old new r (begin kept log) (back_questions of log)
@@ -33,9 +47,9 @@ back_talked kept limits of log asked e left old new r plain x = plainly_talked l
 
 -- `watch`
 pub watch_talked : (kept : Mode) (limits : Limits) (mode : Mode) (name log asked : List ℕ) (e : Engine) (left old new : Option (List ℕ)) (r : Result Unit Halt)
-    → EndTalked kept limits (QuestionsStop limits (begin mode log) asked) e left old new r (begin mode log) (asks limits (lines_in asked)) → JobTalked limits (job.Watch mode name) log asked left old new r
+    → EndTalked kept limits (QuestionsStop limits asked) e left old new r (begin mode log) (asks limits (lines_in asked)) → JobTalked limits (job.Watch mode name) log asked left old new r
 watch_talked kept limits mode name log asked e left old new (Ok done) x = record { to = x.to; bytes = x.bytes; wrote = x.wrote; course = record { said = x.course.0; dialogue = x.course.2; bytes_are = x.course.1 }; ends = record { within = x.at.stands.fits; told = x.at.told } }
-watch_talked kept limits mode name log asked e left old new (Err why) x = record { to = x.to; bytes = x.bytes; wrote = x.wrote; course = x.course; ends = tt }
+watch_talked kept limits mode name log asked e left old new (Err why) x = record { to = x.to; bytes = x.bytes; wrote = x.wrote; course = watch_halt limits mode name log asked why x.bytes x.to x.course; ends = tt }
 
 -- a cause among more causes of a read fault
 pub causes_too : (r : Result Unit Halt) (one other write : Type 0) → IfErr r (HasCauses one write) → IfErr r (HasCauses (one ⊎ other) write)
@@ -49,6 +63,26 @@ causes_too (Err (halt.Full full)) one other write causes = tt
 whole_front : (limits : Limits) (done : Job) (log asked bytes : List ℕ) (to : Moment) → Writes limits done log asked bytes to → WritesFront limits done log asked bytes
 whole_front limits (job.Back of) log asked bytes to x = inr (record { to = to; more = []; last = record { said = x.said; last = x.last; dialogue = x.dialogue; bytes_are = append-nil bytes ∙ x.bytes_are } })
 whole_front limits (job.Watch mode name) log asked bytes to x = record { front = asks limits (lines_in asked); rest = []; said = x.said; to = to; more = []; parts = sym (append-nil _); dialogue = x.dialogue; bytes_are = append-nil bytes ∙ x.bytes_are }
+
+-- what was written up to where a limit stopped the job is a front
+stopped_front : (limits : Limits) (done : Job) (log asked bytes : List ℕ) (full : Full) → JobStopped limits done log asked bytes full → WritesFront limits done log asked bytes
+stopped_front limits (job.Back of) log asked bytes full x = inl x.bytes_are
+stopped_front limits (job.Watch mode name) log asked bytes full x = record {
+  front = x.stops.answered;
+  rest = x.stops.later;
+  said = x.said;
+  to = x.to;
+  more = [];
+  parts = x.stops.parts;
+  dialogue = dialogue_of limits (begin mode log) x.to x.stops.answered x.said x.stops.leads;
+  bytes_are = append-nil bytes ∙ x.bytes_are;
+}
+
+halt_front : (limits : Limits) (done : Job) (log asked : List ℕ) (why : Halt) (bytes : List ℕ) (to : Moment) → JobCourse limits done (Err why) log asked bytes to → WritesFront limits done log asked bytes
+halt_front limits done log asked (halt.Full full) bytes to x = stopped_front limits done log asked bytes full x
+halt_front limits done log asked halt.NoMemory bytes to x = x
+halt_front limits done log asked halt.ReadFault bytes to x = x
+halt_front limits done log asked halt.WriteFault bytes to x = x
 
 -- before the job begins
 pub nothing_written : (limits : Limits) (done : Job) (log asked : List ℕ) (old : Option (List ℕ)) → Written limits done log asked old old
@@ -86,14 +120,23 @@ headline limits done log asked left old new (Err (halt.Full full)) x is = absurd
 
 pub front_written : (limits : Limits) (done : Job) (log asked : List ℕ) (left old new : Option (List ℕ)) (r : Result Unit Halt) → JobTalked limits done log asked left old new r → Written limits done log asked old new
 front_written limits done log asked left old new (Ok t) x = record { bytes = x.bytes; wrote = x.wrote; front = whole_front limits done log asked x.bytes x.to x.course }
-front_written limits done log asked left old new (Err why) x = record { bytes = x.bytes; wrote = x.wrote; front = x.course.0 }
+front_written limits done log asked left old new (Err why) x = record { bytes = x.bytes; wrote = x.wrote; front = halt_front limits done log asked why x.bytes x.to x.course }
 
-pub full_exact : (limits : Limits) (done : Job) (log asked : List ℕ) (left old new : Option (List ℕ)) (r : Result Unit Halt) (full : Full) → JobTalked limits done log asked left old new r → status_for r ≡ status.Full full → PassesLimit limits done log asked full
+stopped_at : (limits : Limits) (done : Job) (log asked bytes : List ℕ) (old new : Option (List ℕ)) (full : Full) → Appends old new bytes → JobStopped limits done log asked bytes full → StoppedAt limits done log asked old new full
+stopped_at limits done log asked bytes old new full wrote x = record {
+  said = x.said;
+  to = x.to;
+  stops = x.stops;
+  fits = x.fits;
+  wrote = subst (λ (bs : List ℕ). Appends old new bs) x.bytes_are wrote;
+}
+
+pub full_exact : (limits : Limits) (done : Job) (log asked : List ℕ) (left old new : Option (List ℕ)) (r : Result Unit Halt) (full : Full) → JobTalked limits done log asked left old new r → status_for r ≡ status.Full full → StoppedAt limits done log asked old new full
 full_exact limits done log asked left old new (Ok t) full x is = absurd (cc)
 full_exact limits done log asked left old new (Err halt.NoMemory) full x is = absurd (cc)
 full_exact limits done log asked left old new (Err halt.ReadFault) full x is = absurd (cc)
 full_exact limits done log asked left old new (Err halt.WriteFault) full x is = absurd (cc)
-full_exact limits done log asked left old new (Err (halt.Full other)) full x is = let same : other ≡ full = cc in rw (← same) x.course.1
+full_exact limits done log asked left old new (Err (halt.Full other)) full x is = let same : other ≡ full = cc in rw (← same) (stopped_at limits done log asked x.bytes old new other x.wrote x.course)
 
 pub complete : (limits : Limits) (done : Job) (log asked : List ℕ) (left old new : Option (List ℕ)) (read write : Type 0) (r : Result Unit Halt)
     → JobTalked limits done log asked left old new r → IfErr r (HasCauses read write) → (read → ⊥) → (write → ⊥) → PassesNone limits done log asked → (status_for r ≡ status.Done) ⊎ (status_for r ≡ status.NoMemory)
@@ -101,7 +144,12 @@ complete limits done log asked left old new read write (Ok t) x halts no_read no
 complete limits done log asked left old new read write (Err halt.NoMemory) x halts no_read no_write none = inr refl
 complete limits done log asked left old new read write (Err halt.ReadFault) x halts no_read no_write none = absurd (no_read halts)
 complete limits done log asked left old new read write (Err halt.WriteFault) x halts no_read no_write none = absurd (no_write halts)
-complete limits done log asked left old new read write (Err (halt.Full full)) x halts no_read no_write none = absurd (none full x.course.1)
+complete limits done log asked left old new read write (Err (halt.Full full)) x halts no_read no_write none = absurd (none full (x.course.said, x.course.to, x.course.stops))
+
+-- a read fault is one of the faults
+pub read_fault : (log questions out : Type 0) → log ⊎ questions → log ⊎ (questions ⊎ out)
+read_fault log questions out (inl one) = inl one
+read_fault log questions out (inr other) = inr (inl other)
 
 -- the job that was read is the job of the words
 pub job_same : (a b : Job) (found : Option Job) → found ≡ Some a → found ≡ Some b → a ≡ b
@@ -110,9 +158,11 @@ job_same a b found first second = cc
 -- a job that ended passed no limit
 pub ended_within : Stay → NeverStops → (limits : Limits) (done : Job) (log asked : List ℕ) (left old new : Option (List ℕ)) (r : Result Unit Halt) (full : Full) → JobTalked limits done log asked left old new r
     → OnOk r (KeepsLimit limits done log asked) → status_for r ≡ status.Done → PassesLimit limits done log asked full → ⊥
-ended_within stay fitting limits (job.Back of) log asked left old new (Ok t) full x keeps is passes = within_stops stay fitting limits (begin Plain log) x.to _ _ full x.course.dialogue x.ends.within passes
-ended_within stay fitting limits (job.Watch mode name) log asked left old new (Ok t) full x keeps is (inl passes) = within_stops stay fitting limits (begin mode log) x.to _ _ full x.course.dialogue x.ends.within passes
-ended_within stay fitting limits (job.Watch mode name) log asked left old new (Ok t) full x keeps is (inr passes) = questions_within limits (begin mode log) asked full keeps passes
+ended_within stay fitting limits (job.Back of) log asked left old new (Ok t) full x keeps is (said, to, passes) =
+    within_stops stay fitting limits nothing_beyond (begin Plain log) to x.to _ said _ full x.course.dialogue x.ends.within passes (λ none. none)
+ended_within stay fitting limits (job.Watch mode name) log asked left old new (Ok t) full x keeps is (said, to, passes) =
+    within_stops stay fitting limits (QuestionsStop limits asked) (begin mode log) to x.to _ said _ full x.course.dialogue x.ends.within passes
+    (questions_within limits (begin mode log) to asked passes.answered said full keeps passes.leads)
 ended_within stay fitting limits done log asked left old new (Err halt.NoMemory) full x keeps is passes = cc
 ended_within stay fitting limits done log asked left old new (Err halt.ReadFault) full x keeps is passes = cc
 ended_within stay fitting limits done log asked left old new (Err halt.WriteFault) full x keeps is passes = cc

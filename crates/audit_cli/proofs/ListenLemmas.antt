@@ -12,14 +12,14 @@ use Rattle.report_json.specs.declared.ask.Ask.{Ask}
 use Rattle.audit_cli.specs.declared.halt.Halt.{Halt}
 use Rattle.audit_cli.specs.declared.halt.Turn.{Turn}
 use Rattle.audit_cli.specs.declared.halt.Turn.TheVariants as turn
-use Rattle.audit_cli.specs.Dialogue.{Moment, asked, asks, lines_in}
-use Rattle.audit_cli.specs.Course.{At, EndCourse, EndTalked, Talked, ended, never}
+use Rattle.audit_cli.specs.Dialogue.{Moment, Beyond, asked, asks, lines_in, nothing_beyond}
+use Rattle.audit_cli.specs.Course.{At, EndCourse, EndTalked, Talked, ended}
 use Rattle.audit_cli.specs.Hearing.{Heard, HeardLast, WhenMore}
 use Rattle.audit_cli.proofs.TalkLemmas.{appends_none, appends_both, end_course, end_whole, end_after}
 use Rattle.audit_cli.proofs.HearLemmas.{LinesStay, whole_lines}
 
 -- no line was left
-pub last_none : (mode : Mode) (limits : Limits) (e : Engine) (l old : Option (List ℕ)) (m : Moment) (h : History) → At mode limits e l m → lines_of (h ++ Settle ∷ []) ≡ lines_of h → HeardLast mode limits never e l old old (Ok tt) m h
+pub last_none : (mode : Mode) (limits : Limits) (e : Engine) (l old : Option (List ℕ)) (m : Moment) (h : History) → At mode limits e l m → lines_of (h ++ Settle ∷ []) ≡ lines_of h → HeardLast mode limits nothing_beyond e l old old (Ok tt) m h
 last_none mode limits e l old m h at lines = record {
   last = [];
   lines = lines ∙ sym (append-nil (lines_of h));
@@ -32,7 +32,7 @@ at_end (Err why) P at = tt
 
 -- one line was left, and was answered
 pub last_line : (mode : Mode) (limits : Limits) (e : Engine) (l old new : Option (List ℕ)) (r : Result Turn Halt) (m : Moment) (h : History) (text : List ℕ) (q : Option Ask)
-    → q ≡ asked limits.question text → lines_of (h ++ Settle ∷ []) ≡ lines_of h ++ text ∷ [] → Talked mode limits never e l old new r m (q ∷ []) → HeardLast mode limits never e l old new (ended r) m h
+    → q ≡ asked limits.question text → lines_of (h ++ Settle ∷ []) ≡ lines_of h ++ text ∷ [] → Talked mode limits nothing_beyond e l old new r m (q ∷ []) → HeardLast mode limits nothing_beyond e l old new (ended r) m h
 last_line mode limits e l old new r m h text q asks lines x = record {
   last = text ∷ [];
   lines = lines;
@@ -40,13 +40,13 @@ last_line mode limits e l old new r m h text q asks lines x = record {
     to = x.to;
     bytes = x.bytes;
     wrote = x.wrote;
-    course = subst (λ (y : Option Ask). EndCourse limits never (ended r) m (y ∷ []) x.bytes x.to) asks (end_whole limits never r m x.to (q ∷ []) x.bytes x.course);
+    course = subst (λ (y : Option Ask). EndCourse limits nothing_beyond (ended r) m (y ∷ []) x.bytes x.to) asks (end_whole limits nothing_beyond r m x.to (q ∷ []) x.bytes x.course);
     at = at_end r _ x.at;
   };
 }
 
 -- the dialogue ended, or halted, within the questions
-pub end_heard : LinesStay → (mode : Mode) (limits : Limits) (beyond : Full → Type 0) (c : Cutter) (e : Engine) (l old new : Option (List ℕ)) (r : Result Turn Halt) (m : Moment) (q : List ℕ)
+pub end_heard : LinesStay → (mode : Mode) (limits : Limits) (beyond : Beyond) (c : Cutter) (e : Engine) (l old new : Option (List ℕ)) (r : Result Turn Halt) (m : Moment) (q : List ℕ)
     → WhenMore r ⊥ → Heard mode limits beyond c e l old new r m [] q → EndTalked mode limits beyond e l old new (ended r) m (asks limits (lines_in q))
 end_heard stay mode limits beyond c e l old new r m q none x =
     let more = stay (with_bytes [] q) (Settle ∷ []) in
@@ -62,10 +62,10 @@ end_heard stay mode limits beyond c e l old new r m q none x =
     }
 
 -- all was heard, and then came the end
-pub end_both : (mode : Mode) (limits : Limits) (beyond : Full → Type 0) (c : Cutter) (e e2 : Engine) (l l2 old mid new : Option (List ℕ)) (r : Result Unit Halt) (m : Moment) (q : List ℕ)
-    → (first : Heard mode limits never c e l old mid (Ok turn.More) m [] q) → HeardLast mode limits never e2 l2 mid new r first.talked.to (with_bytes [] q) → EndTalked mode limits beyond e2 l2 old new r m (asks limits (lines_in q))
+pub end_both : (mode : Mode) (limits : Limits) (beyond : Beyond) (c : Cutter) (e e2 : Engine) (l l2 old mid new : Option (List ℕ)) (r : Result Unit Halt) (m : Moment) (q : List ℕ)
+    → (first : Heard mode limits nothing_beyond c e l old mid (Ok turn.More) m [] q) → HeardLast mode limits nothing_beyond e2 l2 mid new r first.talked.to (with_bytes [] q) → EndTalked mode limits beyond e2 l2 old new r m (asks limits (lines_in q))
 end_both mode limits beyond c e e2 l l2 old mid new r m q first last =
-    let lines : lines_in q ≡ first.answered ++ last.last = last.lines ∙ ap (λ (ls : List (List ℕ)). ls ++ last.last) (whole_lines mode limits never c e l old mid m [] q first) in
+    let lines : lines_in q ≡ first.answered ++ last.last = last.lines ∙ ap (λ (ls : List (List ℕ)). ls ++ last.last) (whole_lines mode limits nothing_beyond c e l old mid m [] q first) in
     let all : asks limits (lines_in q) ≡ asks limits first.answered ++ asks limits last.last = ap (asks limits) lines ∙ map-append (asked limits.question) first.answered last.last in
     record {
       to = last.talked.to;

@@ -10,11 +10,12 @@ use Rattle.ingest.specs.Parts.{Engine}
 use Rattle.ingest.specs.declared.stop.StopWhy.{StopWhy}
 use Rattle.ingest.specs.declared.stop.StopWhy.TheVariants as why
 use Rattle.ingest.specs.StandsFor.{StandsFor}
+use Rattle.ingest.specs.Stops.{Fits}
 use Rattle.audit_cli.specs.declared.halt.Halt.{Halt}
 use Rattle.audit_cli.specs.declared.halt.Halt.TheVariants as halt
 use Rattle.audit_cli.specs.declared.halt.Turn.{Turn}
 use Rattle.audit_cli.specs.declared.halt.Turn.TheVariants as turn
-use Rattle.audit_cli.specs.Dialogue.{Moment, Dialogue, Leads, Closes, IsFront, HistoryStops, texts}
+use Rattle.audit_cli.specs.Dialogue.{Moment, Dialogue, Beyond, Leads, Closes, IsFront, StopsAfter, texts}
 
 -- a count of faults doesn't fall, and a spent object stays spent
 pub record GoesUp (before now : ℕ) (was_spent spent : Type 0) : Type 0 where
@@ -55,19 +56,30 @@ pub record IsPart (n : ℕ) (left : List ℕ) : Type 0 where
   pub within : n ≤ length left
   pub ended : n ≡ 0 → left ≡ []
 
--- a front of what is answered was written, and a limit that is named would be passed by the questions, or beyond them
-abbrev pub Halted : Limits → (Full → Type 0) → Moment → List (Option Ask) → List ℕ → Halt → Type 0
-Halted limits beyond from questions bytes why =
-    IsFront limits from questions bytes × IsDue (λ full. HistoryStops limits from questions full ⊎ beyond full) why
+-- A limit stopped a run at one moment, and no limit was passed before. The bytes are what the replies
+-- up to there write
+pub record Stopped (limits : Limits) (beyond : Beyond) (writes : List Reply → List ℕ)
+    (from : Moment) (questions : List (Option Ask)) (bytes : List ℕ) (full : Full) : Type 0 where
+  pub said : List Reply
+  pub to : Moment
+  pub stops : StopsAfter limits beyond from questions said to full
+  pub fits : Fits limits to.history
+  pub bytes_are : bytes ≡ writes said
+
+-- a limit stopped the run, or it halted for another cause after a prefix of the replies was written
+abbrev pub Halted : Limits → Beyond → Moment → List (Option Ask) → List ℕ → Halt → Type 0
+Halted limits beyond from questions bytes (halt.Full full) =
+    Stopped limits beyond texts from questions bytes full
+Halted limits beyond from questions bytes _ = IsFront limits from questions bytes
 
 -- these bytes are what was answered to these questions, up to where the part ended
-abbrev pub Course : Limits → (Full → Type 0) → Result Turn Halt → Moment → List (Option Ask) → List ℕ → Moment → Type 0
+abbrev pub Course : Limits → Beyond → Result Turn Halt → Moment → List (Option Ask) → List ℕ → Moment → Type 0
 Course limits beyond (Ok turn.More) from questions bytes to = (said : List Reply) × (bytes ≡ texts said) × Leads limits from questions said to
 Course limits beyond (Ok turn.Ended) from questions bytes to = (said : List Reply) × (bytes ≡ texts said) × Closes limits from questions said to
 Course limits beyond (Err why) from questions bytes to = Halted limits beyond from questions bytes why
 
 -- a part of a run from one moment on
-pub record Talked (mode : Mode) (limits : Limits) (beyond : Full → Type 0) (engine : Engine) (left old new : Option (List ℕ)) (result : Result Turn Halt) (from : Moment) (questions : List (Option Ask)) : Type 0 where
+pub record Talked (mode : Mode) (limits : Limits) (beyond : Beyond) (engine : Engine) (left old new : Option (List ℕ)) (result : Result Turn Halt) (from : Moment) (questions : List (Option Ask)) : Type 0 where
   pub to : Moment
   pub bytes : List ℕ
   pub wrote : Appends old new bytes
@@ -75,12 +87,12 @@ pub record Talked (mode : Mode) (limits : Limits) (beyond : Full → Type 0) (en
   pub at : OnOk result (At mode limits engine left to)
 
 -- these bytes are what was answered to these questions, or a front of it where the run halted
-abbrev pub EndCourse : Limits → (Full → Type 0) → Result Unit Halt → Moment → List (Option Ask) → List ℕ → Moment → Type 0
+abbrev pub EndCourse : Limits → Beyond → Result Unit Halt → Moment → List (Option Ask) → List ℕ → Moment → Type 0
 EndCourse limits beyond (Ok done) from questions bytes to = (said : List Reply) × (bytes ≡ texts said) × Dialogue limits from questions said to
 EndCourse limits beyond (Err why) from questions bytes to = Halted limits beyond from questions bytes why
 
 -- a run from one moment to its end
-pub record EndTalked (mode : Mode) (limits : Limits) (beyond : Full → Type 0) (engine : Engine) (left old new : Option (List ℕ)) (result : Result Unit Halt) (from : Moment) (questions : List (Option Ask)) : Type 0 where
+pub record EndTalked (mode : Mode) (limits : Limits) (beyond : Beyond) (engine : Engine) (left old new : Option (List ℕ)) (result : Result Unit Halt) (from : Moment) (questions : List (Option Ask)) : Type 0 where
   pub to : Moment
   pub bytes : List ℕ
   pub wrote : Appends old new bytes

@@ -1,5 +1,5 @@
 -- What is answered to a list of questions over a log.
-use Rattle.std.specs.Prelude.{◌≡◌, ◌<◌, ◌≤◌, ◌+◌, ℕ, nat_lt, List, [], ◌∷◌, ◌++◌, map, take, drop, length, flat_map, Option, None, Some, if◌then◌else◌}
+use Rattle.std.specs.Prelude.{◌≡◌, ◌<◌, ◌≤◌, ◌+◌, ◌⊎◌, ℕ, nat_lt, List, [], ◌∷◌, ◌++◌, map, take, drop, length, flat_map, Option, None, Some, if◌then◌else◌}
 use Rattle.flow_base.specs.declared.limits.Limits.{Limits}
 use Rattle.flow_base.specs.declared.limits.Full.{Full}
 use Rattle.flow_base.specs.declared.limits.Limit.TheVariants as limit
@@ -100,26 +100,38 @@ pub record IsFront (limits : Limits) (from : Moment) (questions : List (Option A
   pub dialogue : Dialogue limits from front said to
   pub bytes_are : bytes ++ more ≡ texts said
 
--- after some of the questions the next one would take the history past this limit
-pub record HistoryStops (limits : Limits) (from : Moment) (questions : List (Option Ask)) (full : Full) : Type 0 where
-  pub front : List (Option Ask)
-  pub next : Option Ask
-  pub rest : List (Option Ask)
-  pub said : List Reply
-  pub to : Moment
-  pub parts : questions ≡ front ++ next ∷ rest
-  pub leads : Leads limits from front said to
-  pub stops : Stops limits (after next to).history full
+-- a cause to stop beyond the questions, after these were answered
+abbrev pub Beyond : Type 1
+Beyond = List (Option Ask) → Full → Type 0
+
+-- nothing but the questions stops a run
+abbrev pub nothing_beyond : Beyond
+nothing_beyond = λ answered full. ⊥
+
+-- the first of these questions would take the history past this limit
+abbrev pub NextStops : Limits → Moment → List (Option Ask) → Full → Type 0
+NextStops limits to [] full = ⊥
+NextStops limits to (next ∷ later) full = Stops limits (after next to).history full
+
+-- After these replies, at this moment, a limit stops a run: some of the questions were answered so,
+-- none of them `end`, and then the next question would take the history past the limit, or there is a
+-- cause beyond the questions that were answered
+pub record StopsAfter (limits : Limits) (beyond : Beyond) (from : Moment)
+    (questions : List (Option Ask)) (said : List Reply) (to : Moment) (full : Full) : Type 0 where
+  pub answered : List (Option Ask)
+  pub later : List (Option Ask)
+  pub parts : questions ≡ answered ++ later
+  pub leads : Leads limits from answered said to
+  pub cause : NextStops limits to later full ⊎ beyond answered full
 
 -- the refusal of a byte past the limit on input
 abbrev pub input_full : Limits → Full
 input_full limits = record { limit = limit.Input; number = limits.input }
 
--- all lines that end within as many bytes as may come leave the dialogue going on, and a byte more is there
-pub record QuestionsStop (limits : Limits) (from : Moment) (text : List ℕ) (full : Full) : Type 0 where
-  pub said : List Reply
-  pub to : Moment
-  pub leads : Leads limits from (asks limits (lines_of (with_bytes [] (take limits.input text)))) said to
+-- all lines that end within the limit on input were answered, and the text has a byte more
+pub record QuestionsStop (limits : Limits) (text : List ℕ) (answered : List (Option Ask))
+    (full : Full) : Type 0 where
+  pub all : answered ≡ asks limits (lines_of (with_bytes [] (take limits.input text)))
   pub past : limits.input < length text
   pub is : full ≡ input_full limits
 

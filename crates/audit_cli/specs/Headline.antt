@@ -12,8 +12,8 @@ use Rattle.report_json.specs.Replies.{text_of}
 use Rattle.ingest.specs.Stops.{Fits}
 use Rattle.audit_cli.specs.declared.words.Job.{Job}
 use Rattle.audit_cli.specs.declared.words.Job.TheVariants as job
-use Rattle.audit_cli.specs.Words.{job_of}
-use Rattle.audit_cli.specs.Dialogue.{Moment, Dialogue, IsFront, HistoryStops, QuestionsStop, ReadsNoFurther, begin, asks, lines_in, texts}
+use Rattle.audit_cli.specs.Words.{mode_for}
+use Rattle.audit_cli.specs.Dialogue.{Moment, Dialogue, Beyond, IsFront, StopsAfter, QuestionsStop, ReadsNoFurther, nothing_beyond, begin, asks, lines_in, texts}
 
 -- what `back` asks: to take all of the log, to settle, and what the object can have come from
 abbrev pub back_questions : ℕ → List ℕ → List (Option Ask)
@@ -29,11 +29,6 @@ questions_of limits (job.Watch mode name) log asked = asks limits (lines_in aske
 abbrev pub Tells : Job → Option (List ℕ) → List ℕ → Type 0
 Tells (job.Back of) left asked = ⊤
 Tells (job.Watch mode name) left asked = left ≡ Some asked
-
--- the claim holds of the job that the words name and of the bytes that the log and the questions tell
-abbrev pub WhereTold : List (List ℕ) → (log questions : Option (List ℕ)) → (Job → List ℕ → List ℕ → Type 0) → Type 0
-WhereTold words log questions claim =
-    (done : Job) (bytes asked : List ℕ) → job_of words ≡ Some done → log ≡ Some bytes → Tells done questions asked → claim done bytes asked
 
 -- the bytes are the text of the last reply alone
 pub record IsLast (limits : Limits) (from : Moment) (questions : List (Option Ask)) (bytes : List ℕ) (to : Moment) : Type 0 where
@@ -64,11 +59,21 @@ abbrev pub WritesFront : Limits → Job → (log asked bytes : List ℕ) → Typ
 WritesFront limits (job.Back of) log asked bytes = (bytes ≡ []) ⊎ IsLastFront limits (begin Plain log) (questions_of limits (job.Back of) log asked) bytes
 WritesFront limits (job.Watch mode name) log asked bytes = IsFront limits (begin mode log) (questions_of limits (job.Watch mode name) log asked) bytes
 
--- the history would pass this limit at one of the questions, or the questions the limit on input
+-- the questions of `watch` may have bytes past the limit on input
+abbrev pub beyond_questions : Limits → Job → List ℕ → Beyond
+beyond_questions limits (job.Back of) asked = nothing_beyond
+beyond_questions limits (job.Watch mode name) asked = QuestionsStop limits asked
+
+-- after these replies, at this moment, the limit stops the job
+abbrev pub JobStops : Limits → Job → (log asked : List ℕ) → List Reply → Moment → Full → Type 0
+JobStops limits done log asked said to full =
+    StopsAfter limits (beyond_questions limits done asked) (begin (mode_for done) log)
+    (questions_of limits done log asked) said to full
+
+-- the limit would stop the job, after some replies
 abbrev pub PassesLimit : Limits → Job → (log asked : List ℕ) → Full → Type 0
-PassesLimit limits (job.Back of) log asked full = HistoryStops limits (begin Plain log) (questions_of limits (job.Back of) log asked) full
-PassesLimit limits (job.Watch mode name) log asked full =
-    HistoryStops limits (begin mode log) (questions_of limits (job.Watch mode name) log asked) full ⊎ QuestionsStop limits (begin mode log) asked full
+PassesLimit limits done log asked full =
+    (said : List Reply) × (to : Moment) × JobStops limits done log asked said to full
 
 -- no limit would be passed
 abbrev pub PassesNone : Limits → Job → (log asked : List ℕ) → Type 0
@@ -92,6 +97,26 @@ pub record Written (limits : Limits) (job : Job) (log asked : List ℕ) (old new
   pub bytes : List ℕ
   pub wrote : Appends old new bytes
   pub front : WritesFront limits job log asked bytes
+
+-- replies before the last one write nothing
+abbrev pub unsaid : List Reply → List ℕ
+unsaid said = []
+
+-- what replies have written before the job is done: `watch` writes each at once, `back` the last one
+-- alone
+abbrev pub written_by : Job → List Reply → List ℕ
+written_by (job.Back of) = unsaid
+written_by (job.Watch mode name) = texts
+
+-- The limit stopped the job at one moment, and no limit was passed before. What was written is exactly
+-- what the replies up to there have written
+pub record StoppedAt (limits : Limits) (job : Job) (log asked : List ℕ)
+    (old new : Option (List ℕ)) (full : Full) : Type 0 where
+  pub said : List Reply
+  pub to : Moment
+  pub stops : JobStops limits job log asked said to full
+  pub fits : Fits limits to.history
+  pub wrote : Appends old new (written_by job said)
 
 -- where the job has questions, they are read no further than to `end`
 abbrev pub LeavesQuestions : Limits → Job → (log asked : List ℕ) → Option (List ℕ) → Type 0

@@ -1,7 +1,6 @@
 -- What was heard of questions that come in pieces.
 use Rattle.std.specs.Prelude.{◌≡◌, ⊤, ℕ, List, [], ◌∷◌, ◌++◌, take, Option, Result, Ok, Err}
 use Rattle.flow_base.specs.declared.limits.Limits.{Limits}
-use Rattle.flow_base.specs.declared.limits.Full.{Full}
 use Rattle.audit_lex.specs.History.{History, Settle, with_bytes, lines_of}
 use Rattle.audit_lex.specs.LineCut.{Cutter, StandsFor}
 use Rattle.reach_model.specs.declared.modes.Mode.{Mode}
@@ -9,7 +8,7 @@ use Rattle.ingest.specs.Parts.{Engine}
 use Rattle.audit_cli.specs.declared.halt.Halt.{Halt}
 use Rattle.audit_cli.specs.declared.halt.Turn.{Turn}
 use Rattle.audit_cli.specs.declared.halt.Turn.TheVariants as turn
-use Rattle.audit_cli.specs.Dialogue.{Moment, asks}
+use Rattle.audit_cli.specs.Dialogue.{Moment, Beyond, asks}
 use Rattle.audit_cli.specs.Course.{Talked, EndTalked}
 
 -- the cutter of the questions has taken these bytes of them
@@ -24,7 +23,7 @@ WhenMore (Ok turn.Ended) claim = ⊤
 WhenMore (Err why) claim = ⊤
 
 -- of the lines that end in a piece some were answered, and all where the dialogue goes on
-pub record Heard (mode : Mode) (limits : Limits) (beyond : Full → Type 0) (cut : Cutter) (engine : Engine) (left old new : Option (List ℕ)) (result : Result Turn Halt) (from : Moment) (history : History) (piece : List ℕ) : Type 0 where
+pub record Heard (mode : Mode) (limits : Limits) (beyond : Beyond) (cut : Cutter) (engine : Engine) (left old new : Option (List ℕ)) (result : Result Turn Halt) (from : Moment) (history : History) (piece : List ℕ) : Type 0 where
   pub answered : List (List ℕ)
   pub unheard : List (List ℕ)
   pub lines : lines_of (with_bytes history piece) ≡ lines_of history ++ (answered ++ unheard)
@@ -33,7 +32,7 @@ pub record Heard (mode : Mode) (limits : Limits) (beyond : Full → Type 0) (cut
   pub whole : WhenMore result (unheard ≡ [])
 
 -- the last line was answered, where the end of the questions ends one
-pub record HeardLast (mode : Mode) (limits : Limits) (beyond : Full → Type 0) (engine : Engine) (left old new : Option (List ℕ)) (result : Result Unit Halt) (from : Moment) (history : History) : Type 0 where
+pub record HeardLast (mode : Mode) (limits : Limits) (beyond : Beyond) (engine : Engine) (left old new : Option (List ℕ)) (result : Result Unit Halt) (from : Moment) (history : History) : Type 0 where
   pub last : List (List ℕ)
   pub lines : lines_of (history ++ Settle ∷ []) ≡ lines_of history ++ last
   pub talked : EndTalked mode limits beyond engine left old new result from (asks limits last)

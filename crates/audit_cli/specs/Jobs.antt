@@ -2,21 +2,27 @@
 use Rattle.std.specs.Prelude.{◌≡◌, ◌⊎◌, ⊤, ℕ, List, [], Option, Result, Ok, Err, OnOk}
 use Rattle.std.specs.Io.KnownBytes.{Appends}
 use Rattle.flow_base.specs.declared.limits.Limits.{Limits}
+use Rattle.flow_base.specs.declared.limits.Full.{Full}
 use Rattle.reach_model.specs.declared.modes.Mode.{Mode}
 use Rattle.report_json.specs.declared.ask.Ask.{Ask}
 use Rattle.ingest.specs.Parts.{Engine}
 use Rattle.audit_cli.specs.declared.halt.Halt.{Halt}
+use Rattle.audit_cli.specs.declared.halt.Halt.TheVariants as halt
 use Rattle.audit_cli.specs.declared.words.Job.{Job}
 use Rattle.audit_cli.specs.declared.words.Job.TheVariants as job
-use Rattle.audit_cli.specs.Dialogue.{Moment, HistoryStops, begin}
-use Rattle.audit_cli.specs.Course.{At, IsDue}
-use Rattle.audit_cli.specs.Headline.{IsLast, IsLastFront, Writes, WritesFront, PassesLimit, Ends}
+use Rattle.audit_cli.specs.Words.{mode_for}
+use Rattle.audit_cli.specs.Dialogue.{Moment, nothing_beyond, begin}
+use Rattle.audit_cli.specs.Course.{At, Stopped}
+use Rattle.audit_cli.specs.Headline.{IsLast, IsLastFront, Writes, WritesFront, Ends, questions_of, beyond_questions, unsaid, written_by}
 use Rattle.audit_cli.specs.Listening.{KeepsWithin}
 
--- the bytes are the last reply's text, or nothing or a front of it where the run halted
+-- the bytes are the last reply's text; nothing if a limit stopped the run; after another halt nothing,
+-- or a prefix of that text
 abbrev pub LastCourse : Limits → Result Unit Halt → Moment → List (Option Ask) → List ℕ → Moment → Type 0
 LastCourse limits (Ok done) from questions bytes to = IsLast limits from questions bytes to
-LastCourse limits (Err why) from questions bytes to = ((bytes ≡ []) ⊎ IsLastFront limits from questions bytes) × IsDue (HistoryStops limits from questions) why
+LastCourse limits (Err (halt.Full full)) from questions bytes to =
+    Stopped limits nothing_beyond unsaid from questions bytes full
+LastCourse limits (Err _) from questions bytes to = (bytes ≡ []) ⊎ IsLastFront limits from questions bytes
 
 -- a run of which the last reply alone is written
 pub record LastTalked (mode : Mode) (limits : Limits) (engine : Engine) (left old new : Option (List ℕ)) (result : Result Unit Halt) (from : Moment) (questions : List (Option Ask)) : Type 0 where
@@ -31,10 +37,18 @@ abbrev pub KeepsLimit : Limits → Job → (log asked : List ℕ) → Type 0
 KeepsLimit limits (job.Back of) log asked = ⊤
 KeepsLimit limits (job.Watch mode name) log asked = KeepsWithin limits (begin mode log) asked
 
+-- a limit stopped the job, after which these bytes were written
+abbrev pub JobStopped : Limits → Job → (log asked bytes : List ℕ) → Full → Type 0
+JobStopped limits done log asked bytes full =
+    Stopped limits (beyond_questions limits done asked) (written_by done) (begin (mode_for done) log)
+    (questions_of limits done log asked) bytes full
+
 -- what a job wrote, by how it ended
 abbrev pub JobCourse : Limits → Job → Result Unit Halt → (log asked bytes : List ℕ) → Moment → Type 0
-JobCourse limits job (Ok done) log asked bytes to = Writes limits job log asked bytes to
-JobCourse limits job (Err why) log asked bytes to = WritesFront limits job log asked bytes × IsDue (PassesLimit limits job log asked) why
+JobCourse limits done (Ok all) log asked bytes to = Writes limits done log asked bytes to
+JobCourse limits done (Err (halt.Full full)) log asked bytes to =
+    JobStopped limits done log asked bytes full
+JobCourse limits done (Err _) log asked bytes to = WritesFront limits done log asked bytes
 
 -- a job, from its begin to its end
 pub record JobTalked (limits : Limits) (job : Job) (log asked : List ℕ) (left old new : Option (List ℕ)) (result : Result Unit Halt) : Type 0 where

@@ -1,3 +1,4 @@
+pub mod Claims
 pub mod Course
 pub mod Dialogue
 pub mod Headline

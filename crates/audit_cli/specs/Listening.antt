@@ -3,8 +3,9 @@ use Rattle.std.specs.Prelude.{◌≡◌, ⊤, ℕ, ◌+◌, ◌<◌, ◌≤◌, 
 use Rattle.flow_base.specs.declared.limits.Limits.{Limits}
 use Rattle.flow_base.specs.declared.limits.Full.{Full}
 use Rattle.audit_lex.specs.History.{History, with_bytes, lines_of}
+use Rattle.report_json.specs.declared.ask.Ask.{Ask}
 use Rattle.report_json.specs.declared.reply.Reply.{Reply}
-use Rattle.audit_cli.specs.Dialogue.{Moment, Leads, Closes, asks, input_full}
+use Rattle.audit_cli.specs.Dialogue.{Moment, Closes, asks, input_full}
 use Rattle.audit_cli.specs.declared.halt.Halt.{Halt}
 use Rattle.audit_cli.specs.declared.halt.Heed.{Heed}
 use Rattle.audit_cli.specs.declared.halt.Heed.TheVariants as heed
@@ -43,13 +44,12 @@ AreFew lines heard (heed.Piece n) = lines ≤ heard + n
 AreFew lines heard heed.Ended = ⊤
 AreFew lines heard heed.Silence = lines ≤ heard
 
--- all lines that end within `room` bytes leave the dialogue going on, and a byte more is there
-pub record PassesRoom (limits : Limits) (room : ℕ) (from : Moment) (history : History) (q : List ℕ) (full : Full) : Type 0 where
-  pub later : List (List ℕ)
-  pub lines : lines_of (with_bytes history (take room q)) ≡ lines_of history ++ later
-  pub said : List Reply
-  pub to : Moment
-  pub leads : Leads limits from (asks limits later) said to
+-- all lines that end within `room` bytes were answered, and a byte more is there
+pub record PassesRoom (limits : Limits) (room : ℕ) (history : History) (q : List ℕ)
+    (answered : List (Option Ask)) (full : Full) : Type 0 where
+  pub ended : List (List ℕ)
+  pub lines : lines_of (with_bytes history (take room q)) ≡ lines_of history ++ ended
+  pub all : answered ≡ asks limits ended
   pub past : room < length q
   pub is : full ≡ input_full limits
 

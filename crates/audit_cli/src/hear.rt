@@ -3,8 +3,8 @@ ghost use Rattle.std.specs.Prelude.{◌≤◌, ◌<◌, ◌+◌, ◌^◌, length
 ghost use Rattle.flow_base.specs.declared.limits.Limits.{Limits};
 ghost use Rattle.outside.specs.Cause.{Rose};
 ghost use Rattle.audit_lex.specs.History.{History};
-ghost use Rattle.audit_cli.specs.Dialogue.{Moment};
-ghost use Rattle.audit_cli.specs.Course.{At, GoesUp, HasCauses, never};
+ghost use Rattle.audit_cli.specs.Dialogue.{Moment, nothing_beyond};
+ghost use Rattle.audit_cli.specs.Course.{At, GoesUp, HasCauses};
 ghost use Rattle.audit_cli.specs.Hearing.{Holds, Heard, turn_in, taken_in};
 
 use crate::halt::{Halt, Turn};
@@ -30,7 +30,7 @@ fn hear_line<R: Reducer, L: Source, O: Sink>(
     ensures some { IfOk result (λ given. 0 < length piece.now → 0 < given.0) }
     ensures lines { IfOk result (λ given. cut.new.lines ≤ cut.old.lines + given.0) }
     ensures heard { (limits : Limits) (m : Moment) (h : History) → At R.mode limits engine.old (L.left log.old) m → Holds limits cut.old h
-        → Heard R.mode limits never cut.new engine.new (L.left log.new) (O.written out.old) (O.written out.new) (turn_in result) m h (taken_in result piece.now) }
+        → Heard R.mode limits nothing_beyond cut.new engine.new (L.left log.new) (O.written out.old) (O.written out.new) (turn_in result) m h (taken_in result piece.now) }
     ensures causes { IfErr result (HasCauses (Rose (L.faults log.old) (L.faults log.new) (L.spent log.new))
         (Rose (O.faults out.old) (O.faults out.new) (O.spent out.new))) }
     ensures log { GoesUp (L.faults log.old) (L.faults log.new) (L.spent log.old) (L.spent log.new) }
@@ -59,7 +59,7 @@ pub fn hear<R: Reducer, L: Source, O: Sink>(
     requires { cut.old.lines + length piece.now < 2 ^ 61 }
     ensures lines { OnOk result (cut.new.lines ≤ cut.old.lines + length piece.now) }
     ensures heard { (limits : Limits) (m : Moment) (h : History) → At R.mode limits engine.old (L.left log.old) m → Holds limits cut.old h
-        → Heard R.mode limits never cut.new engine.new (L.left log.new) (O.written out.old) (O.written out.new) result m h piece.now }
+        → Heard R.mode limits nothing_beyond cut.new engine.new (L.left log.new) (O.written out.old) (O.written out.new) result m h piece.now }
     ensures causes { IfErr result (HasCauses (Rose (L.faults log.old) (L.faults log.new) (L.spent log.new))
         (Rose (O.faults out.old) (O.faults out.new) (O.spent out.new))) }
     ensures log { GoesUp (L.faults log.old) (L.faults log.new) (L.spent log.old) (L.spent log.new) }

@@ -6,8 +6,8 @@ ghost use Rattle.std.specs.Prelude.{◌≡◌, ◌⊎◌, ◌≤◌, ◌<◌, �
 ghost use Rattle.flow_base.specs.declared.limits.Limits.{Limits};
 ghost use Rattle.outside.specs.Cause.{Rose};
 ghost use Rattle.audit_lex.specs.History.{History};
-ghost use Rattle.audit_cli.specs.Dialogue.{Moment, QuestionsStop, ReadsNoFurther, asks, lines_in};
-ghost use Rattle.audit_cli.specs.Course.{At, GoesUp, HasCauses, EndTalked, never};
+ghost use Rattle.audit_cli.specs.Dialogue.{Moment, QuestionsStop, ReadsNoFurther, nothing_beyond, asks, lines_in};
+ghost use Rattle.audit_cli.specs.Course.{At, GoesUp, HasCauses, EndTalked};
 ghost use Rattle.audit_cli.specs.Hearing.{Holds, Heard, HeardLast};
 ghost use Rattle.audit_cli.specs.Listening.{turn_heeded, heeded, LeftAfter, IsProgress, AreFew, PassesRoom, ClosesWithin, KeepsWithin};
 
@@ -39,7 +39,7 @@ fn listen<R: Reducer, L: Source, Q: Source, O: Sink>(
     requires lines { cut.old.lines ≤ heard }
     requires heard { heard ≤ limits.now.input }
     ensures heard { (m : Moment) (h : History) (q : List ℕ) → At R.mode limits.now engine.old (L.left log.old) m → Holds limits.now cut.old h → Q.left questions.old ≡ Some q
-        → Heard R.mode limits.now (PassesRoom limits.now (limits.now.input - heard) m h q) cut.new engine.new (L.left log.new) (O.written out.old) (O.written out.new) (turn_heeded result) m h (heeded result q) }
+        → Heard R.mode limits.now (PassesRoom limits.now (limits.now.input - heard) h q) cut.new engine.new (L.left log.new) (O.written out.old) (O.written out.new) (turn_heeded result) m h (heeded result q) }
     ensures closes { (m : Moment) (h : History) (q : List ℕ) → At R.mode limits.now engine.old (L.left log.old) m → Holds limits.now cut.old h → Q.left questions.old ≡ Some q
         → IfOk result (ClosesWithin limits.now (limits.now.input - heard) m h q) }
     ensures left { (q : List ℕ) → Q.left questions.old ≡ Some q → IfOk result (LeftAfter q (Q.left questions.new)) }
@@ -86,7 +86,7 @@ fn finish<R: Reducer, L: Source, O: Sink>(
 ) -> Result<(), Halt>
     requires { cut.old.lines < 2 ^ 61 }
     ensures heard { (limits : Limits) (m : Moment) (h : History) → At R.mode limits engine.old (L.left log.old) m → Holds limits cut.old h
-        → HeardLast R.mode limits never engine.new (L.left log.new) (O.written out.old) (O.written out.new) result m h }
+        → HeardLast R.mode limits nothing_beyond engine.new (L.left log.new) (O.written out.old) (O.written out.new) result m h }
     ensures causes { IfErr result (HasCauses (Rose (L.faults log.old) (L.faults log.new) (L.spent log.new))
         (Rose (O.faults out.old) (O.faults out.new) (O.spent out.new))) }
     ensures log { GoesUp (L.faults log.old) (L.faults log.new) (L.spent log.old) (L.spent log.new) }
@@ -111,7 +111,7 @@ pub fn watch<R: Reducer, L: Source, Q: Source, O: Sink>(
     out: &mut O,
 ) -> Result<(), Halt>
     ensures talked { (m : Moment) (q : List ℕ) → At R.mode limits.now engine.old (L.left log.old) m → Q.left questions.old ≡ Some q
-        → EndTalked R.mode limits.now (QuestionsStop limits.now m q) engine.new (L.left log.new) (O.written out.old) (O.written out.new) result m (asks limits.now (lines_in q)) }
+        → EndTalked R.mode limits.now (QuestionsStop limits.now q) engine.new (L.left log.new) (O.written out.old) (O.written out.new) result m (asks limits.now (lines_in q)) }
     ensures within { (m : Moment) (q : List ℕ) → At R.mode limits.now engine.old (L.left log.old) m → Q.left questions.old ≡ Some q
         → OnOk result (KeepsWithin limits.now m q) }
     ensures left { (m : Moment) (q : List ℕ) → At R.mode limits.now engine.old (L.left log.old) m → Q.left questions.old ≡ Some q

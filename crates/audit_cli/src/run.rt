@@ -1,13 +1,13 @@
 //! The top call: from words, a log, questions and a sink to a status.
 ghost use Rattle.std.specs.Prelude.{◌≡◌, ◌↔◌, ◌⊎◌, ℕ, List, [], map, string_bytes, None, Some, OnOk, IfErr};
-ghost use Rattle.flow_base.specs.declared.limits.Full.{Full};
 ghost use Rattle.outside.specs.Cause.{Rose};
 ghost use Rattle.audit_cli.specs.declared.words.Job.{Job};
 ghost use Rattle.audit_cli.specs.Words.{job_of, mode_for};
 ghost use Rattle.audit_cli.specs.Course.{HasCauses};
 ghost use Rattle.audit_cli.specs.Jobs.{JobTalked, KeepsLimit};
-ghost use Rattle.audit_cli.specs.Headline.{Tells, WhereTold, Finished, Written, PassesLimit, PassesNone, LeavesQuestions};
-ghost use Rattle.audit_cli.specs.Standard.{IsStandard, WithStandard};
+ghost use Rattle.audit_cli.specs.Claims.{WhereTold, WhereStandard, Finishes, WritesPrefix, StopsAtLimit, ReadsToEnd, FitsAtDone, IsComplete};
+ghost use Rattle.audit_cli.specs.Headline.{Tells, LeavesQuestions};
+ghost use Rattle.audit_cli.specs.Standard.{IsStandard};
 ghost use Rattle.audit_cli.specs.Statuses.{StatusCause};
 
 use crate::back::back;
@@ -121,29 +121,35 @@ pub fn audit_run<L: Source, Q: Source, O: Sink>(
     ensures bad_words { (result ≡ Status.BadWords) ↔ (job_of (map string_bytes words.now) ≡ None) }
     ensures untouched { job_of (map string_bytes words.now) ≡ None
         → (log.new ≡ log.old) × (questions.new ≡ questions.old) × (out.new ≡ out.old) }
-    ensures other { (of : ℕ) → job_of (map string_bytes words.now) ≡ Some (Job.Back of) → questions.new ≡ questions.old }
-    ensures causes { StatusCause (Rose (L.faults log.old) (L.faults log.new) (L.spent log.new) ⊎ Rose (Q.faults questions.old) (Q.faults questions.new) (Q.spent questions.new))
+    ensures other { (of : ℕ) → job_of (map string_bytes words.now) ≡ Some (Job.Back of)
+        → questions.new ≡ questions.old }
+    ensures causes { StatusCause
+        (Rose (L.faults log.old) (L.faults log.new) (L.spent log.new)
+        ⊎ Rose (Q.faults questions.old) (Q.faults questions.new) (Q.spent questions.new))
         (Rose (O.faults out.old) (O.faults out.new) (O.spent out.new)) result }
     // At Done the bytes written in this call are those of the right replies.
-    ensures headline { WhereTold (map string_bytes words.now) (L.left log.old) (Q.left questions.old) (λ job bytes asked.
-        result ≡ Status.Done → Finished limits.now job bytes asked (L.left log.new) (O.written out.old) (O.written out.new)) }
-    // With any status they are a front of them.
-    ensures prefix { WhereTold (map string_bytes words.now) (L.left log.old) (Q.left questions.old) (λ job bytes asked.
-        Written limits.now job bytes asked (O.written out.old) (O.written out.new)) }
-    ensures whole { (of : ℕ) (bytes : List ℕ) → job_of (map string_bytes words.now) ≡ Some (Job.Back of) → L.left log.old ≡ Some bytes
+    ensures headline { WhereTold limits.now (map string_bytes words.now) (L.left log.old)
+        (Q.left questions.old)
+        (Finishes result (L.left log.new) (O.written out.old) (O.written out.new)) }
+    // With any status they are a prefix of them.
+    ensures prefix { WhereTold limits.now (map string_bytes words.now) (L.left log.old)
+        (Q.left questions.old) (WritesPrefix (O.written out.old) (O.written out.new)) }
+    ensures whole { (of : ℕ) (bytes : List ℕ)
+        → job_of (map string_bytes words.now) ≡ Some (Job.Back of) → L.left log.old ≡ Some bytes
         → result ≡ Status.Done → L.left log.new ≡ Some [] }
     // No read of the questions is made after `end`.
-    ensures no_further { WhereTold (map string_bytes words.now) (L.left log.old) (Q.left questions.old) (λ job bytes asked.
-        result ≡ Status.Done → LeavesQuestions limits.now job bytes asked (Q.left questions.new)) }
-    ensures full { WhereTold (map string_bytes words.now) (L.left log.old) (Q.left questions.old) (λ job bytes asked.
-        (full : Full) → result ≡ Status.Full full → PassesLimit limits.now job bytes asked full) }
-    ensures exact { WhereTold (map string_bytes words.now) (L.left log.old) (Q.left questions.old) (λ job bytes asked.
-        result ≡ Status.Done → PassesNone limits.now job bytes asked) }
-    ensures complete { WhereTold (map string_bytes words.now) (L.left log.old) (Q.left questions.old) (λ job bytes asked.
-        ¬ Rose (L.faults log.old) (L.faults log.new) (L.spent log.new)
-        → ¬ Rose (Q.faults questions.old) (Q.faults questions.new) (Q.spent questions.new)
-        → ¬ Rose (O.faults out.old) (O.faults out.new) (O.spent out.new)
-        → PassesNone limits.now job bytes asked → (result ≡ Status.Done) ⊎ (result ≡ Status.NoMemory)) }
+    ensures no_further { WhereTold limits.now (map string_bytes words.now) (L.left log.old)
+        (Q.left questions.old) (ReadsToEnd result (Q.left questions.new)) }
+    // A limit stops the run at one moment, up to which each question was answered.
+    ensures full { WhereTold limits.now (map string_bytes words.now) (L.left log.old)
+        (Q.left questions.old) (StopsAtLimit result (O.written out.old) (O.written out.new)) }
+    ensures exact { WhereTold limits.now (map string_bytes words.now) (L.left log.old)
+        (Q.left questions.old) (FitsAtDone result) }
+    ensures complete { WhereTold limits.now (map string_bytes words.now) (L.left log.old)
+        (Q.left questions.old) (IsComplete result
+        (Rose (L.faults log.old) (L.faults log.new) (L.spent log.new)
+        ⊎ (Rose (Q.faults questions.old) (Q.faults questions.new) (Q.spent questions.new)
+        ⊎ Rose (O.faults out.old) (O.faults out.new) (O.spent out.new)))) }
 {
     stops_stay();
     what_fits_never_stops();
@@ -165,26 +171,35 @@ pub fn audit_main<L: Source, Q: Source, O: Sink>(
     ensures bad_words { (result ≡ Status.BadWords) ↔ (job_of (map string_bytes words.now) ≡ None) }
     ensures untouched { job_of (map string_bytes words.now) ≡ None
         → (log.new ≡ log.old) × (questions.new ≡ questions.old) × (out.new ≡ out.old) }
-    ensures other { (of : ℕ) → job_of (map string_bytes words.now) ≡ Some (Job.Back of) → questions.new ≡ questions.old }
-    ensures causes { StatusCause (Rose (L.faults log.old) (L.faults log.new) (L.spent log.new) ⊎ Rose (Q.faults questions.old) (Q.faults questions.new) (Q.spent questions.new))
+    ensures other { (of : ℕ) → job_of (map string_bytes words.now) ≡ Some (Job.Back of)
+        → questions.new ≡ questions.old }
+    ensures causes { StatusCause
+        (Rose (L.faults log.old) (L.faults log.new) (L.spent log.new)
+        ⊎ Rose (Q.faults questions.old) (Q.faults questions.new) (Q.spent questions.new))
         (Rose (O.faults out.old) (O.faults out.new) (O.spent out.new)) result }
-    ensures headline { WithStandard (λ limits. WhereTold (map string_bytes words.now) (L.left log.old) (Q.left questions.old) (λ job bytes asked.
-        result ≡ Status.Done → Finished limits job bytes asked (L.left log.new) (O.written out.old) (O.written out.new))) }
-    ensures prefix { WithStandard (λ limits. WhereTold (map string_bytes words.now) (L.left log.old) (Q.left questions.old) (λ job bytes asked.
-        Written limits job bytes asked (O.written out.old) (O.written out.new))) }
-    ensures whole { (of : ℕ) (bytes : List ℕ) → job_of (map string_bytes words.now) ≡ Some (Job.Back of) → L.left log.old ≡ Some bytes
+    // At Done the bytes written in this call are those of the right replies.
+    ensures headline { WhereStandard (map string_bytes words.now) (L.left log.old)
+        (Q.left questions.old)
+        (Finishes result (L.left log.new) (O.written out.old) (O.written out.new)) }
+    // With any status they are a prefix of them.
+    ensures prefix { WhereStandard (map string_bytes words.now) (L.left log.old)
+        (Q.left questions.old) (WritesPrefix (O.written out.old) (O.written out.new)) }
+    ensures whole { (of : ℕ) (bytes : List ℕ)
+        → job_of (map string_bytes words.now) ≡ Some (Job.Back of) → L.left log.old ≡ Some bytes
         → result ≡ Status.Done → L.left log.new ≡ Some [] }
-    ensures no_further { WithStandard (λ limits. WhereTold (map string_bytes words.now) (L.left log.old) (Q.left questions.old) (λ job bytes asked.
-        result ≡ Status.Done → LeavesQuestions limits job bytes asked (Q.left questions.new))) }
-    ensures full { WithStandard (λ limits. WhereTold (map string_bytes words.now) (L.left log.old) (Q.left questions.old) (λ job bytes asked.
-        (full : Full) → result ≡ Status.Full full → PassesLimit limits job bytes asked full)) }
-    ensures exact { WithStandard (λ limits. WhereTold (map string_bytes words.now) (L.left log.old) (Q.left questions.old) (λ job bytes asked.
-        result ≡ Status.Done → PassesNone limits job bytes asked)) }
-    ensures complete { WithStandard (λ limits. WhereTold (map string_bytes words.now) (L.left log.old) (Q.left questions.old) (λ job bytes asked.
-        ¬ Rose (L.faults log.old) (L.faults log.new) (L.spent log.new)
-        → ¬ Rose (Q.faults questions.old) (Q.faults questions.new) (Q.spent questions.new)
-        → ¬ Rose (O.faults out.old) (O.faults out.new) (O.spent out.new)
-        → PassesNone limits job bytes asked → (result ≡ Status.Done) ⊎ (result ≡ Status.NoMemory))) }
+    // No read of the questions is made after `end`.
+    ensures no_further { WhereStandard (map string_bytes words.now) (L.left log.old)
+        (Q.left questions.old) (ReadsToEnd result (Q.left questions.new)) }
+    // A limit stops the run at one moment, up to which each question was answered.
+    ensures full { WhereStandard (map string_bytes words.now) (L.left log.old)
+        (Q.left questions.old) (StopsAtLimit result (O.written out.old) (O.written out.new)) }
+    ensures exact { WhereStandard (map string_bytes words.now) (L.left log.old)
+        (Q.left questions.old) (FitsAtDone result) }
+    ensures complete { WhereStandard (map string_bytes words.now) (L.left log.old)
+        (Q.left questions.old) (IsComplete result
+        (Rose (L.faults log.old) (L.faults log.new) (L.spent log.new)
+        ⊎ (Rose (Q.faults questions.old) (Q.faults questions.new) (Q.spent questions.new)
+        ⊎ Rose (O.faults out.old) (O.faults out.new) (O.spent out.new)))) }
 {
     let limits = standard_limits();
     audit_run(alloc, &limits, words, log, questions, out)

@@ -12,7 +12,7 @@ ghost use Rattle.ingest.specs.Replies.{IsQuestion, IsReply};
 ghost use Rattle.ingest.specs.StandsFor.{StandsFor};
 ghost use Rattle.ingest.specs.Stops.{Stops};
 ghost use Rattle.audit_cli.specs.declared.halt.Halt.TheVariants as halt;
-ghost use Rattle.audit_cli.specs.Dialogue.{Moment, after, Answers, asked, turn_of};
+ghost use Rattle.audit_cli.specs.Dialogue.{Moment, after, Answers, asked, turn_of, nothing_beyond};
 ghost use Rattle.audit_cli.specs.Course.{At, GoesUp, HasCauses, IsDue, Talked, never};
 
 use crate::halt::{Halt, Turn, halt_of};
@@ -132,7 +132,7 @@ pub fn take_turn<R: Reducer, L: Source, O: Sink>(
     question: Option<Ask>,
 ) -> Result<Turn, Halt>
     ensures talk { (limits : Limits) (m : Moment) → At R.mode limits engine.old (L.left log.old) m
-        → Talked R.mode limits never engine.new (L.left log.new) (O.written out.old) (O.written out.new) result m (question ∷ []) }
+        → Talked R.mode limits nothing_beyond engine.new (L.left log.new) (O.written out.old) (O.written out.new) result m (question ∷ []) }
     ensures causes { IfErr result (HasCauses (Rose (L.faults log.old) (L.faults log.new) (L.spent log.new))
         (Rose (O.faults out.old) (O.faults out.new) (O.spent out.new))) }
     ensures log { GoesUp (L.faults log.old) (L.faults log.new) (L.spent log.old) (L.spent log.new) }

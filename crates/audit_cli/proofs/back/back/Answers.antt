@@ -1,12 +1,10 @@
-use Rattle.std.proofs.Common.{◌∙◌, [], take, ap, Some, inl, inr, refl}
+use Rattle.std.proofs.Common.{◌∙◌, [], take, ap, Some, refl}
 use Rattle.std.proofs.lemmas.Result.{err_from_is_err_and}
 use Rattle.report_json.specs.declared.ask.Ask.TheVariants as ask
 use Rattle.report_json.specs.Replies.{text_of}
 use Rattle.audit_cli.specs.Dialogue.{after, begin}
-use Rattle.audit_cli.specs.Course.{never}
-use Rattle.audit_cli.proofs.MomentLemmas.{due_weaker}
 use Rattle.audit_cli.proofs.TalkLemmas.{appends_none}
-use Rattle.audit_cli.proofs.BackLemmas.{taken, nothing_left, take_stops, settle_stops, last_said, last_cut}
+use Rattle.audit_cli.proofs.BackLemmas.{taken, nothing_left, take_stops, settle_stops, last_said, last_cut, quiet_halt, cut_halt}
 use Rattle.audit_cli.proofs.back.back.Goals as goal
 
 pub returns-in_err-_taken-clause-talked : goal.returns-in_err-_taken-clause-talked
@@ -16,7 +14,7 @@ returns-in_err-_taken-clause-talked g c = λ limits bytes small h.
       to = begin g.R.Reducer.mode bytes;
       bytes = [];
       wrote = appends_none _;
-      course = (inl refl, due_weaker _ _ _ (λ full. take_stops c.stops_stay.ensures _ limits c.args.of.0 bytes full) (c.in_err-_taken.ensures.due limits _ h));
+      course = quiet_halt limits _ _ _ _ _ (c.in_err-_taken.ensures.due limits _ h) (λ full. take_stops c.stops_stay.ensures _ limits c.args.of.0 bytes full h.stands.fits);
       at = tt;
     })
 
@@ -29,7 +27,7 @@ returns-in_err-_settled-clause-talked g c = λ limits bytes small h.
       to = begin g.R.Reducer.mode bytes;
       bytes = [];
       wrote = appends_none _;
-      course = (inl refl, due_weaker _ _ _ (λ full. settle_stops _ limits c.args.of.0 bytes c.in_ok-_taken._taken full small at.stands.fits a) (c.in_err-_settled.ensures.due limits _ at));
+      course = quiet_halt limits _ _ _ _ _ (c.in_err-_settled.ensures.due limits _ at) (λ full. settle_stops _ limits c.args.of.0 bytes c.in_ok-_taken._taken full small at.stands.fits a);
       at = tt;
     })
 
@@ -43,7 +41,7 @@ returns-in_err-reply-clause-talked g c = λ limits bytes small h.
       to = begin g.R.Reducer.mode bytes;
       bytes = [];
       wrote = appends_none _;
-      course = (inl refl, due_weaker _ _ _ (λ full. settle_stops _ limits c.args.of.0 bytes c.in_ok-_taken._taken full small at.stands.fits a) (c.in_err-reply.ensures.due limits _ settled));
+      course = quiet_halt limits _ _ _ _ _ (c.in_err-reply.ensures.due limits _ settled) (λ full. settle_stops _ limits c.args.of.0 bytes c.in_ok-_taken._taken full small at.stands.fits a);
       at = tt;
     })
 
@@ -60,7 +58,7 @@ returns-in_err-say-clause-talked g c = λ limits bytes small h.
       to = begin g.R.Reducer.mode bytes;
       bytes = take cut.0 (text_of c.in_ok-reply.reply);
       wrote = cut.1;
-      course = (inr (last_cut _ limits c.args.of.0 bytes _ _ c.in_ok-reply.reply cut.0 small at.stands.fits a b r), due_weaker _ never _ (λ full none. absurd none) c.in_err-say.ensures.due);
+      course = cut_halt limits _ _ _ _ _ c.in_err-say.ensures.due (last_cut _ limits c.args.of.0 bytes _ _ c.in_ok-reply.reply cut.0 small at.stands.fits a b r);
       at = tt;
     })
 

@@ -2,8 +2,8 @@ use Rattle.std.proofs.Common.{length, take, ◌+◌, ◌-◌, ◌≤◌, Ok}
 use Rattle.flow_base.specs.declared.limits.Limits.{Limits}
 use Rattle.audit_lex.specs.History.{History}
 use Rattle.audit_cli.specs.declared.halt.Turn.TheVariants as turn
-use Rattle.audit_cli.specs.Dialogue.{Moment}
-use Rattle.audit_cli.specs.Course.{At, GoesUp, never}
+use Rattle.audit_cli.specs.Dialogue.{Moment, nothing_beyond}
+use Rattle.audit_cli.specs.Course.{At, GoesUp}
 use Rattle.audit_cli.specs.Hearing.{Holds, Heard}
 use Rattle.audit_cli.proofs.hear.hear.Given as goal
 
@@ -16,7 +16,7 @@ invariant-loop-at g l =
       within : l.at ≤ length l.piece;
       lines : l.cut.lines ≤ l.initial.cut.lines + l.at;
       heard : (limits : Limits) (m : Moment) (h : History) → At g.R.Reducer.mode limits l.initial.engine (source.left l.initial.log) m → Holds limits l.initial.cut h →
-          Heard g.R.Reducer.mode limits never l.cut l.engine (source.left l.log) (sink.written l.initial.out) (sink.written l.out) (Ok turn.More) m h (take l.at l.piece);
+          Heard g.R.Reducer.mode limits nothing_beyond l.cut l.engine (source.left l.log) (sink.written l.initial.out) (sink.written l.out) (Ok turn.More) m h (take l.at l.piece);
       log : GoesUp (source.faults l.initial.log) (source.faults l.log) (source.spent l.initial.log) (source.spent l.log);
       out : GoesUp (sink.faults l.initial.out) (sink.faults l.out) (sink.spent l.initial.out) (sink.spent l.out);
     }

@@ -4,11 +4,12 @@ use Rattle.std.proofs.lemmas.Result.{err_from_is_err_and}
 use Rattle.std.proofs.Math.Seq.{take-add}
 use Rattle.audit_lex.specs.History.{with_bytes}
 use Rattle.audit_cli.specs.declared.halt.Turn.TheVariants as turn
-use Rattle.audit_cli.specs.Dialogue.{QuestionsStop, asks, lines_in}
-use Rattle.audit_cli.specs.Course.{EndTalked, never}
+use Rattle.audit_cli.specs.Dialogue.{QuestionsStop, nothing_beyond, asks, lines_in}
+use Rattle.audit_cli.specs.Course.{EndTalked}
 use Rattle.audit_cli.specs.Hearing.{Heard}
 use Rattle.audit_cli.specs.Listening.{PassesRoom}
-use Rattle.audit_cli.proofs.HearLemmas.{heard_none, heard_both, heard_weaker, heard_more, questions_pass_after, questions_closed_after, no_further, on_ok}
+use Rattle.audit_cli.proofs.HearLemmas.{heard_none, heard_both, heard_more, questions_pass_after, questions_closed_after, no_further, on_ok}
+use Rattle.audit_cli.proofs.TalkLemmas.{carries_none}
 use Rattle.audit_cli.proofs.ListenLemmas.{end_heard, end_both}
 use Rattle.audit_cli.proofs.listen.watch.Goals as goal
 
@@ -18,7 +19,7 @@ loop-cut-init g c = record {
   lines = omega (arith, c.new-cut.ensures.nothing.count);
   left = λ q told. told;
   part = λ q told. omega arith;
-  heard = λ m q at told. heard_none _ c.args.limits.now never _ _ _ _ m [] at (record { limit = c.new-cut.ensures.limit; stands = c.new-cut.ensures.nothing });
+  heard = λ m q at told. heard_none _ c.args.limits.now nothing_beyond _ _ _ _ m [] at (record { limit = c.new-cut.ensures.limit; stands = c.new-cut.ensures.nothing });
   log_up = search rules;
   questions_up = search rules;
   out_up = search rules;
@@ -33,10 +34,10 @@ returns-in_err-count-clause-talked g c = λ m q at told.
     let part = c.loop-cut.invariant.part q told in
     let within = c.loop-cut.invariant.within in
     let second = c.in_err-count.ensures.heard first.talked.to (with_bytes [] (take n q)) (drop n q) first.talked.at first.holds (c.loop-cut.invariant.left q told) in
-    let weaker = heard_weaker _ limits (PassesRoom limits (limits.input - n) first.talked.to (with_bytes [] (take n q)) (drop n q)) (QuestionsStop limits m q) _ _ _ _ _ _ _ _ _ (λ full. questions_pass_after _ limits n _ _ _ _ _ m q full within part first) second in
-    let both = heard_both _ limits (QuestionsStop limits m q) _ _ _ _ _ _ _ _ _ _ m [] _ _ first weaker in
-    let ended = end_heard c.lines_stay.ensures.stay _ limits (QuestionsStop limits m q) _ _ _ _ _ _ m _ tt both in
-    rw (p.1, p.2) (subst (λ (xs : List ℕ). EndTalked g.R.Reducer.mode limits (QuestionsStop limits m q) c.listen.new.engine (g.L.Source.left c.listen.new.log) (g.O.Sink.written c.args.out.now) (g.O.Sink.written c.listen.new.out) (Err c.in_err-count.field-0.0) m (asks limits (lines_in xs))) (take-append-drop n q) ended)
+    let carries = questions_pass_after _ limits n _ _ _ _ _ m q within part first in
+    let both = heard_both _ limits (PassesRoom limits (limits.input - n) (with_bytes [] (take n q)) (drop n q)) (QuestionsStop limits q) _ _ _ _ _ _ _ _ _ _ m [] _ _ first carries second in
+    let ended = end_heard c.lines_stay.ensures.stay _ limits (QuestionsStop limits q) _ _ _ _ _ _ m _ tt both in
+    rw (p.1, p.2) (subst (λ (xs : List ℕ). EndTalked g.R.Reducer.mode limits (QuestionsStop limits q) c.listen.new.engine (g.L.Source.left c.listen.new.log) (g.O.Sink.written c.args.out.now) (g.O.Sink.written c.listen.new.out) (Err c.in_err-count.field-0.0) m (asks limits (lines_in xs))) (take-append-drop n q) ended)
 
 pub loop-cut-preserved : goal.loop-cut-preserved
 loop-cut-preserved g c =
@@ -54,9 +55,9 @@ loop-cut-preserved g c =
           let limits = c.args.limits.now in
           let first = c.loop-cut.invariant.heard m q at told in
           let second = rw c.in-Piece.is at c.in_ok-count.ensures.heard first.talked.to (with_bytes [] (take n q)) (drop n q) first.talked.at first.holds (c.loop-cut.invariant.left q told) in
-          let more = heard_more _ limits (PassesRoom limits (limits.input - n) first.talked.to (with_bytes [] (take n q)) (drop n q)) never _ _ _ _ _ _ _ _ second in
-          let both = heard_both _ limits never _ _ _ _ _ _ _ _ _ _ m [] _ _ first more in
-          subst (λ (xs : List ℕ). Heard g.R.Reducer.mode limits never c.listen.new.cut c.listen.new.engine (g.L.Source.left c.listen.new.log) (g.O.Sink.written c.args.out.now) (g.O.Sink.written c.listen.new.out) (Ok turn.More) m [] xs) (sym (take-add n k q)) both;
+          let more = heard_more _ limits (PassesRoom limits (limits.input - n) (with_bytes [] (take n q)) (drop n q)) nothing_beyond _ _ _ _ _ _ _ _ second in
+          let both = heard_both _ limits nothing_beyond nothing_beyond _ _ _ _ _ _ _ _ _ _ m [] _ _ first (carries_none _ nothing_beyond) more in
+          subst (λ (xs : List ℕ). Heard g.R.Reducer.mode limits nothing_beyond c.listen.new.cut c.listen.new.engine (g.L.Source.left c.listen.new.log) (g.O.Sink.written c.args.out.now) (g.O.Sink.written c.listen.new.out) (Ok turn.More) m [] xs) (sym (take-add n k q)) both;
       log_up = search rules;
       questions_up = search rules;
       out_up = search rules;
@@ -70,10 +71,10 @@ returns-in-Ended-clause-talked g c = λ m q at told.
     let within = c.loop-cut.invariant.within in
     let first = c.loop-cut.invariant.heard m q at told in
     let second = rw c.in-Ended.is at c.in_ok-count.ensures.heard first.talked.to (with_bytes [] (take n q)) (drop n q) first.talked.at first.holds (c.loop-cut.invariant.left q told) in
-    let weaker = heard_weaker _ limits (PassesRoom limits (limits.input - n) first.talked.to (with_bytes [] (take n q)) (drop n q)) (QuestionsStop limits m q) _ _ _ _ _ _ _ _ _ (λ full. questions_pass_after _ limits n _ _ _ _ _ m q full within part first) second in
-    let both = heard_both _ limits (QuestionsStop limits m q) _ _ _ _ _ _ _ _ _ _ m [] _ _ first weaker in
-    let ended = end_heard c.lines_stay.ensures.stay _ limits (QuestionsStop limits m q) _ _ _ _ _ _ m _ tt both in
-    subst (λ (xs : List ℕ). EndTalked g.R.Reducer.mode limits (QuestionsStop limits m q) c.listen.new.engine (g.L.Source.left c.listen.new.log) (g.O.Sink.written c.args.out.now) (g.O.Sink.written c.listen.new.out) (Ok tt) m (asks limits (lines_in xs))) (take-append-drop n q) ended
+    let carries = questions_pass_after _ limits n _ _ _ _ _ m q within part first in
+    let both = heard_both _ limits (PassesRoom limits (limits.input - n) (with_bytes [] (take n q)) (drop n q)) (QuestionsStop limits q) _ _ _ _ _ _ _ _ _ _ m [] _ _ first carries second in
+    let ended = end_heard c.lines_stay.ensures.stay _ limits (QuestionsStop limits q) _ _ _ _ _ _ m _ tt both in
+    subst (λ (xs : List ℕ). EndTalked g.R.Reducer.mode limits (QuestionsStop limits q) c.listen.new.engine (g.L.Source.left c.listen.new.log) (g.O.Sink.written c.args.out.now) (g.O.Sink.written c.listen.new.out) (Ok tt) m (asks limits (lines_in xs))) (take-append-drop n q) ended
 
 pub returns-in-Silence-clause-talked : goal.returns-in-Silence-clause-talked
 returns-in-Silence-clause-talked g c = λ m q at told.
@@ -82,11 +83,11 @@ returns-in-Silence-clause-talked g c = λ m q at told.
     let first = c.loop-cut.invariant.heard m q at told in
     let second = rw c.in-Silence.is at c.in_ok-count.ensures.heard first.talked.to (with_bytes [] (take n q)) (drop n q) first.talked.at first.holds (c.loop-cut.invariant.left q told) in
     let none = (rw c.in-Silence.is at c.in_ok-count.ensures.left (drop n q) (c.loop-cut.invariant.left q told)).0 in
-    let more = heard_more _ limits (PassesRoom limits (limits.input - n) first.talked.to (with_bytes [] (take n q)) (drop n q)) never _ _ _ _ _ _ _ _ second in
-    let both = heard_both _ limits never _ _ _ _ _ _ _ _ _ _ m [] _ _ first more in
-    let ended = end_both _ limits (QuestionsStop limits m q) _ _ _ _ _ _ _ _ _ m _ both (c.finish.ensures.heard limits both.talked.to _ both.talked.at both.holds) in
+    let more = heard_more _ limits (PassesRoom limits (limits.input - n) (with_bytes [] (take n q)) (drop n q)) nothing_beyond _ _ _ _ _ _ _ _ second in
+    let both = heard_both _ limits nothing_beyond nothing_beyond _ _ _ _ _ _ _ _ _ _ m [] _ _ first (carries_none _ nothing_beyond) more in
+    let ended = end_both _ limits (QuestionsStop limits q) _ _ _ _ _ _ _ _ _ m _ both (c.finish.ensures.heard limits both.talked.to _ both.talked.at both.holds) in
     let same : take n q ++ [] ≡ q = ap (λ (xs : List ℕ). take n q ++ xs) (sym none) ∙ take-append-drop n q in
-    subst (λ (xs : List ℕ). EndTalked g.R.Reducer.mode limits (QuestionsStop limits m q) c.finish.new.engine (g.L.Source.left c.finish.new.log) (g.O.Sink.written c.args.out.now) (g.O.Sink.written c.finish.new.out) c.finish.result m (asks limits (lines_in xs))) same ended
+    subst (λ (xs : List ℕ). EndTalked g.R.Reducer.mode limits (QuestionsStop limits q) c.finish.new.engine (g.L.Source.left c.finish.new.log) (g.O.Sink.written c.args.out.now) (g.O.Sink.written c.finish.new.out) c.finish.result m (asks limits (lines_in xs))) same ended
 
 pub returns-in-Ended-clause-within : goal.returns-in-Ended-clause-within
 returns-in-Ended-clause-within g c = λ m q at told.

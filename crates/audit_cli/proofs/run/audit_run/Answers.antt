@@ -1,7 +1,7 @@
-use Rattle.std.proofs.Common.{sym, subst, ⊎_elim, ◌∙◌}
+use Rattle.std.proofs.Common.{sym, subst, inr, ◌∙◌}
 use Rattle.audit_cli.specs.declared.words.Job.{Job}
 use Rattle.audit_cli.specs.Headline.{Tells}
-use Rattle.audit_cli.proofs.JobLemmas.{headline, front_written, nothing_written, full_exact, complete, job_same, ended_within, done_only}
+use Rattle.audit_cli.proofs.JobLemmas.{headline, front_written, nothing_written, full_exact, complete, job_same, ended_within, done_only, read_fault}
 use Rattle.audit_cli.proofs.run.audit_run.Goals as goal
 
 pub returns-in-Ok-clause-headline : goal.returns-in-Ok-clause-headline
@@ -29,11 +29,11 @@ returns-in-Ok-clause-full g c = λ done bytes asked row told tells full is.
     rw (← same) (full_exact c.args.limits.now c.in-Ok.job bytes asked _ _ _ c.run.result full talked (sym c.status_of.ensures ∙ is))
 
 pub returns-in-Ok-clause-complete : goal.returns-in-Ok-clause-complete
-returns-in-Ok-clause-complete g c = λ done bytes asked row told tells no_log no_questions no_out none.
+returns-in-Ok-clause-complete g c = λ done bytes asked row told tells no_fault none.
     let same = job_same _ _ _ c.in-Ok.ensures.found row in
     let talked = c.run.ensures.talked bytes asked told (subst (λ (j : Job). Tells j (g.Q.Source.left c.args.questions.now) asked) (sym same) tells) in
     let passes = rw (← same) at none in
-    rw c.status_of.ensures (complete c.args.limits.now c.in-Ok.job bytes asked _ _ _ _ _ c.run.result talked c.run.ensures.causes (⊎_elim no_log no_questions) no_out passes)
+    rw c.status_of.ensures (complete c.args.limits.now c.in-Ok.job bytes asked _ _ _ _ _ c.run.result talked c.run.ensures.causes (λ read. no_fault (read_fault _ _ _ read)) (λ write. no_fault (inr (inr write))) passes)
 
 pub returns-in-Ok-clause-exact : goal.returns-in-Ok-clause-exact
 returns-in-Ok-clause-exact g c = λ done bytes asked row told tells is full passes.

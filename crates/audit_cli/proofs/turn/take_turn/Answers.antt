@@ -1,10 +1,8 @@
-use Rattle.std.proofs.Common.{[], take, inl}
+use Rattle.std.proofs.Common.{[], take}
 use Rattle.std.proofs.lemmas.Result.{err_from_is_err_and}
 use Rattle.report_json.specs.Replies.{text_of}
-use Rattle.audit_cli.specs.Dialogue.{after}
-use Rattle.audit_cli.specs.Course.{never}
-use Rattle.audit_cli.proofs.MomentLemmas.{due_weaker}
-use Rattle.audit_cli.proofs.TalkLemmas.{appends_none, nothing_said, stops_now, half_said, one_turn}
+use Rattle.audit_cli.specs.Dialogue.{after, nothing_beyond}
+use Rattle.audit_cli.proofs.TalkLemmas.{appends_none, no_reply, other_halt, half_said, one_turn}
 use Rattle.audit_cli.proofs.turn.take_turn.Goals as goal
 
 pub returns-in_err-reply-clause-talk : goal.returns-in_err-reply-clause-talk
@@ -14,7 +12,7 @@ returns-in_err-reply-clause-talk g c = λ limits m h.
       to = m;
       bytes = [];
       wrote = appends_none _;
-      course = (nothing_said limits m _, due_weaker _ _ _ (λ full over. inl (stops_now limits m c.args.question [] full over)) (c.in_err-reply.ensures.due limits m h));
+      course = no_reply limits m c.args.question _ h.stands.fits (c.in_err-reply.ensures.due limits m h);
       at = tt;
     })
 
@@ -26,7 +24,7 @@ returns-in_err-say-clause-talk g c = λ limits m h.
       to = m;
       bytes = take cut.0 (text_of c.in_ok-reply.reply);
       wrote = cut.1;
-      course = (half_said limits m c.args.question _ cut.0 (c.in_ok-reply.ensures.answers limits m h), due_weaker _ never _ (λ full none. absurd none) c.in_err-say.ensures.due);
+      course = other_halt limits nothing_beyond m _ _ _ c.in_err-say.ensures.due (half_said limits m c.args.question _ cut.0 (c.in_ok-reply.ensures.answers limits m h));
       at = tt;
     })
 
@@ -36,6 +34,6 @@ returns-clause-talk g c = λ limits m h.
       to = after c.args.question m;
       bytes = text_of c.in_ok-reply.reply;
       wrote = c.in_ok-say.ensures.said;
-      course = one_turn limits never c.args.question m _ (c.in_ok-reply.ensures.answers limits m h);
+      course = one_turn limits nothing_beyond c.args.question m _ (c.in_ok-reply.ensures.answers limits m h);
       at = c.in_ok-reply.ensures.moves limits m h;
     })
