@@ -141,7 +141,20 @@ fn rows_of_either_mode_answer_for_all_flows(rt: HostRuntime) -> Result<(), Fail>
         assert!(rt; answers(alloc, &mut all, &question, expected));
         assert!(rt; answers(alloc, &mut merged, &question, expected));
     }
-    // The second write of 0 is a flow of its own in plain mode, and goes on with the first in continuous mode.
+    Ok(())
+}
+
+#[test]
+fn a_path_over_the_rows_of_either_mode_is_shown(rt: HostRuntime) -> Result<(), Fail> {
+    let alloc = rt.alloc();
+    // The steps of the test above.
+    let steps = [(0, 1, 10), (0, 1, 20), (1, 2, 30), (0, 1, 40), (3, 0, 50)].as_slice();
+    let Some((flows, count)) = lawful_flows(alloc, steps)? else {
+        return Err(Fail::new("the steps aren't lawful"));
+    };
+    let mut all = kept_of(alloc, Plain::new(), flows.as_slice(), count)?;
+    let mut merged = kept_of(alloc, Continuous::new(alloc), flows.as_slice(), count)?;
+    // The second write of 0 is a row of its own in plain mode, and goes on with the first one's in continuous mode.
     assert!(rt; leads(alloc, &mut all, (0, 2, None), Some([1, 2].as_slice())));
     assert!(rt; leads(alloc, &mut merged, (0, 2, None), Some([0, 2].as_slice())));
     let ways: [((u32, u32, Option<u64>), Option<&[u64]>); 5] = [
