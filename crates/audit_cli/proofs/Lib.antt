@@ -6,3 +6,4 @@ mod ListenLemmas
 mod MomentLemmas
 mod Numbers
 mod TalkLemmas
+mod WordLemmas

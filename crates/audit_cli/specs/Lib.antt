@@ -1,4 +1,5 @@
 pub mod Claims
+pub mod CommandLine
 pub mod Course
 pub mod Dialogue
 pub mod Headline

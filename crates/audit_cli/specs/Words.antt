@@ -1,13 +1,19 @@
 -- The job table: what the words of a command line mean.
-use Rattle.std.specs.Prelude.{ℕ, ◌^◌, nat_lt, List, [], ◌∷◌, length, Option, None, Some, codes, ◌&&◌, if◌then◌else◌, option_map}
+use Rattle.std.specs.Prelude.{◌≡◌, ⊤, ℕ, ◌^◌, nat_lt, List, [], ◌∷◌, length, Option, None, Some, codes, ◌&&◌, if◌then◌else◌, option_map}
 use Rattle.std.specs.List.{list_all}
+use Rattle.std.specs.Option.{option_and_then}
 use Rattle.std.specs.Char.{is_ascii_digit}
 use Rattle.std.specs.Str.{bytes_eq}
 use Rattle.std.specs.Str.Parse.{digits_value}
+use Rattle.clap.specs.Kinds.{Kinds}
+use Rattle.clap.specs.Words.{Row, fault_of, first_of, matches_of}
 use Rattle.reach_model.specs.declared.modes.Mode.{Mode}
 use Rattle.reach_model.specs.declared.modes.Mode.TheVariants as mode
 use Rattle.audit_cli.specs.declared.words.Job.{Job}
 use Rattle.audit_cli.specs.declared.words.Job.TheVariants as job
+use Rattle.audit_cli.specs.declared.words.WordsFault.{WordsFault}
+use Rattle.audit_cli.specs.declared.words.WordsFault.TheVariants as fault
+use Rattle.audit_cli.specs.CommandLine.{command, is_resumed, own_name, words_in}
 
 -- one or more decimal digits with a value of at most 32 bits
 abbrev pub id_of : List ℕ → Option ℕ
@@ -42,10 +48,29 @@ watch_of (Some kept) log = if nat_lt 0 (length log) then Some (job.Watch kept lo
 abbrev pub watch_job : List ℕ → List ℕ → List ℕ → Option Job
 watch_job word kept log = if bytes_eq word (codes "watch") then watch_of (mode_of kept) log else None
 
--- the job of the words, where they are a row of the table
+-- the row of the table that a job's name and the words after it are
+abbrev pub row_of : List ℕ → List (List ℕ) → Option Job
+row_of name [] = None
+row_of name (a ∷ []) = back_job name a
+row_of name (a ∷ b ∷ []) = watch_job name a b
+row_of name (a ∷ b ∷ c ∷ more) = None
+
+-- the row that was parsed. No row has `--resume`
+abbrev pub row_in : List Row → Option Job
+row_in rows =
+    if is_resumed rows then None
+    else option_and_then (λ name. row_of name (words_in rows)) (first_of (codes "JOB") rows)
+
+-- what is parsed, if the command refuses the words by none of these faults
+abbrev pub row_by : Kinds → List Row → Option Job
+row_by [] rows = row_in rows
+row_by (fault ∷ more) rows = None
+
+-- the job of the words, if the command takes them and they are a row of the table
 abbrev pub job_of : List (List ℕ) → Option Job
-job_of [] = None
-job_of (a ∷ []) = None
-job_of (a ∷ b ∷ []) = back_job a b
-job_of (a ∷ b ∷ c ∷ []) = watch_job a b c
-job_of (a ∷ b ∷ c ∷ d ∷ more) = None
+job_of words = row_by (fault_of command (own_name ∷ words)) (matches_of command (own_name ∷ words))
+
+-- bad words name no job. Where memory ran out nothing is known of the words
+abbrev pub RefusesWords : Option Job → WordsFault → Type 0
+RefusesWords found fault.BadWords = found ≡ None
+RefusesWords found fault.NoMemory = ⊤

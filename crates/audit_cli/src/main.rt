@@ -8,6 +8,7 @@
 #![tactic(auto)]
 
 mod back;
+mod command_line;
 mod halt;
 mod hear;
 mod listen;
@@ -18,6 +19,8 @@ mod status;
 mod tests;
 mod turn;
 mod words;
+#[cfg(test)]
+mod words_tests;
 
 use flow_base::Bytes;
 use outside::put_all;

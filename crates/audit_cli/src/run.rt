@@ -1,5 +1,5 @@
 //! The top call: from words, a log, questions and a sink to a status.
-ghost use Rattle.std.specs.Prelude.{◌≡◌, ◌↔◌, ◌⊎◌, ℕ, List, [], map, string_bytes, None, Some, OnOk, IfErr};
+ghost use Rattle.std.specs.Prelude.{◌≡◌, ◌⊎◌, ℕ, List, [], map, string_bytes, None, Some, OnOk, IfErr};
 ghost use Rattle.outside.specs.Cause.{Rose};
 ghost use Rattle.audit_cli.specs.declared.words.Job.{Job};
 ghost use Rattle.audit_cli.specs.Words.{job_of, mode_for};
@@ -118,7 +118,9 @@ pub fn audit_run<L: Source, Q: Source, O: Sink>(
     questions: &mut Q,
     out: &mut O,
 ) -> Status
-    ensures bad_words { (result ≡ Status.BadWords) ↔ (job_of (map string_bytes words.now) ≡ None) }
+    ensures bad_words { result ≡ Status.BadWords → job_of (map string_bytes words.now) ≡ None }
+    ensures refuses { job_of (map string_bytes words.now) ≡ None
+        → (result ≡ Status.BadWords) ⊎ (result ≡ Status.NoMemory) }
     ensures untouched { job_of (map string_bytes words.now) ≡ None
         → (log.new ≡ log.old) × (questions.new ≡ questions.old) × (out.new ≡ out.old) }
     ensures other { (of : ℕ) → job_of (map string_bytes words.now) ≡ Some (Job.Back of)
@@ -168,7 +170,9 @@ pub fn audit_main<L: Source, Q: Source, O: Sink>(
     questions: &mut Q,
     out: &mut O,
 ) -> Status
-    ensures bad_words { (result ≡ Status.BadWords) ↔ (job_of (map string_bytes words.now) ≡ None) }
+    ensures bad_words { result ≡ Status.BadWords → job_of (map string_bytes words.now) ≡ None }
+    ensures refuses { job_of (map string_bytes words.now) ≡ None
+        → (result ≡ Status.BadWords) ⊎ (result ≡ Status.NoMemory) }
     ensures untouched { job_of (map string_bytes words.now) ≡ None
         → (log.new ≡ log.old) × (questions.new ≡ questions.old) × (out.new ≡ out.old) }
     ensures other { (of : ℕ) → job_of (map string_bytes words.now) ≡ Some (Job.Back of)

@@ -2,15 +2,20 @@
 //!
 //!     back ID           ID is one or more decimal digits, of value at most 4294967295
 //!     watch MODE LOG    MODE is `plain`, `continuous`, `full` or `source`, LOG any word of at least one byte
-ghost use Rattle.std.specs.Prelude.{◌≡◌, ◌↔◌, Err, Some, None, IfOk, map, string_bytes};
+ghost use Rattle.std.specs.Prelude.{◌≡◌, ◌∷◌, Some, IfOk, IfErr, map, string_bytes};
 ghost use Rattle.std.specs.List.{list_all};
 ghost use Rattle.std.specs.Char.{is_ascii_digit};
-ghost use Rattle.audit_cli.specs.Words.{id_of, job_of, back_job, watch_job, mode_of};
+ghost use Rattle.clap.specs.Words.{found_of, rows_of};
+ghost use Rattle.audit_cli.specs.CommandLine.{own_name};
+ghost use Rattle.audit_cli.specs.Words as table;
+ghost use Rattle.audit_cli.specs.Words.{id_of, job_of, back_job, watch_job, mode_of, RefusesWords};
 ghost use Rattle.audit_cli.specs.declared.words.WordsFault.TheVariants as fault;
 
+use crate::command_line::{job_name, job_words, parsed, resumes};
+use clap::ArgMatches;
 use flow_base::{Bytes, NoMemory};
 use reach_model::Mode;
-use std::alloc::Global;
+use std::alloc::{AllocError, Global};
 
 /// What a run does.
 #[derive(Drop)]
@@ -36,21 +41,71 @@ impl From<NoMemory> for WordsFault {
     }
 }
 
-/// The job that the words name. They are refused as bad words exactly where they aren't a row of the table above.
+impl From<AllocError> for WordsFault {
+    ghost from_gives = { λ _ e. e ≡ fault.NoMemory };
+
+    fn from(_fault: AllocError) -> WordsFault {
+        WordsFault::NoMemory
+    }
+}
+
+/// The job that the words name. Bad words are those that the command line's rules refuse, and those that aren't a row
+/// of the table above. Allocation may fail at any words.
 pub fn read_words(alloc: Global, words: &[String]) -> Result<Job, WordsFault>
     ensures found { IfOk result (λ job. job_of (map string_bytes words.now) ≡ Some job) }
-    ensures refused { (result ≡ Err fault.BadWords) ↔ (job_of (map string_bytes words.now) ≡ None) }
+    ensures refused { IfErr result (RefusesWords (job_of (map string_bytes words.now))) }
+{
+    let spoken = named_words(alloc, words)?;
+    match parsed(alloc, spoken.as_slice()) {
+        Ok(found) => row_in(alloc, &found),
+        Err(why) => Err(why),
+    }
+}
+
+// The words after the name of the command.
+fn named_words(alloc: Global, words: &[String]) -> Result<Vec<&str>, NoMemory>
+    ensures { IfOk result (λ all. map (λ word. word.now) all.items ≡ own_name ∷ map string_bytes words.now) }
+{
+    let mut named = Vec::new(alloc);
+    named.push("audit_cli")?;
+    for word in words {
+        named.push(word.as_str())?;
+    }
+    Ok(named)
+}
+
+// The row of the table that was parsed.
+fn row_in(alloc: Global, found: &ArgMatches<'_>) -> Result<Job, WordsFault>
+    ensures found { IfOk result (λ job. table.row_in (rows_of (found_of found.now)) ≡ Some job) }
+    ensures refused { IfErr result (RefusesWords (table.row_in (rows_of (found_of found.now)))) }
+{
+    if resumes(found) {
+        return Err(WordsFault::BadWords);
+    }
+    let Some(name) = job_name(found) else {
+        return Err(WordsFault::BadWords);
+    };
+    match job_words(found) {
+        Some(words) => row_of(alloc, name, words),
+        None => row_of(alloc, name, &[]),
+    }
+}
+
+// The row of a job's name and the words after it.
+fn row_of(alloc: Global, name: &str, words: &[&str]) -> Result<Job, WordsFault>
+    ensures found { IfOk result (λ job. table.row_of name.now (map (λ word. word.now) words.now) ≡ Some job) }
+    ensures refused { IfErr result (RefusesWords (table.row_of name.now (map (λ word. word.now) words.now))) }
 {
     match words {
-        [job, id] => back_named(job, id).ok_or(WordsFault::BadWords),
-        [job, mode, log] => watch_named(alloc, job, mode, log),
+        [id] => back_named(name, id).ok_or(WordsFault::BadWords),
+        [mode, log] => watch_named(alloc, name, mode, log),
         _ => Err(WordsFault::BadWords),
     }
 }
 
-// The job of two words.
-fn back_named(job: &String, id: &String) -> Option<Job>
-    ensures { result ≡ back_job (string_bytes job.now) (string_bytes id.now) }
+// The job of one word after its name.
+fn back_named(job: &str, id: &str) -> Option<Job>
+    ensures { result ≡ back_job job.now id.now }
 {
     if job.as_bytes() != b"back".as_slice() {
         return None;
@@ -61,17 +116,17 @@ fn back_named(job: &String, id: &String) -> Option<Job>
     }
 }
 
-// The job of three words.
-fn watch_named(alloc: Global, job: &String, mode: &String, log: &String) -> Result<Job, WordsFault>
-    ensures found { IfOk result (λ found. watch_job (string_bytes job.now) (string_bytes mode.now) (string_bytes log.now) ≡ Some found) }
-    ensures refused { (result ≡ Err fault.BadWords) ↔ (watch_job (string_bytes job.now) (string_bytes mode.now) (string_bytes log.now) ≡ None) }
+// The job of two words after its name.
+fn watch_named(alloc: Global, job: &str, mode: &str, log: &str) -> Result<Job, WordsFault>
+    ensures found { IfOk result (λ found. watch_job job.now mode.now log.now ≡ Some found) }
+    ensures refused { IfErr result (RefusesWords (watch_job job.now mode.now log.now)) }
 {
     if job.as_bytes() != b"watch".as_slice() {
         return Err(WordsFault::BadWords);
     }
     match mode_named(mode) {
         None => Err(WordsFault::BadWords),
-        Some(_) if log.as_bytes().is_empty() => Err(WordsFault::BadWords),
+        Some(_) if log.is_empty() => Err(WordsFault::BadWords),
         Some(mode) => {
             let log = Bytes::from_slice(alloc, log.as_bytes())?;
             Ok(Job::Watch { mode, log })
@@ -80,8 +135,8 @@ fn watch_named(alloc: Global, job: &String, mode: &String, log: &String) -> Resu
 }
 
 // The mode of this name.
-fn mode_named(word: &String) -> Option<Mode>
-    ensures { result ≡ mode_of (string_bytes word.now) }
+fn mode_named(word: &str) -> Option<Mode>
+    ensures { result ≡ mode_of word.now }
 {
     if word.as_bytes() == b"plain".as_slice() {
         return Some(Mode::Plain);
@@ -99,13 +154,13 @@ fn mode_named(word: &String) -> Option<Mode>
 }
 
 // The number that a word spells.
-fn number_of(word: &String) -> Option<u32>
-    ensures { result ≡ id_of (string_bytes word.now) }
+fn number_of(word: &str) -> Option<u32>
+    ensures { result ≡ id_of word.now }
 {
     if !is_decimal(word.as_bytes()) {
         return None;
     }
-    match word.as_str().parse::<u32>() {
+    match word.parse::<u32>() {
         Ok(number) => Some(number),
         Err(_) => None,
     }

@@ -1,4 +1,4 @@
-use Rattle.std.proofs.Common.{◌≡◌, true, string_bytes}
+use Rattle.std.proofs.Common.{◌≡◌, true}
 use Rattle.std.specs.List.{list_all}
 use Rattle.std.specs.Char.{is_ascii_digit}
 use Rattle.audit_cli.proofs.Numbers.{refused}
@@ -6,5 +6,5 @@ use Rattle.audit_cli.proofs.words.number_of.Goals as goal
 
 pub returns-in-Err : goal.returns-in-Err
 returns-in-Err c =
-    let digits : list_all is_ascii_digit (string_bytes c.args.word.now) ≡ true = cc in
-    refused (string_bytes c.args.word.now) c.in-Err.field-0 digits (rw (c.as_str.ensures.value, c.in-Err.is) at c.parse.ensures.value.0)
+    let digits : list_all is_ascii_digit c.args.word.now ≡ true = cc in
+    refused c.args.word.now c.in-Err.field-0 digits (rw c.in-Err.is at c.parse.ensures.value.0)
