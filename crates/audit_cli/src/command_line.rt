@@ -17,7 +17,8 @@ use std::alloc::{AllocError, Global};
 
 /// What clap finds in the words, the first of which names the command.
 pub fn parsed<'a>(alloc: Global, words: &'a [&'a str]) -> Result<ArgMatches<'a>, WordsFault>
-    ensures found { IfOk result (λ found. Parses (map (λ word. word.now) words.now) (rows_of (found_of found))) }
+    ensures found { IfOk result (λ found.
+        Parses (map (λ word. word.now) words.now) (rows_of (found_of found))) }
     ensures refused { IfErr result (Refuses (map (λ word. word.now) words.now)) }
 {
     let command = command(alloc)?;
@@ -93,14 +94,16 @@ fn resume<'a>(alloc: Global) -> Arg<'a>
 
 /// The job's name.
 pub fn job_name<'a>(found: &ArgMatches<'a>) -> Option<&'a str>
-    ensures { option_map (λ name. name.now) result ≡ first_of (codes "JOB") (rows_of (found_of found.now)) }
+    ensures { option_map (λ name. name.now) result
+        ≡ first_of (codes "JOB") (rows_of (found_of found.now)) }
 {
     found.get_str("JOB")
 }
 
 /// The words after the job's name, and none if there are none.
 pub fn job_words<'m, 'a>(found: &'m ArgMatches<'a>) -> Option<&'m [&'a str]>
-    ensures { option_map (λ words. map (λ word. word.now) words.now) result ≡ all_of (codes "WORDS") (rows_of (found_of found.now)) }
+    ensures { option_map (λ words. map (λ word. word.now) words.now) result
+        ≡ all_of (codes "WORDS") (rows_of (found_of found.now)) }
 {
     found.get_strs("WORDS")
 }

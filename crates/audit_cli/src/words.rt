@@ -64,7 +64,8 @@ pub fn read_words(alloc: Global, words: &[String]) -> Result<Job, WordsFault>
 
 // The words after the name of the command.
 fn named_words(alloc: Global, words: &[String]) -> Result<Vec<&str>, NoMemory>
-    ensures { IfOk result (λ all. map (λ word. word.now) all.items ≡ own_name ∷ map string_bytes words.now) }
+    ensures { IfOk result (λ all.
+        map (λ word. word.now) all.items ≡ own_name ∷ map string_bytes words.now) }
 {
     let mut named = Vec::new(alloc);
     named.push("audit_cli")?;
@@ -93,8 +94,10 @@ fn row_in(alloc: Global, found: &ArgMatches<'_>) -> Result<Job, WordsFault>
 
 // The row of a job's name and the words after it.
 fn row_of(alloc: Global, name: &str, words: &[&str]) -> Result<Job, WordsFault>
-    ensures found { IfOk result (λ job. table.row_of name.now (map (λ word. word.now) words.now) ≡ Some job) }
-    ensures refused { IfErr result (RefusesWords (table.row_of name.now (map (λ word. word.now) words.now))) }
+    ensures found { IfOk result (λ job.
+        table.row_of name.now (map (λ word. word.now) words.now) ≡ Some job) }
+    ensures refused { IfErr result (
+        RefusesWords (table.row_of name.now (map (λ word. word.now) words.now))) }
 {
     match words {
         [id] => back_named(name, id).ok_or(WordsFault::BadWords),
