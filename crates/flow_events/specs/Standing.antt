@@ -93,3 +93,4 @@ pub record DiffersInRoom (old new : Tables) : Type 0 where
 -- the tables were made with these limits
 pub record HasLimits (limits : Limits) (tables : Tables) : Type 0 where
   pub limits_are : tables.limits ≡ limits
+  pub names_are : tables.entities.most_names ≡ limits.names

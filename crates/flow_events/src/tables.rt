@@ -78,6 +78,7 @@ impl Tables {
 
     /// The objects by number, and the names of keys.
     pub fn entities(&self) -> &Entities
+        ensures same { result.now ≡ self.now.entities }
         ensures objects { (text : List ℕ → List ℕ) (taken : List Taken) → StandsFor text self.now taken → result.now.keys ≡ objects (acts_of taken) }
         ensures names { (text : List ℕ → List ℕ) (taken : List Taken) → StandsFor text self.now taken → NamesAs result.now (all_given text (acts_of taken)) }
     {
@@ -99,11 +100,7 @@ impl Tables {
     }
 
     /// Works out what an event will do, and takes all the memory for it. The tables stand for the same acts as before.
-    pub fn prepare(
-        &mut self,
-        alloc: Global,
-        event: &EventView<'_>,
-    ) -> Result<Plan, PrepareFault>
+    pub fn prepare(&mut self, alloc: Global, event: &EventView<'_>) -> Result<Plan, PrepareFault>
         requires stands { (limits : Limits) × (before : List Taken) × MayComeAfter self.old event.now limits before }
         ensures plan { IfOk result (PlansEvent self.old event.now) }
         ensures unmapped { IfOk result (λ plan. plan.unmapped ≡ is_unmapped event.now.records.now) }
