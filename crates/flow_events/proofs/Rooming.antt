@@ -8,6 +8,7 @@ use Rattle.acts.specs.Keys.{all_given, names_of}
 use Rattle.acts.specs.Flows.{acts_of}
 use Rattle.proc_table.specs.Table.{standing_of}
 use Rattle.fd_table.specs.Placing.{same_slot}
+use Rattle.flow_base.specs.declared.limits.Limits.{Limits}
 use Rattle.flow_events.specs.declared.tables.Tables.{Tables}
 use Rattle.flow_events.specs.Standing.{StandsFor, DiffersInRoom}
 
@@ -21,6 +22,6 @@ stands_still text old new taken same stands = record {
   names_are = record { each = λ key. same.names key ∙ stands.names_are.each key ∙ ap (λ most. take most (names_of key (all_given text (acts_of taken)))) (sym same.most_names) };
   flows_are = same.flows ∙ stands.flows_are;
   acts_are = same.acts ∙ stands.acts_are;
-  limit_is = same.most_objects ∙ stands.limit_is ∙ sym same.limit;
+  limit_is = ap (λ (l : Limits). l.entities) same.limits ∙ stands.limit_is ∙ sym same.limit;
   objects_fit = rw (same.keys, same.limit) stands.objects_fit;
 }

@@ -1,12 +1,18 @@
 -- What an event may follow.
-use Rattle.std.specs.Prelude.{◌<◌, ◌+◌, ◌-◌, ◌^◌, ℕ, List, length}
+use Rattle.std.specs.Prelude.{◌≡◌, ◌<◌, ◌+◌, ◌-◌, ◌++◌, ◌^◌, ℕ, List, length, None, Some}
 use Rattle.name_text.specs.Addresses.{text_of}
 use Rattle.flow_base.specs.declared.limits.Limits.{Limits}
+use Rattle.flow_base.specs.declared.limits.Full.{Full}
+use Rattle.record_join.specs.declared.event.EventView.{EventView}
+use Rattle.call_acts.specs.Acts.{event_acts}
 use Rattle.acts.specs.declared.act.Taken.{Taken}
 use Rattle.acts.specs.Admitted.{Admitted}
 use Rattle.acts.specs.Flows.{acts_of}
+use Rattle.acts.specs.LookBack.{full_at}
 use Rattle.flow_events.specs.declared.tables.Tables.{Tables}
-use Rattle.flow_events.specs.Standing.{StandsFor, HasLimits}
+use Rattle.flow_events.specs.Standing.{StandsFor, HasLimits, IsPlanOf}
+use Rattle.flow_events.specs.Drafts.{turned}
+use Rattle.flow_events.specs.declared.plan.Plan.{Plan}
 
 -- the tables stand for these acts, each of which but a see and a birth names a live pid, and so many more are few
 pub record MayFollow (tables : Tables) (before : List Taken) (more : ℕ) : Type 0 where
@@ -20,3 +26,24 @@ pub record IsCourse (limits : Limits) (tables : Tables) : Type 0 where
   pub stands : StandsFor text_of tables before
   pub admitted : Admitted (acts_of before)
   pub limited : HasLimits limits tables
+
+-- the tables were made with these limits and stand for these acts, which the event may follow
+pub record MayComeAfter (tables : Tables) (event : EventView) (limits : Limits) (before : List Taken) : Type 0 where
+  pub limited : HasLimits limits tables
+  pub follows : MayFollow tables before (length (event_acts limits.path event.records.now))
+
+-- the acts of an event, the newest first
+abbrev pub turned_by : Limits → EventView → List Taken
+turned_by limits event = turned event.ms event.key.serial (event_acts limits.path event.records.now)
+
+-- the plan does what the event does
+abbrev pub PlansEvent : Tables → EventView → Plan → Type 0
+PlansEvent tables event plan = (limits : Limits) (before : List Taken) → MayComeAfter tables event limits before → IsPlanOf text_of plan before (turned_by limits event)
+
+-- with the event no limit of objects or flows is passed
+abbrev pub EventFits : Tables → EventView → Type 0
+EventFits tables event = (limits : Limits) (before : List Taken) → MayComeAfter tables event limits before → full_at limits.entities limits.flows (turned_by limits event ++ before) ≡ None
+
+-- with the event this limit of objects or flows is passed
+abbrev pub EventPasses : Tables → EventView → Full → Type 0
+EventPasses tables event full = (limits : Limits) (before : List Taken) → MayComeAfter tables event limits before → full_at limits.entities limits.flows (turned_by limits event ++ before) ≡ Some full

@@ -26,7 +26,7 @@ pub record StandsFor (address_text : List ℕ → List ℕ) (tables : Tables) (t
   pub names_are : NamesAs tables.entities (all_given address_text (acts_of taken))
   pub flows_are : tables.flows ≡ length (flows taken)
   pub acts_are : tables.acts ≡ length taken
-  pub limit_is : tables.most_objects ≡ tables.entities.limit
+  pub limit_is : tables.limits.entities ≡ tables.entities.limit
   pub objects_fit : length tables.entities.keys ≤ tables.entities.limit
 
 -- the address of socket s, where one socket has a new one
@@ -87,11 +87,10 @@ pub record DiffersInRoom (old new : Tables) : Type 0 where
   pub most_names : new.entities.most_names ≡ old.entities.most_names
   pub names : (key : Key) → names_at new.entities key ≡ names_at old.entities key
   pub flows : new.flows ≡ old.flows
-  pub most_flows : new.most_flows ≡ old.most_flows
   pub acts : new.acts ≡ old.acts
-  pub most_objects : new.most_objects ≡ old.most_objects
+  pub limits : new.limits ≡ old.limits
 
--- the tables were made with these limits of objects and flows
+-- the tables were made with these limits
 pub record HasLimits (limits : Limits) (tables : Tables) : Type 0 where
-  pub entities_are : tables.most_objects ≡ limits.entities
-  pub flows_are : tables.most_flows ≡ limits.flows
+  pub limits_are : tables.limits ≡ limits
+  pub names_are : tables.entities.most_names ≡ limits.names

@@ -1,5 +1,5 @@
 //! What an act does to descriptors, with the memory for it.
-ghost use Rattle.std.specs.Prelude.{◌≡◌, ◌≤◌, ◌+◌, ◌||◌, ℕ, Some, if◌then◌else◌};
+ghost use Rattle.std.specs.Prelude.{◌≡◌, ◌≤◌, ◌<◌, ◌+◌, ◌^◌, ◌||◌, ℕ, Some, if◌then◌else◌};
 ghost use Rattle.acts.specs.Holding.{is_at};
 ghost use Rattle.acts.specs.declared.held.Object.TheVariants as object;
 ghost use Rattle.fd_table.specs.Table.{held_at};
@@ -53,7 +53,8 @@ pub enum Change {
 
 /// How many descriptors a change may add.
 pub fn need(change: &Change) -> usize
-    ensures { result ≡ need change.now }
+    ensures need { result ≡ need change.now }
+    ensures few { result < 2 ^ 63 }
 {
     match change {
         Change::Set { .. } => 1,

@@ -14,7 +14,7 @@ ghost use Rattle.name_text.specs.Addresses.{text_of};
 ghost use Rattle.flow_events.specs.Added.{IsPast};
 ghost use Rattle.flow_events.specs.Drafts.{turned};
 ghost use Rattle.flow_events.specs.Entering.{entered};
-ghost use Rattle.flow_events.specs.Following.{MayFollow};
+ghost use Rattle.flow_events.specs.Following.{MayFollow, MayComeAfter, PlansEvent, EventFits, EventPasses};
 ghost use Rattle.call_acts.specs.Events.{IsEvent};
 ghost use Rattle.flow_events.specs.Standing.{StandsFor, Stands, HasLimits, IsPlanOf, IsReady, HasRooms, DiffersInRoom};
 
@@ -54,10 +54,9 @@ pub struct Tables {
     fds: Fds,
     births: Births,
     entities: Entities,
-    most_objects: u32,
     flows: u64,
-    most_flows: u64,
     acts: u64,
+    limits: Limits,
 }
 
 impl Tables {
@@ -71,15 +70,15 @@ impl Tables {
             fds: Fds::new(alloc),
             births: Births::new(alloc),
             entities: Entities::new(alloc, limits),
-            most_objects: limits.entities,
             flows: 0,
-            most_flows: limits.flows,
             acts: 0,
+            limits: *limits,
         }
     }
 
     /// The objects by number, and the names of keys.
     pub fn entities(&self) -> &Entities
+        ensures same { result.now ≡ self.now.entities }
         ensures objects { (text : List ℕ → List ℕ) (taken : List Taken) → StandsFor text self.now taken → result.now.keys ≡ objects (acts_of taken) }
         ensures names { (text : List ℕ → List ℕ) (taken : List Taken) → StandsFor text self.now taken → NamesAs result.now (all_given text (acts_of taken)) }
     {
@@ -101,24 +100,18 @@ impl Tables {
     }
 
     /// Works out what an event will do, and takes all the memory for it. The tables stand for the same acts as before.
-    pub fn prepare(
-        &mut self,
-        alloc: Global,
-        event: &EventView<'_>,
-        limits: &Limits,
-    ) -> Result<Plan, PrepareFault>
-        requires stands { (before : List Taken) × MayFollow self.old before (length (event_acts limits.now.path event.now.records.now)) }
-        requires limits { HasLimits limits.now self.old }
-        ensures plan { IfOk result (λ plan. (before : List Taken) → MayFollow self.old before (length (event_acts limits.now.path event.now.records.now)) → IsPlanOf text_of plan before (turned event.now.ms event.now.key.serial (event_acts limits.now.path event.now.records.now))) }
+    pub fn prepare(&mut self, alloc: Global, event: &EventView<'_>) -> Result<Plan, PrepareFault>
+        requires stands { (limits : Limits) × (before : List Taken) × MayComeAfter self.old event.now limits before }
+        ensures plan { IfOk result (PlansEvent self.old event.now) }
         ensures unmapped { IfOk result (λ plan. plan.unmapped ≡ is_unmapped event.now.records.now) }
         ensures ready { IfOk result (λ plan. IsReady self.new plan) }
         ensures same { (text : List ℕ → List ℕ) (taken : List Taken) → StandsFor text self.old taken → StandsFor text self.new taken }
-        ensures limits { HasLimits limits.now self.new }
-        ensures fits { IfOk result (λ plan. (before : List Taken) → MayFollow self.old before (length (event_acts limits.now.path event.now.records.now)) → full_at limits.now.entities limits.now.flows (turned event.now.ms event.now.key.serial (event_acts limits.now.path event.now.records.now) ++ before) ≡ None) }
-        ensures full { (full : Full) → result ≡ Err (fault.Full full) → (before : List Taken) → MayFollow self.old before (length (event_acts limits.now.path event.now.records.now)) → full_at limits.now.entities limits.now.flows (turned event.now.ms event.now.key.serial (event_acts limits.now.path event.now.records.now) ++ before) ≡ Some full }
+        ensures limits { (limits : Limits) → HasLimits limits self.old → HasLimits limits self.new }
+        ensures fits { OnOk result (EventFits self.old event.now) }
+        ensures full { (full : Full) → result ≡ Err (fault.Full full) → EventPasses self.old event.now full }
     {
         acts_are_of_one_event();
-        let acts = call_acts::acts(alloc, event, limits)?;
+        let acts = call_acts::acts(alloc, event, &self.limits)?;
         let unmapped = is_lone_unmapped(event, acts.as_slice());
         self.prepare_acts(alloc, acts, event.ms, event.key.serial, unmapped)
     }
@@ -145,10 +138,10 @@ impl Tables {
         ensures full { (full : Full) → result ≡ Err (fault.Full full) → (limits : Limits) → HasLimits limits self.old → (before : List Taken) → MayFollow self.old before (length acts) → full_at limits.entities limits.flows (turned ms serial acts ++ before) ≡ Some full }
     {
         let plan = self.plan(alloc, acts, ms, serial, unmapped)?;
-        if self.most_flows < self.flows + plan.flows.as_slice().len() as u64 {
+        if self.limits.flows < self.flows + plan.flows.as_slice().len() as u64 {
             return Err(PrepareFault::Full(Full {
                 limit: Limit::Flows,
-                number: self.most_flows,
+                number: self.limits.flows,
             }));
         }
         self.make_room(alloc, &plan)?;
@@ -171,7 +164,7 @@ impl Tables {
         ensures unmapped { IfOk result (λ plan. plan.unmapped ≡ unmapped) }
         ensures fits { IfOk result (λ plan. length (entered self.now.entities.keys plan.keys) ≤ self.now.entities.limit) }
         ensures flows { IfOk result (λ plan. length plan.flows ≤ length acts) }
-        ensures full { (full : Full) → result ≡ Err (fault.Full full) → (before : List Taken) → MayFollow self.now before (length acts) → IsPast self.now.most_objects full (objects (acts_of (turned ms serial acts ++ before))) }
+        ensures full { (full : Full) → result ≡ Err (fault.Full full) → (before : List Taken) → MayFollow self.now before (length acts) → IsPast self.now.limits.entities full (objects (acts_of (turned ms serial acts ++ before))) }
     {
         each_beginning_is_an_act();
         let ground = Ground {
@@ -180,7 +173,7 @@ impl Tables {
             fds: &self.fds,
             births: &self.births,
             entities: &self.entities,
-            most: self.most_objects,
+            most: self.limits.entities,
             flows: self.flows,
             ms,
             serial,
@@ -196,12 +189,9 @@ impl Tables {
     {
         let acts = plan.acts.as_slice().len();
         let named = named_keys(alloc, plan.given.as_slice())?;
-        let Some(descriptors) = need(&plan.see).checked_add(need(&plan.last)) else {
-            return Err(NoMemory);
-        };
         self.procs.reserve(acts)?;
         self.births.reserve(acts)?;
-        self.fds.reserve(descriptors, 1)?;
+        self.fds.reserve(need(&plan.see) + need(&plan.last), 1)?;
         self.entities
             .reserve(plan.keys.as_slice().len(), named.as_slice())?;
         Ok(())

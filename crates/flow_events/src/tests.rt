@@ -279,7 +279,7 @@ impl Course {
         if self.tables.acts() > 1_000_000 || event.records.len() > 1_000_000 {
             return Err(PrepareFault::NoMemory);
         }
-        let plan = self.tables.prepare(alloc, event, &self.limits)?;
+        let plan = self.tables.prepare(alloc, event)?;
         Ok(self.tables.apply(plan))
     }
 
@@ -293,7 +293,7 @@ impl Course {
             return Err(PrepareFault::NoMemory);
         }
         acts_are_few();
-        let plan = self.tables.prepare(alloc, event, &self.limits)?;
+        let plan = self.tables.prepare(alloc, event)?;
         let mut flows = List::new(alloc);
         for flow in plan.flows() {
             flows.push(*flow)?;

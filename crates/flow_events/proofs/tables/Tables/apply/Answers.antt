@@ -35,3 +35,9 @@ returns-clause-next c = λ text before now stands plan.
           (rw (ap (λ e. e.limit) c.enter_all.ensures.rest ∙ ap (λ e. e.limit) c.give_all.ensures.rest, ap (λ e. e.keys) c.give_all.ensures.rest) c.requires.ready.objects_fit);
       limit_is = stands.limit_is ∙ sym (ap (λ e. e.limit) c.enter_all.ensures.rest ∙ ap (λ e. e.limit) c.give_all.ensures.rest);
     }
+
+pub returns-clause-limits : goal.returns-clause-limits
+returns-clause-limits c = λ limits has. record {
+  limits_are = has.limits_are;
+  names_are = ap (λ e. e.most_names) c.enter_all.ensures.rest ∙ ap (λ e. e.most_names) c.give_all.ensures.rest ∙ has.names_are;
+}

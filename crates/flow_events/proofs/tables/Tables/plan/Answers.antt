@@ -65,8 +65,8 @@ returns-in_err-worked-clause-full c =
     let stands = may.stands in
     let slice = c.as_slice.ensures in
     let now = turned c.args.ms c.args.serial c.as_slice.result.now in
-    subst (λ acts. IsPast c.args.self.now.most_objects full (objects (acts_of (turned c.args.ms c.args.serial acts ++ before)))) slice
-    (subst (λ all. IsPast c.args.self.now.most_objects full (objects all)) (sym (joined now before))
+    subst (λ acts. IsPast c.args.self.now.limits.entities full (objects (acts_of (turned c.args.ms c.args.serial acts ++ before)))) slice
+    (subst (λ all. IsPast c.args.self.now.limits.entities full (objects all)) (sym (joined now before))
     ((c.in_err-worked.ensures.full full (ap (error_or (fault.Full full)) is) before (record {
       grounded = record {
         lives_are = stands.lives_are;
