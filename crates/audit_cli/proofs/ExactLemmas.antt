@@ -57,6 +57,9 @@ grows None m = goes_none m.history
 grows (Some (ask.Take n)) m = record { more = map Byte (take n m.log); is = refl }
 grows (Some ask.Settle) m = record { more = Settle ∷ []; is = refl }
 grows (Some (ask.Question question)) m = goes_none m.history
+grows (Some (ask.Why from to until)) m = goes_none m.history
+grows (Some (ask.Find text)) m = goes_none m.history
+grows (Some (ask.Show id)) m = goes_none m.history
 grows (Some ask.Stat) m = goes_none m.history
 grows (Some ask.End) m = goes_none m.history
 

@@ -29,13 +29,13 @@ pub pieces : (h : History) (p q : List ℕ) → with_bytes (with_bytes h p) q �
 pieces h p q = rw (map-append, append_assoc) refl
 
 -- the lines of a piece that was heard whole
-pub whole_lines : (mode : Mode) (limits : Limits) (beyond : Beyond) (c : Cutter) (e : Engine) (l old new : Option (List ℕ)) (m : Moment) (h : History) (p : List ℕ)
+pub whole_lines : {K : Type 0} → (mode : Mode) (limits : Limits) (beyond : Beyond) (c : Cutter) (e : Engine K) (l old new : Option (List ℕ)) (m : Moment) (h : History) (p : List ℕ)
     → (x : Heard mode limits beyond c e l old new (Ok turn.More) m h p) → lines_of (with_bytes h p) ≡ lines_of h ++ x.answered
 whole_lines mode limits beyond c e l old new m h p x =
     x.lines ∙ ap (λ (ls : List (List ℕ)). lines_of h ++ (x.answered ++ ls)) x.whole ∙ ap (λ (ls : List (List ℕ)). lines_of h ++ ls) (append-nil x.answered)
 
 -- a part of a run after another one that goes on
-pub talked_after : (mode : Mode) (limits : Limits) (P Q : Beyond) (e1 e2 : Engine) (l1 l2 old mid new : Option (List ℕ)) (r : Result Turn Halt) (from : Moment) (f g : List (Option Ask))
+pub talked_after : {K : Type 0} → (mode : Mode) (limits : Limits) (P Q : Beyond) (e1 e2 : Engine K) (l1 l2 old mid new : Option (List ℕ)) (r : Result Turn Halt) (from : Moment) (f g : List (Option Ask))
     → Carries f P Q → (first : Talked mode limits nothing_beyond e1 l1 old mid (Ok turn.More) from f) → Talked mode limits P e2 l2 mid new r first.to g → Talked mode limits Q e2 l2 old new r from (f ++ g)
 talked_after mode limits P Q e1 e2 l1 l2 old mid new r from f g carries first second = record {
   to = second.to;
@@ -47,11 +47,11 @@ talked_after mode limits P Q e1 e2 l1 l2 old mid new r from f g carries first se
 }
 
 -- nothing asked yet
-pub talked_none : (mode : Mode) (limits : Limits) (beyond : Beyond) (e : Engine) (l old : Option (List ℕ)) (m : Moment) → At mode limits e l m → Talked mode limits beyond e l old old (Ok turn.More) m []
+pub talked_none : {K : Type 0} → (mode : Mode) (limits : Limits) (beyond : Beyond) (e : Engine K) (l old : Option (List ℕ)) (m : Moment) → At mode limits e l m → Talked mode limits beyond e l old old (Ok turn.More) m []
 talked_none mode limits beyond e l old m at = record { to = m; bytes = []; wrote = appends_none old; course = ([], refl, leads_none limits m); at = at }
 
 -- nothing heard yet
-pub heard_none : (mode : Mode) (limits : Limits) (beyond : Beyond) (c : Cutter) (e : Engine) (l old : Option (List ℕ)) (m : Moment) (h : History) → At mode limits e l m → Holds limits c h → Heard mode limits beyond c e l old old (Ok turn.More) m h []
+pub heard_none : {K : Type 0} → (mode : Mode) (limits : Limits) (beyond : Beyond) (c : Cutter) (e : Engine K) (l old : Option (List ℕ)) (m : Moment) (h : History) → At mode limits e l m → Holds limits c h → Heard mode limits beyond c e l old old (Ok turn.More) m h []
 heard_none mode limits beyond c e l old m h at holds = record {
   answered = [];
   unheard = [];
@@ -62,7 +62,7 @@ heard_none mode limits beyond c e l old m h at holds = record {
 }
 
 -- one piece after another that was heard whole
-pub heard_both : (mode : Mode) (limits : Limits) (P Q : Beyond) (c1 c2 : Cutter) (e1 e2 : Engine) (l1 l2 old mid new : Option (List ℕ)) (r : Result Turn Halt) (from : Moment) (h : History) (p q : List ℕ)
+pub heard_both : {K : Type 0} → (mode : Mode) (limits : Limits) (P Q : Beyond) (c1 c2 : Cutter) (e1 e2 : Engine K) (l1 l2 old mid new : Option (List ℕ)) (r : Result Turn Halt) (from : Moment) (h : History) (p q : List ℕ)
     → (first : Heard mode limits nothing_beyond c1 e1 l1 old mid (Ok turn.More) from h p) → Carries (asks limits first.answered) P Q → Heard mode limits P c2 e2 l2 mid new r first.talked.to (with_bytes h p) q → Heard mode limits Q c2 e2 l2 old new r from h (p ++ q)
 heard_both mode limits P Q c1 c2 e1 e2 l1 l2 old mid new r from h p q first carries second =
     let whole = whole_lines mode limits nothing_beyond c1 e1 l1 old mid from h p first in
@@ -88,7 +88,7 @@ when_more (Ok turn.Ended) P p = tt
 when_more (Err why) P p = tt
 
 -- a longer piece, of which no more is heard
-pub heard_longer : LinesStay → (mode : Mode) (limits : Limits) (beyond : Beyond) (c : Cutter) (e : Engine) (l old new : Option (List ℕ)) (r : Result Turn Halt) (from : Moment) (h : History) (p q : List ℕ)
+pub heard_longer : {K : Type 0} → LinesStay → (mode : Mode) (limits : Limits) (beyond : Beyond) (c : Cutter) (e : Engine K) (l old new : Option (List ℕ)) (r : Result Turn Halt) (from : Moment) (h : History) (p q : List ℕ)
     → WhenMore r ⊥ → Heard mode limits beyond c e l old new r from h p → Heard mode limits beyond c e l old new r from h (p ++ q)
 heard_longer stay mode limits beyond c e l old new r from h p q none x =
     let more = stay (with_bytes h p) (map Byte q) in
@@ -104,7 +104,7 @@ heard_longer stay mode limits beyond c e l old new r from h p q none x =
     }
 
 -- a part that ends a line, which was answered
-pub heard_line : (mode : Mode) (limits : Limits) (beyond : Beyond) (c : Cutter) (e : Engine) (l old new : Option (List ℕ)) (r : Result Turn Halt) (m : Moment) (h : History) (part text : List ℕ) (q : Option Ask)
+pub heard_line : {K : Type 0} → (mode : Mode) (limits : Limits) (beyond : Beyond) (c : Cutter) (e : Engine K) (l old new : Option (List ℕ)) (r : Result Turn Halt) (m : Moment) (h : History) (part text : List ℕ) (q : Option Ask)
     → q ≡ asked limits.question text → Holds limits c (with_bytes h part) → lines_of (with_bytes h part) ≡ lines_of h ++ text ∷ [] → Talked mode limits beyond e l old new r m (q ∷ []) → Heard mode limits beyond c e l old new r m h part
 heard_line mode limits beyond c e l old new r m h part text q asks holds lines talked = record {
   answered = text ∷ [];
@@ -116,7 +116,7 @@ heard_line mode limits beyond c e l old new r m h part text q asks holds lines t
 }
 
 -- a part that ends no line
-pub heard_no_line : (mode : Mode) (limits : Limits) (beyond : Beyond) (c : Cutter) (e : Engine) (l old : Option (List ℕ)) (m : Moment) (h : History) (part : List ℕ)
+pub heard_no_line : {K : Type 0} → (mode : Mode) (limits : Limits) (beyond : Beyond) (c : Cutter) (e : Engine K) (l old : Option (List ℕ)) (m : Moment) (h : History) (part : List ℕ)
     → At mode limits e l m → Holds limits c (with_bytes h part) → lines_of (with_bytes h part) ≡ lines_of h → Heard mode limits beyond c e l old old (Ok turn.More) m h part
 heard_no_line mode limits beyond c e l old m h part at holds lines = record {
   answered = [];
@@ -128,7 +128,7 @@ heard_no_line mode limits beyond c e l old m h part at holds lines = record {
 }
 
 -- nothing heard before a halt
-pub heard_nothing : LinesStay → (mode : Mode) (limits : Limits) (beyond : Beyond) (c : Cutter) (e : Engine) (l old : Option (List ℕ)) (why : Halt) (m : Moment) (h : History) (piece : List ℕ)
+pub heard_nothing : {K : Type 0} → LinesStay → (mode : Mode) (limits : Limits) (beyond : Beyond) (c : Cutter) (e : Engine K) (l old : Option (List ℕ)) (why : Halt) (m : Moment) (h : History) (piece : List ℕ)
     → IsDue never why → Heard mode limits beyond c e l old old (Err why) m h piece
 heard_nothing stay mode limits beyond c e l old why m h piece due =
     let more = stay h (map Byte piece) in
@@ -166,7 +166,7 @@ course_weaker limits P Q (Ok turn.More) a b f bytes more h = h
 course_weaker limits P Q (Ok turn.Ended) a b f bytes more h = h
 course_weaker limits P Q (Err why) a b f bytes more h = halted_weaker limits P Q a f bytes why more h
 
-pub heard_weaker : (mode : Mode) (limits : Limits) (P Q : Beyond) (c : Cutter) (e : Engine) (l old new : Option (List ℕ)) (r : Result Turn Halt) (from : Moment) (h : History) (p : List ℕ)
+pub heard_weaker : {K : Type 0} → (mode : Mode) (limits : Limits) (P Q : Beyond) (c : Cutter) (e : Engine K) (l old new : Option (List ℕ)) (r : Result Turn Halt) (from : Moment) (h : History) (p : List ℕ)
     → Weaker P Q → Heard mode limits P c e l old new r from h p → Heard mode limits Q c e l old new r from h p
 heard_weaker mode limits P Q c e l old new r from h p more x = record {
   answered = x.answered;
@@ -184,7 +184,7 @@ heard_weaker mode limits P Q c e l old new r from h p more x = record {
 }
 
 -- a longer piece, of which the rest may not be heard
-pub heard_full : LinesStay → (mode : Mode) (limits : Limits) (beyond : Beyond) (c : Cutter) (e : Engine) (l old new : Option (List ℕ)) (from : Moment) (h : History) (p q : List ℕ)
+pub heard_full : {K : Type 0} → LinesStay → (mode : Mode) (limits : Limits) (beyond : Beyond) (c : Cutter) (e : Engine K) (l old new : Option (List ℕ)) (from : Moment) (h : History) (p q : List ℕ)
     → (x : Heard mode limits nothing_beyond c e l old new (Ok turn.More) from h p) → beyond (asks limits x.answered) (input_full limits) → Heard mode limits beyond c e l old new (Err (halt.Full (input_full limits))) from h (p ++ q)
 heard_full stay mode limits beyond c e l old new from h p q x over =
     let more = stay (with_bytes h p) (map Byte q) in
@@ -212,7 +212,7 @@ heard_full stay mode limits beyond c e l old new from h p q x over =
     }
 
 -- a part that goes on had no cause to halt
-pub heard_more : (mode : Mode) (limits : Limits) (P Q : Beyond) (c : Cutter) (e : Engine) (l old new : Option (List ℕ)) (from : Moment) (h : History) (p : List ℕ)
+pub heard_more : {K : Type 0} → (mode : Mode) (limits : Limits) (P Q : Beyond) (c : Cutter) (e : Engine K) (l old new : Option (List ℕ)) (from : Moment) (h : History) (p : List ℕ)
     → Heard mode limits P c e l old new (Ok turn.More) from h p → Heard mode limits Q c e l old new (Ok turn.More) from h p
 heard_more mode limits P Q c e l old new from h p x = record {
   answered = x.answered;
@@ -224,7 +224,7 @@ heard_more mode limits P Q c e l old new from h p x = record {
 }
 
 -- what was heard within the room leaves more to hear
-pub questions_pass : (mode : Mode) (limits : Limits) (c : Cutter) (e : Engine) (l old new : Option (List ℕ)) (from : Moment) (h : History) (p q : List ℕ) (room : ℕ)
+pub questions_pass : {K : Type 0} → (mode : Mode) (limits : Limits) (c : Cutter) (e : Engine K) (l old new : Option (List ℕ)) (from : Moment) (h : History) (p q : List ℕ) (room : ℕ)
     → p ≡ take room q → room < length q → (x : Heard mode limits nothing_beyond c e l old new (Ok turn.More) from h p) → PassesRoom limits room h q (asks limits x.answered) (input_full limits)
 questions_pass mode limits c e l old new from h p q room is over x = record {
   ended = x.answered;
@@ -235,7 +235,7 @@ questions_pass mode limits c e l old new from h p q room is over x = record {
 }
 
 -- `end` was heard within the room
-pub questions_closed : LinesStay → (mode : Mode) (limits : Limits) (c : Cutter) (e : Engine) (l old new : Option (List ℕ)) (from : Moment) (h : History) (p q : List ℕ) (n room : ℕ)
+pub questions_closed : {K : Type 0} → LinesStay → (mode : Mode) (limits : Limits) (c : Cutter) (e : Engine K) (l old new : Option (List ℕ)) (from : Moment) (h : History) (p q : List ℕ) (n room : ℕ)
     → p ≡ take n q → n ≤ room → Heard mode limits nothing_beyond c e l old new (Ok turn.Ended) from h p → EndsWithin limits room from h q
 questions_closed stay mode limits c e l old new from h p q n room is within x =
     let sum : n + (room - n) ≡ room = omega arith in
@@ -260,7 +260,7 @@ front_of limits n q within =
     sym (take-add n (limits.input - n) q) ∙ ap (λ (k : ℕ). take k q) sum
 
 -- the same, after all that was heard before
-pub questions_pass_after : (mode : Mode) (limits : Limits) (n : ℕ) (c : Cutter) (e : Engine) (l old new : Option (List ℕ)) (from : Moment) (q : List ℕ)
+pub questions_pass_after : {K : Type 0} → (mode : Mode) (limits : Limits) (n : ℕ) (c : Cutter) (e : Engine K) (l old new : Option (List ℕ)) (from : Moment) (q : List ℕ)
     → n ≤ limits.input → n ≤ length q → (first : Heard mode limits nothing_beyond c e l old new (Ok turn.More) from [] (take n q))
     → Carries (asks limits first.answered) (PassesRoom limits (limits.input - n) (with_bytes [] (take n q)) (drop n q)) (QuestionsStop limits q)
 questions_pass_after mode limits n c e l old new from q within part first = λ answered full x.
@@ -276,7 +276,7 @@ questions_pass_after mode limits n c e l old new from q within part first = λ a
     }
 
 -- the same, after all that was heard before
-pub questions_closed_after : (mode : Mode) (limits : Limits) (n : ℕ) (c : Cutter) (e : Engine) (l old new : Option (List ℕ)) (from : Moment) (q : List ℕ)
+pub questions_closed_after : {K : Type 0} → (mode : Mode) (limits : Limits) (n : ℕ) (c : Cutter) (e : Engine K) (l old new : Option (List ℕ)) (from : Moment) (q : List ℕ)
     → n ≤ limits.input → (first : Heard mode limits nothing_beyond c e l old new (Ok turn.More) from [] (take n q)) → EndsWithin limits (limits.input - n) first.talked.to (with_bytes [] (take n q)) (drop n q) → EndsWithin limits limits.input from [] q
 questions_closed_after mode limits n c e l old new from q within first x =
     let whole = whole_lines mode limits nothing_beyond c e l old new from [] (take n q) first in
@@ -295,7 +295,7 @@ on_ok (Ok t) P p = p
 on_ok (Err e) P p = tt
 
 -- one read more than what was heard whole
-pub no_further : (mode : Mode) (limits : Limits) (c : Cutter) (e : Engine) (l old new : Option (List ℕ)) (from : Moment) (q : List ℕ) (n count : ℕ) (left : Option (List ℕ))
+pub no_further : {K : Type 0} → (mode : Mode) (limits : Limits) (c : Cutter) (e : Engine K) (l old new : Option (List ℕ)) (from : Moment) (q : List ℕ) (n count : ℕ) (left : Option (List ℕ))
     → Heard mode limits nothing_beyond c e l old new (Ok turn.More) from [] (take n q) → count ≤ 65536 → left ≡ Some (drop count (drop n q)) → ReadsNoFurther limits from q left
 no_further mode limits c e l old new from q n count left first short told = record {
   before = n;

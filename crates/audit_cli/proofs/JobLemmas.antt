@@ -35,18 +35,18 @@ watch_halt limits mode name log asked halt.NoMemory bytes to x = x
 watch_halt limits mode name log asked halt.ReadFault bytes to x = x
 watch_halt limits mode name log asked halt.WriteFault bytes to x = x
 
-plainly_talked : (limits : Limits) (of : ℕ) (log asked : List ℕ) (e : Engine) (left old new : Option (List ℕ)) (r : Result Unit Halt) → LastTalked Plain limits e left old new r (begin Plain log) (back_questions of log)
+plainly_talked : {K : Type 0} → (limits : Limits) (of : ℕ) (log asked : List ℕ) (e : Engine K) (left old new : Option (List ℕ)) (r : Result Unit Halt) → LastTalked Plain limits e left old new r (begin Plain log) (back_questions of log)
     → JobTalked limits (job.Back of) log asked left old new r
 plainly_talked limits of log asked e left old new (Ok done) x = record { to = x.to; bytes = x.bytes; wrote = x.wrote; course = x.course; ends = record { within = x.at.stands.fits; told = x.at.told } }
 plainly_talked limits of log asked e left old new (Err why) x = record { to = x.to; bytes = x.bytes; wrote = x.wrote; course = last_halt limits of log asked why x.bytes x.to x.course; ends = tt }
 
 -- `back`
-pub back_talked : (kept : Mode) (limits : Limits) (of : ℕ) (log asked : List ℕ) (e : Engine) (left old new : Option (List ℕ)) (r : Result Unit Halt) → kept ≡ Plain → LastTalked kept limits e left old new r (begin kept log) (back_questions of log)
+pub back_talked : {K : Type 0} → (kept : Mode) (limits : Limits) (of : ℕ) (log asked : List ℕ) (e : Engine K) (left old new : Option (List ℕ)) (r : Result Unit Halt) → kept ≡ Plain → LastTalked kept limits e left old new r (begin kept log) (back_questions of log)
     → JobTalked limits (job.Back of) log asked left old new r
 back_talked kept limits of log asked e left old new r plain x = plainly_talked limits of log asked e left old new r (subst (λ (mode : Mode). LastTalked mode limits e left old new r (begin mode log) (back_questions of log)) plain x)
 
 -- `watch`
-pub watch_talked : (kept : Mode) (limits : Limits) (mode : Mode) (name log asked : List ℕ) (e : Engine) (left old new : Option (List ℕ)) (r : Result Unit Halt)
+pub watch_talked : {K : Type 0} → (kept : Mode) (limits : Limits) (mode : Mode) (name log asked : List ℕ) (e : Engine K) (left old new : Option (List ℕ)) (r : Result Unit Halt)
     → EndTalked kept limits (QuestionsStop limits asked) e left old new r (begin mode log) (asks limits (lines_in asked)) → JobTalked limits (job.Watch mode name) log asked left old new r
 watch_talked kept limits mode name log asked e left old new (Ok done) x = record { to = x.to; bytes = x.bytes; wrote = x.wrote; course = record { said = x.course.0; dialogue = x.course.2; bytes_are = x.course.1 }; ends = record { within = x.at.stands.fits; told = x.at.told } }
 watch_talked kept limits mode name log asked e left old new (Err why) x = record { to = x.to; bytes = x.bytes; wrote = x.wrote; course = watch_halt limits mode name log asked why x.bytes x.to x.course; ends = tt }
@@ -88,6 +88,11 @@ halt_front limits done log asked halt.WriteFault bytes to x = x
 pub nothing_written : (limits : Limits) (done : Job) (log asked : List ℕ) (old : Option (List ℕ)) → Written limits done log asked old old
 nothing_written limits (job.Back of) log asked old = record { bytes = []; wrote = appends_none old; front = inl refl }
 nothing_written limits (job.Watch mode name) log asked old = record { bytes = []; wrote = appends_none old; front = nothing_said limits (begin mode log) _ }
+
+pub not_begun : (limits : Limits) (done : Job) (log asked : List ℕ) (left old : Option (List ℕ)) → JobTalked limits done log asked left old old (Err halt.NoMemory)
+not_begun limits done log asked left old =
+    let x = nothing_written limits done log asked old in
+    record { to = begin Plain log; bytes = x.bytes; wrote = x.wrote; course = x.front; ends = tt }
 
 pub causes : (read write : Type 0) (r : Result Unit Halt) → IfErr r (HasCauses read write) → StatusCause read write (status_for r)
 causes read write (Ok done) h = tt

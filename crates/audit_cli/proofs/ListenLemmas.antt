@@ -1,7 +1,7 @@
 -- The end of a dialogue over bytes of questions.
-use Rattle.std.proofs.Common.{◌≡◌, ℕ, List, [], ◌∷◌, ◌++◌, refl, ap, sym, ◌∙◌, Option, subst, append_assoc}
+use Rattle.std.proofs.Common.{length, take, drop, arith, ◌≡◌, ℕ, List, [], ◌∷◌, ◌++◌, refl, ap, sym, ◌∙◌, Option, subst, append_assoc}
 use Rattle.std.specs.Prelude.{Result, Ok, Err, OnOk}
-use Rattle.std.proofs.lemmas.List.{append-nil, map-append}
+use Rattle.std.proofs.lemmas.List.{append-nil, map-append, length-take, length-append}
 use Rattle.flow_base.specs.declared.limits.Limits.{Limits}
 use Rattle.flow_base.specs.declared.limits.Full.{Full}
 use Rattle.audit_lex.specs.History.{History, Settle, with_bytes, lines_of}
@@ -13,13 +13,13 @@ use Rattle.audit_cli.specs.declared.halt.Halt.{Halt}
 use Rattle.audit_cli.specs.declared.halt.Turn.{Turn}
 use Rattle.audit_cli.specs.declared.halt.Turn.TheVariants as turn
 use Rattle.audit_cli.specs.Dialogue.{Moment, Beyond, asked, asks, lines_in, nothing_beyond}
-use Rattle.audit_cli.specs.Course.{At, EndCourse, EndTalked, Talked, ended}
+use Rattle.audit_cli.specs.Course.{At, EndCourse, EndTalked, IsDue, Talked, ended, never}
 use Rattle.audit_cli.specs.Hearing.{Heard, HeardLast, WhenMore}
-use Rattle.audit_cli.proofs.TalkLemmas.{appends_none, appends_both, end_course, end_whole, end_after}
+use Rattle.audit_cli.proofs.TalkLemmas.{appends_none, appends_both, nothing_said, other_halt, end_course, end_whole, end_after}
 use Rattle.audit_cli.proofs.HearLemmas.{LinesStay, whole_lines}
 
 -- no line was left
-pub last_none : (mode : Mode) (limits : Limits) (e : Engine) (l old : Option (List ℕ)) (m : Moment) (h : History) → At mode limits e l m → lines_of (h ++ Settle ∷ []) ≡ lines_of h → HeardLast mode limits nothing_beyond e l old old (Ok tt) m h
+pub last_none : {K : Type 0} → (mode : Mode) (limits : Limits) (e : Engine K) (l old : Option (List ℕ)) (m : Moment) (h : History) → At mode limits e l m → lines_of (h ++ Settle ∷ []) ≡ lines_of h → HeardLast mode limits nothing_beyond e l old old (Ok tt) m h
 last_none mode limits e l old m h at lines = record {
   last = [];
   lines = lines ∙ sym (append-nil (lines_of h));
@@ -31,7 +31,7 @@ at_end (Ok t) P at = at
 at_end (Err why) P at = tt
 
 -- one line was left, and was answered
-pub last_line : (mode : Mode) (limits : Limits) (e : Engine) (l old new : Option (List ℕ)) (r : Result Turn Halt) (m : Moment) (h : History) (text : List ℕ) (q : Option Ask)
+pub last_line : {K : Type 0} → (mode : Mode) (limits : Limits) (e : Engine K) (l old new : Option (List ℕ)) (r : Result Turn Halt) (m : Moment) (h : History) (text : List ℕ) (q : Option Ask)
     → q ≡ asked limits.question text → lines_of (h ++ Settle ∷ []) ≡ lines_of h ++ text ∷ [] → Talked mode limits nothing_beyond e l old new r m (q ∷ []) → HeardLast mode limits nothing_beyond e l old new (ended r) m h
 last_line mode limits e l old new r m h text q asks lines x = record {
   last = text ∷ [];
@@ -46,7 +46,7 @@ last_line mode limits e l old new r m h text q asks lines x = record {
 }
 
 -- the dialogue ended, or halted, within the questions
-pub end_heard : LinesStay → (mode : Mode) (limits : Limits) (beyond : Beyond) (c : Cutter) (e : Engine) (l old new : Option (List ℕ)) (r : Result Turn Halt) (m : Moment) (q : List ℕ)
+pub end_heard : {K : Type 0} → LinesStay → (mode : Mode) (limits : Limits) (beyond : Beyond) (c : Cutter) (e : Engine K) (l old new : Option (List ℕ)) (r : Result Turn Halt) (m : Moment) (q : List ℕ)
     → WhenMore r ⊥ → Heard mode limits beyond c e l old new r m [] q → EndTalked mode limits beyond e l old new (ended r) m (asks limits (lines_in q))
 end_heard stay mode limits beyond c e l old new r m q none x =
     let more = stay (with_bytes [] q) (Settle ∷ []) in
@@ -62,7 +62,7 @@ end_heard stay mode limits beyond c e l old new r m q none x =
     }
 
 -- all was heard, and then came the end
-pub end_both : (mode : Mode) (limits : Limits) (beyond : Beyond) (c : Cutter) (e e2 : Engine) (l l2 old mid new : Option (List ℕ)) (r : Result Unit Halt) (m : Moment) (q : List ℕ)
+pub end_both : {K : Type 0} → (mode : Mode) (limits : Limits) (beyond : Beyond) (c : Cutter) (e e2 : Engine K) (l l2 old mid new : Option (List ℕ)) (r : Result Unit Halt) (m : Moment) (q : List ℕ)
     → (first : Heard mode limits nothing_beyond c e l old mid (Ok turn.More) m [] q) → HeardLast mode limits nothing_beyond e2 l2 mid new r first.talked.to (with_bytes [] q) → EndTalked mode limits beyond e2 l2 old new r m (asks limits (lines_in q))
 end_both mode limits beyond c e e2 l l2 old mid new r m q first last =
     let lines : lines_in q ≡ first.answered ++ last.last = last.lines ∙ ap (λ (ls : List (List ℕ)). ls ++ last.last) (whole_lines mode limits nothing_beyond c e l old mid m [] q first) in
@@ -76,3 +76,20 @@ end_both mode limits beyond c e e2 l l2 old mid new r m q first last =
           (end_after limits beyond r m first.talked.to last.talked.to (asks limits first.answered) (asks limits last.last) first.talked.course.0 last.talked.bytes first.talked.course.2 last.talked.course));
       at = last.talked.at;
     }
+
+-- a run that halted before its first question, for another cause than a limit
+pub ended_early : {K : Type 0} → (mode : Mode) (limits : Limits) (beyond : Beyond) (e : Engine K) (l old : Option (List ℕ)) (why : Halt) (m : Moment) (questions : List (Option Ask)) → IsDue never why → EndTalked mode limits beyond e l old old (Err why) m questions
+ended_early mode limits beyond e l old why m questions due = record {
+  to = m;
+  bytes = [];
+  wrote = appends_none old;
+  course = other_halt limits beyond m questions [] why due (nothing_said limits m questions);
+  at = tt;
+}
+
+-- what was written into a buffer keeps its length
+pub kept_room : (len : ℕ) (new old : List ℕ) → length new ≡ 65536 → len ≡ 65536 → length (take len (new ++ drop (length new) old)) ≡ 65536
+kept_room len new old long whole =
+    let taken = length-take len (new ++ drop (length new) old) in
+    let both = length-append new (drop (length new) old) in
+    omega arith

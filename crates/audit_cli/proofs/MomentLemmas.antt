@@ -16,8 +16,7 @@ use Rattle.report_json.specs.declared.reply.Reply.TheVariants as reply
 use Rattle.ingest.specs.Events.{events_of}
 use Rattle.reach_model.specs.declared.modes.Mode.{Mode}
 use Rattle.ingest.specs.Parts.{Engine}
-use Rattle.ingest.specs.Replies.{IsReply}
-use Rattle.reach_rows.specs.declared.questions.Question.{Question}
+use Rattle.ingest.specs.Replies.{IsQuestion, IsReply}
 use Rattle.ingest.specs.StandsFor.{StandsFor}
 use Rattle.ingest.specs.Stops.{Stops, StopsBy}
 use Rattle.ingest.specs.declared.stop.StopWhy.{StopWhy}
@@ -95,7 +94,7 @@ pub left_none : (m : Moment) (n : ℕ) → (after (Some (ask.Take n)) m).log ≡
 left_none m n none = let short = ap length none in omega (arith, short, length-drop n m.log)
 
 -- a settle moves on, and leaves the log
-pub settled_at : (mode : Mode) (limits : Limits) (result : Result Reply Halt) (engine : Engine) (left : Option (List ℕ)) (m : Moment) → m.mode ≡ mode → OnOk result (StandsFor limits engine (m.history ++ Settle ∷ [])) → left ≡ Some m.log → OnOk result (At mode limits engine left (after (Some ask.Settle) m))
+pub settled_at : {K : Type 0} → (mode : Mode) (limits : Limits) (result : Result Reply Halt) (engine : Engine K) (left : Option (List ℕ)) (m : Moment) → m.mode ≡ mode → OnOk result (StandsFor limits engine (m.history ++ Settle ∷ [])) → left ≡ Some m.log → OnOk result (At mode limits engine left (after (Some ask.Settle) m))
 settled_at mode limits (Ok r) engine left m same stands told = record { in_mode = same; stands = stands; told = told }
 settled_at mode limits (Err e) engine left m same stands told = tt
 
@@ -108,16 +107,33 @@ pub memory_due : (result : Result Reply Halt) (passes : Full → Type 0) → IfE
 memory_due (Ok r) passes none = tt
 memory_due (Err e) passes none = rw none tt
 
--- the engine's replies are those of the moment's mode
-pub question_reply : (mode : Mode) (limits : Limits) (result : Result Reply Halt) (engine : Engine) (left : Option (List ℕ)) (m : Moment) (question : Question)
-    → IfOk result (λ r. (limits : Limits) (h : History) → StandsFor limits engine h → IsReply mode limits h (ask.Question question) r) → At mode limits engine left m → IfOk result (Answers limits (Some (ask.Question question)) m)
-question_reply mode limits (Ok r) engine left m question replies at = subst (λ (x : Mode). IsReply x limits m.history (ask.Question question) r) (sym at.in_mode) (replies limits m.history at.stands)
-question_reply mode limits (Err e) engine left m question replies at = tt
+-- a question to the engine leaves the moment
+pub still : (asked : Ask) (m : Moment) → IsQuestion asked → after (Some asked) m ≡ m
+still (ask.Take n) m asks = absurd asks
+still ask.Settle m asks = absurd asks
+still (ask.Question question) m asks = refl
+still (ask.Why from to until) m asks = refl
+still (ask.Find text) m asks = refl
+still (ask.Show id) m asks = refl
+still ask.Stat m asks = refl
+still ask.End m asks = absurd asks
 
-pub stat_reply : (mode : Mode) (limits : Limits) (result : Result Reply Halt) (engine : Engine) (left : Option (List ℕ)) (m : Moment)
-    → IfOk result (λ r. (limits : Limits) (h : History) → StandsFor limits engine h → IsReply mode limits h ask.Stat r) → At mode limits engine left m → IfOk result (Answers limits (Some ask.Stat) m)
-stat_reply mode limits (Ok r) engine left m replies at = subst (λ (x : Mode). IsReply x limits m.history ask.Stat r) (sym at.in_mode) (replies limits m.history at.stands)
-stat_reply mode limits (Err e) engine left m replies at = tt
+answered : (limits : Limits) (asked : Ask) (m : Moment) (r : Reply) → IsQuestion asked → IsReply m.mode limits m.history asked r → Answers limits (Some asked) m r
+answered limits (ask.Take n) m r asks a = absurd asks
+answered limits ask.Settle m r asks a = absurd asks
+answered limits (ask.Question question) m r asks a = a
+answered limits (ask.Why from to until) m r asks a = a
+answered limits (ask.Find text) m r asks a = a
+answered limits (ask.Show id) m r asks a = a
+answered limits ask.Stat m r asks a = a
+answered limits ask.End m r asks a = absurd asks
+
+-- the engine's replies are those of the moment's mode
+pub engine_reply : {K : Type 0} → (mode : Mode) (limits : Limits) (result : Result Reply Halt) (engine : Engine K) (left : Option (List ℕ)) (m : Moment) (asked : Ask) → IsQuestion asked
+    → IfOk result (λ r. (limits : Limits) (h : History) → StandsFor limits engine h → IsReply mode limits h asked r) → At mode limits engine left m → IfOk result (Answers limits (Some asked) m)
+engine_reply mode limits (Ok r) engine left m asked asks replies at =
+    answered limits asked m r asks (subst (λ (x : Mode). IsReply x limits m.history asked r) (sym at.in_mode) (replies limits m.history at.stands))
+engine_reply mode limits (Err e) engine left m asked asks replies at = tt
 
 take-take : (n count : ℕ) (xs : List ℕ) → n ≤ count → take n (take count xs) ≡ take n xs
 take-take zero count xs short = refl

@@ -139,6 +139,9 @@ one_turn limits beyond None m r a = (r ∷ [], sym (append-nil (text_of r)), λ 
 one_turn limits beyond (Some (ask.Take n)) m r a = (r ∷ [], sym (append-nil (text_of r)), λ questions replies end talk. (a, talk))
 one_turn limits beyond (Some ask.Settle) m r a = (r ∷ [], sym (append-nil (text_of r)), λ questions replies end talk. (a, talk))
 one_turn limits beyond (Some (ask.Question q)) m r a = (r ∷ [], sym (append-nil (text_of r)), λ questions replies end talk. (a, talk))
+one_turn limits beyond (Some (ask.Why from to until)) m r a = (r ∷ [], sym (append-nil (text_of r)), λ questions replies end talk. (a, talk))
+one_turn limits beyond (Some (ask.Find text)) m r a = (r ∷ [], sym (append-nil (text_of r)), λ questions replies end talk. (a, talk))
+one_turn limits beyond (Some (ask.Show id)) m r a = (r ∷ [], sym (append-nil (text_of r)), λ questions replies end talk. (a, talk))
 one_turn limits beyond (Some ask.Stat) m r a = (r ∷ [], sym (append-nil (text_of r)), λ questions replies end talk. (a, talk))
 one_turn limits beyond (Some ask.End) m r a = (r ∷ [], sym (append-nil (text_of r)), λ questions. (a, (refl, refl)))
 

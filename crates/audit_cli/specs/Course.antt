@@ -46,7 +46,7 @@ halt_for why.NoMemory = halt.NoMemory
 halt_for (why.Full full) = halt.Full full
 
 -- the engine of a mode and the log, which tells its bytes, are at this moment
-pub record At (mode : Mode) (limits : Limits) (engine : Engine) (left : Option (List ℕ)) (m : Moment) : Type 0 where
+pub record At {K : Type 0} (mode : Mode) (limits : Limits) (engine : Engine K) (left : Option (List ℕ)) (m : Moment) : Type 0 where
   pub in_mode : m.mode ≡ mode
   pub stands : StandsFor limits engine m.history
   pub told : left ≡ Some m.log
@@ -79,7 +79,7 @@ Course limits beyond (Ok turn.Ended) from questions bytes to = (said : List Repl
 Course limits beyond (Err why) from questions bytes to = Halted limits beyond from questions bytes why
 
 -- a part of a run from one moment on
-pub record Talked (mode : Mode) (limits : Limits) (beyond : Beyond) (engine : Engine) (left old new : Option (List ℕ)) (result : Result Turn Halt) (from : Moment) (questions : List (Option Ask)) : Type 0 where
+pub record Talked {K : Type 0} (mode : Mode) (limits : Limits) (beyond : Beyond) (engine : Engine K) (left old new : Option (List ℕ)) (result : Result Turn Halt) (from : Moment) (questions : List (Option Ask)) : Type 0 where
   pub to : Moment
   pub bytes : List ℕ
   pub wrote : Appends old new bytes
@@ -92,7 +92,7 @@ EndCourse limits beyond (Ok done) from questions bytes to = (said : List Reply) 
 EndCourse limits beyond (Err why) from questions bytes to = Halted limits beyond from questions bytes why
 
 -- a run from one moment to its end
-pub record EndTalked (mode : Mode) (limits : Limits) (beyond : Beyond) (engine : Engine) (left old new : Option (List ℕ)) (result : Result Unit Halt) (from : Moment) (questions : List (Option Ask)) : Type 0 where
+pub record EndTalked {K : Type 0} (mode : Mode) (limits : Limits) (beyond : Beyond) (engine : Engine K) (left old new : Option (List ℕ)) (result : Result Unit Halt) (from : Moment) (questions : List (Option Ask)) : Type 0 where
   pub to : Moment
   pub bytes : List ℕ
   pub wrote : Appends old new bytes

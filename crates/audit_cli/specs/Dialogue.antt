@@ -27,23 +27,20 @@ pub record Moment : Type 0 where
 abbrev pub begin : Mode → List ℕ → Moment
 begin mode log = record { mode = mode; history = []; log = log }
 
--- the moment after a question. No question changes the mode, and a line that asks nothing changes nothing
+-- the moment after a question. Only `take` and `settle` change it, and no question changes the mode
 abbrev pub after : Option Ask → Moment → Moment
 after None m = m
 after (Some (ask.Take count)) m = record m { history = with_bytes m.history (take count m.log); log = drop count m.log }
 after (Some ask.Settle) m = record m { history = m.history ++ Settle ∷ [] }
-after (Some (ask.Question question)) m = m
-after (Some ask.Stat) m = m
-after (Some ask.End) m = m
+after (Some _) m = m
 
 -- the reply answers the question at this moment, as the mode of the run does
 abbrev pub Answers : Limits → Option Ask → Moment → Reply → Type 0
 Answers limits None m r = r ≡ reply.BadQuestion
 Answers limits (Some (ask.Take count)) m r = r ≡ reply.Take (length (take count m.log))
 Answers limits (Some ask.Settle) m r = r ≡ reply.Settle (length (events_of limits (m.history ++ Settle ∷ [])))
-Answers limits (Some (ask.Question question)) m r = IsReply m.mode limits m.history (ask.Question question) r
-Answers limits (Some ask.Stat) m r = IsReply m.mode limits m.history ask.Stat r
 Answers limits (Some ask.End) m r = r ≡ reply.End
+Answers limits (Some asked) m r = IsReply m.mode limits m.history asked r
 
 -- `end` ends the dialogue
 abbrev pub turn_of : Option Ask → Turn

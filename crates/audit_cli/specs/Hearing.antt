@@ -23,7 +23,7 @@ WhenMore (Ok turn.Ended) claim = ⊤
 WhenMore (Err why) claim = ⊤
 
 -- of the lines that end in a piece some were answered, and all where the dialogue goes on
-pub record Heard (mode : Mode) (limits : Limits) (beyond : Beyond) (cut : Cutter) (engine : Engine) (left old new : Option (List ℕ)) (result : Result Turn Halt) (from : Moment) (history : History) (piece : List ℕ) : Type 0 where
+pub record Heard {K : Type 0} (mode : Mode) (limits : Limits) (beyond : Beyond) (cut : Cutter) (engine : Engine K) (left old new : Option (List ℕ)) (result : Result Turn Halt) (from : Moment) (history : History) (piece : List ℕ) : Type 0 where
   pub answered : List (List ℕ)
   pub unheard : List (List ℕ)
   pub lines : lines_of (with_bytes history piece) ≡ lines_of history ++ (answered ++ unheard)
@@ -32,7 +32,7 @@ pub record Heard (mode : Mode) (limits : Limits) (beyond : Beyond) (cut : Cutter
   pub whole : WhenMore result (unheard ≡ [])
 
 -- the last line was answered, where the end of the questions ends one
-pub record HeardLast (mode : Mode) (limits : Limits) (beyond : Beyond) (engine : Engine) (left old new : Option (List ℕ)) (result : Result Unit Halt) (from : Moment) (history : History) : Type 0 where
+pub record HeardLast {K : Type 0} (mode : Mode) (limits : Limits) (beyond : Beyond) (engine : Engine K) (left old new : Option (List ℕ)) (result : Result Unit Halt) (from : Moment) (history : History) : Type 0 where
   pub last : List (List ℕ)
   pub lines : lines_of (history ++ Settle ∷ []) ≡ lines_of history ++ last
   pub talked : EndTalked mode limits beyond engine left old new result from (asks limits last)

@@ -25,7 +25,7 @@ LastCourse limits (Err (halt.Full full)) from questions bytes to =
 LastCourse limits (Err _) from questions bytes to = (bytes ≡ []) ⊎ IsLastFront limits from questions bytes
 
 -- a run of which the last reply alone is written
-pub record LastTalked (mode : Mode) (limits : Limits) (engine : Engine) (left old new : Option (List ℕ)) (result : Result Unit Halt) (from : Moment) (questions : List (Option Ask)) : Type 0 where
+pub record LastTalked {K : Type 0} (mode : Mode) (limits : Limits) (engine : Engine K) (left old new : Option (List ℕ)) (result : Result Unit Halt) (from : Moment) (questions : List (Option Ask)) : Type 0 where
   pub to : Moment
   pub bytes : List ℕ
   pub wrote : Appends old new bytes

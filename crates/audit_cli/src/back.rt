@@ -8,37 +8,40 @@ ghost use Rattle.audit_cli.specs.Headline.{back_questions};
 ghost use Rattle.audit_cli.specs.Jobs.{LastTalked};
 
 use crate::halt::Halt;
+use crate::session::Session;
 use crate::turn::{answer, say};
 use flow_base::EntityId;
-use ingest::{Ingest, stops_stay};
+use ingest::stops_stay;
 use outside::{Sink, Source};
-use reach_rows::{Question, Reducer, VecRows};
+use reach_rows::{Question, Reducer};
 use report_json::Ask;
-use std::alloc::Global;
 
 /// Takes the log to its end, settles, asks, and writes the last reply alone.
 pub fn back<R: Reducer, L: Source, O: Sink>(
-    alloc: Global,
-    engine: &mut Ingest<R, VecRows>,
+    session: &mut Session<R>,
     log: &mut L,
     out: &mut O,
     of: EntityId,
 ) -> Result<(), Halt>
-    ensures talked { (limits : Limits) (bytes : List ℕ) → limits.input < 2 ^ 64 - 1 → At R.mode limits engine.old (L.left log.old) (begin R.mode bytes)
-        → LastTalked R.mode limits engine.new (L.left log.new) (O.written out.old) (O.written out.new) result (begin R.mode bytes) (back_questions of.0 bytes) }
-    ensures whole { (limits : Limits) (bytes : List ℕ) → limits.input < 2 ^ 64 - 1 → At R.mode limits engine.old (L.left log.old) (begin R.mode bytes)
+    ensures talked { (limits : Limits) (bytes : List ℕ) → limits.input < 2 ^ 64 - 1
+        → At R.mode limits session.old.engine (L.left log.old) (begin R.mode bytes)
+        → LastTalked R.mode limits session.new.engine (L.left log.new)
+        (O.written out.old) (O.written out.new) result (begin R.mode bytes) (back_questions of.0 bytes) }
+    ensures whole { (limits : Limits) (bytes : List ℕ) → limits.input < 2 ^ 64 - 1
+        → At R.mode limits session.old.engine (L.left log.old) (begin R.mode bytes)
         → OnOk result (L.left log.new ≡ Some []) }
-    ensures causes { IfErr result (HasCauses (Rose (L.faults log.old) (L.faults log.new) (L.spent log.new))
+    ensures causes { IfErr result (HasCauses
+        (Rose (L.faults log.old) (L.faults log.new) (L.spent log.new))
         (Rose (O.faults out.old) (O.faults out.new) (O.spent out.new))) }
 {
     stops_stay();
-    let _taken = answer(engine, log, Some(Ask::Take(u64::MAX)))?;
-    let _settled = answer(engine, log, Some(Ask::Settle))?;
+    let _taken = answer(session, log, &Some(Ask::Take(u64::MAX)))?;
+    let _settled = answer(session, log, &Some(Ask::Settle))?;
     let reply = answer(
-        engine,
+        session,
         log,
-        Some(Ask::Question(Question::Back { of, until: None })),
+        &Some(Ask::Question(Question::Back { of, until: None })),
     )?;
-    say(alloc, out, &reply)?;
+    say(session.alloc, out, &reply)?;
     Ok(())
 }

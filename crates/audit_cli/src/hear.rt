@@ -8,19 +8,17 @@ ghost use Rattle.audit_cli.specs.Course.{At, GoesUp, HasCauses};
 ghost use Rattle.audit_cli.specs.Hearing.{Holds, Heard, turn_in, taken_in};
 
 use crate::halt::{Halt, Turn};
+use crate::session::Session;
 use crate::turn::{question_in, take_turn};
 use audit_lex::{LineCut, lines_stay};
-use ingest::Ingest;
 use outside::{Sink, Source};
-use reach_rows::{Reducer, VecRows};
-use std::alloc::Global;
+use reach_rows::Reducer;
 
 // Takes bytes of the piece up to and with a line feed, and answers the line that they end. It says how many bytes it
 // took.
 fn hear_line<R: Reducer, L: Source, O: Sink>(
-    alloc: Global,
+    session: &mut Session<R>,
     cut: &mut LineCut,
-    engine: &mut Ingest<R, VecRows>,
     log: &mut L,
     out: &mut O,
     piece: &[u8],
@@ -29,9 +27,12 @@ fn hear_line<R: Reducer, L: Source, O: Sink>(
     ensures taken { IfOk result (λ given. given.0 ≤ length piece.now) }
     ensures some { IfOk result (λ given. 0 < length piece.now → 0 < given.0) }
     ensures lines { IfOk result (λ given. cut.new.lines ≤ cut.old.lines + given.0) }
-    ensures heard { (limits : Limits) (m : Moment) (h : History) → At R.mode limits engine.old (L.left log.old) m → Holds limits cut.old h
-        → Heard R.mode limits nothing_beyond cut.new engine.new (L.left log.new) (O.written out.old) (O.written out.new) (turn_in result) m h (taken_in result piece.now) }
-    ensures causes { IfErr result (HasCauses (Rose (L.faults log.old) (L.faults log.new) (L.spent log.new))
+    ensures heard { (limits : Limits) (m : Moment) (h : History)
+        → At R.mode limits session.old.engine (L.left log.old) m → Holds limits cut.old h
+        → Heard R.mode limits nothing_beyond cut.new session.new.engine (L.left log.new)
+        (O.written out.old) (O.written out.new) (turn_in result) m h (taken_in result piece.now) }
+    ensures causes { IfErr result (HasCauses
+        (Rose (L.faults log.old) (L.faults log.new) (L.spent log.new))
         (Rose (O.faults out.old) (O.faults out.new) (O.spent out.new))) }
     ensures log { GoesUp (L.faults log.old) (L.faults log.new) (L.spent log.old) (L.spent log.new) }
     ensures out { GoesUp (O.faults out.old) (O.faults out.new) (O.spent out.old) (O.spent out.new) }
@@ -41,7 +42,7 @@ fn hear_line<R: Reducer, L: Source, O: Sink>(
     match line {
         None => Ok((count, Turn::More)),
         Some(line) => {
-            let turn = take_turn(alloc, engine, log, out, question_in(&line))?;
+            let turn = take_turn(session, log, out, &question_in(&line))?;
             Ok((count, turn))
         }
     }
@@ -49,18 +50,20 @@ fn hear_line<R: Reducer, L: Source, O: Sink>(
 
 /// Answers the lines that end in this piece, up to the end of the dialogue.
 pub fn hear<R: Reducer, L: Source, O: Sink>(
-    alloc: Global,
+    session: &mut Session<R>,
     cut: &mut LineCut,
-    engine: &mut Ingest<R, VecRows>,
     log: &mut L,
     out: &mut O,
     piece: &[u8],
 ) -> Result<Turn, Halt>
     requires { cut.old.lines + length piece.now < 2 ^ 61 }
     ensures lines { OnOk result (cut.new.lines ≤ cut.old.lines + length piece.now) }
-    ensures heard { (limits : Limits) (m : Moment) (h : History) → At R.mode limits engine.old (L.left log.old) m → Holds limits cut.old h
-        → Heard R.mode limits nothing_beyond cut.new engine.new (L.left log.new) (O.written out.old) (O.written out.new) result m h piece.now }
-    ensures causes { IfErr result (HasCauses (Rose (L.faults log.old) (L.faults log.new) (L.spent log.new))
+    ensures heard { (limits : Limits) (m : Moment) (h : History)
+        → At R.mode limits session.old.engine (L.left log.old) m → Holds limits cut.old h
+        → Heard R.mode limits nothing_beyond cut.new session.new.engine (L.left log.new)
+        (O.written out.old) (O.written out.new) result m h piece.now }
+    ensures causes { IfErr result (HasCauses
+        (Rose (L.faults log.old) (L.faults log.new) (L.spent log.new))
         (Rose (O.faults out.old) (O.faults out.new) (O.spent out.new))) }
     ensures log { GoesUp (L.faults log.old) (L.faults log.new) (L.spent log.old) (L.spent log.new) }
     ensures out { GoesUp (O.faults out.old) (O.faults out.new) (O.spent out.old) (O.spent out.new) }
@@ -68,7 +71,7 @@ pub fn hear<R: Reducer, L: Source, O: Sink>(
     lines_stay();
     let mut at = 0;
     while at < piece.len() {
-        let (count, turn) = hear_line(alloc, cut, engine, log, out, &piece[at..])?;
+        let (count, turn) = hear_line(session, cut, log, out, &piece[at..])?;
         match turn {
             Turn::Ended => return Ok(Turn::Ended),
             Turn::More => at += count,

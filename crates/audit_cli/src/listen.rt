@@ -2,7 +2,7 @@
 //!
 //! The questions are read in pieces, and each line of a piece is answered before the next read. Their bytes are counted
 //! apart from those of the log, and at most as many are heard as the limit on input says.
-ghost use Rattle.std.specs.Prelude.{◌≡◌, ◌⊎◌, ◌≤◌, ◌<◌, ◌-◌, ◌^◌, ℕ, List, Some, OnOk, IfOk, IfErr};
+ghost use Rattle.std.specs.Prelude.{◌≡◌, ◌⊎◌, ◌≤◌, ◌<◌, ◌-◌, ◌^◌, ℕ, List, length, Some, OnOk, IfOk, IfErr};
 ghost use Rattle.flow_base.specs.declared.limits.Limits.{Limits};
 ghost use Rattle.outside.specs.Cause.{Rose};
 ghost use Rattle.audit_lex.specs.History.{History};
@@ -13,47 +13,53 @@ ghost use Rattle.audit_cli.specs.Listening.{turn_heeded, heeded, LeftAfter, IsPr
 
 use crate::halt::{Halt, Heed, Turn};
 use crate::hear::hear;
+use crate::session::{Session, room_for_a_read};
 use crate::turn::{question_in, take_turn};
 use audit_lex::{LineCut, lines_stay};
 use flow_base::{Full, Limit, Limits};
-use ingest::Ingest;
 use outside::{Sink, Source};
-use reach_rows::{Reducer, VecRows};
-use std::alloc::Global;
+use reach_rows::Reducer;
 
-/// The most bytes of one read.
-const PIECE: usize = 65_536;
-
-// Reads the questions once, and answers what it can. Of `heard` bytes that were read before and of these at most
-// `limits.input` are heard.
+// Reads the questions once into the buffer, and answers what it can. Of `heard` bytes that were read before and of these at
+// most `limits.input` are heard.
 fn listen<R: Reducer, L: Source, Q: Source, O: Sink>(
-    alloc: Global,
+    session: &mut Session<R>,
     limits: &Limits,
     heard: u64,
     cut: &mut LineCut,
-    engine: &mut Ingest<R, VecRows>,
+    buf: &mut [u8],
     log: &mut L,
     questions: &mut Q,
     out: &mut O,
 ) -> Result<Heed, Halt>
     requires lines { cut.old.lines ≤ heard }
     requires heard { heard ≤ limits.now.input }
-    ensures heard { (m : Moment) (h : History) (q : List ℕ) → At R.mode limits.now engine.old (L.left log.old) m → Holds limits.now cut.old h → Q.left questions.old ≡ Some q
-        → Heard R.mode limits.now (PassesRoom limits.now (limits.now.input - heard) h q) cut.new engine.new (L.left log.new) (O.written out.old) (O.written out.new) (turn_heeded result) m h (heeded result q) }
-    ensures closes { (m : Moment) (h : History) (q : List ℕ) → At R.mode limits.now engine.old (L.left log.old) m → Holds limits.now cut.old h → Q.left questions.old ≡ Some q
+    requires room { length buf.old ≡ 65536 }
+    ensures heard { (m : Moment) (h : History) (q : List ℕ)
+        → At R.mode limits.now session.old.engine (L.left log.old) m → Holds limits.now cut.old h
+        → Q.left questions.old ≡ Some q
+        → Heard R.mode limits.now (PassesRoom limits.now (limits.now.input - heard) h q) cut.new
+        session.new.engine (L.left log.new) (O.written out.old) (O.written out.new)
+        (turn_heeded result) m h (heeded result q) }
+    ensures closes { (m : Moment) (h : History) (q : List ℕ)
+        → At R.mode limits.now session.old.engine (L.left log.old) m → Holds limits.now cut.old h
+        → Q.left questions.old ≡ Some q
         → IfOk result (ClosesWithin limits.now (limits.now.input - heard) m h q) }
-    ensures left { (q : List ℕ) → Q.left questions.old ≡ Some q → IfOk result (LeftAfter q (Q.left questions.new)) }
+    ensures left { (q : List ℕ) → Q.left questions.old ≡ Some q
+        → IfOk result (LeftAfter q (Q.left questions.new)) }
     ensures progress { IfOk result (IsProgress (limits.now.input - heard)) }
     ensures lines { IfOk result (AreFew cut.new.lines heard) }
-    ensures causes { IfErr result (HasCauses (Rose (L.faults log.old) (L.faults log.new) (L.spent log.new) ⊎ Rose (Q.faults questions.old) (Q.faults questions.new) (Q.spent questions.new))
+    ensures causes { IfErr result (HasCauses
+        (Rose (L.faults log.old) (L.faults log.new) (L.spent log.new)
+        ⊎ Rose (Q.faults questions.old) (Q.faults questions.new) (Q.spent questions.new))
         (Rose (O.faults out.old) (O.faults out.new) (O.spent out.new))) }
     ensures log { GoesUp (L.faults log.old) (L.faults log.new) (L.spent log.old) (L.spent log.new) }
-    ensures questions { GoesUp (Q.faults questions.old) (Q.faults questions.new) (Q.spent questions.old) (Q.spent questions.new) }
+    ensures questions { GoesUp
+        (Q.faults questions.old) (Q.faults questions.new) (Q.spent questions.old) (Q.spent questions.new) }
     ensures out { GoesUp (O.faults out.old) (O.faults out.new) (O.spent out.old) (O.spent out.new) }
 {
     lines_stay();
-    let mut buf = [0u8; PIECE];
-    let count = match questions.read(&mut buf) {
+    let count = match questions.read(buf) {
         Ok(count) => count,
         Err(_) => return Err(Halt::ReadFault),
     };
@@ -62,7 +68,7 @@ fn listen<R: Reducer, L: Source, Q: Source, O: Sink>(
     }
     let room = limits.input - heard;
     let allowed = (count as u64).min(room) as usize;
-    match hear(alloc, cut, engine, log, out, &buf[..allowed])? {
+    match hear(session, cut, log, out, &buf[..allowed])? {
         Turn::Ended => Ok(Heed::Ended),
         Turn::More => {
             if allowed < count {
@@ -78,16 +84,18 @@ fn listen<R: Reducer, L: Source, Q: Source, O: Sink>(
 
 // Answers a last question without a line feed.
 fn finish<R: Reducer, L: Source, O: Sink>(
-    alloc: Global,
+    session: &mut Session<R>,
     cut: &mut LineCut,
-    engine: &mut Ingest<R, VecRows>,
     log: &mut L,
     out: &mut O,
 ) -> Result<(), Halt>
     requires { cut.old.lines < 2 ^ 61 }
-    ensures heard { (limits : Limits) (m : Moment) (h : History) → At R.mode limits engine.old (L.left log.old) m → Holds limits cut.old h
-        → HeardLast R.mode limits nothing_beyond engine.new (L.left log.new) (O.written out.old) (O.written out.new) result m h }
-    ensures causes { IfErr result (HasCauses (Rose (L.faults log.old) (L.faults log.new) (L.spent log.new))
+    ensures heard { (limits : Limits) (m : Moment) (h : History)
+        → At R.mode limits session.old.engine (L.left log.old) m → Holds limits cut.old h
+        → HeardLast R.mode limits nothing_beyond session.new.engine (L.left log.new)
+        (O.written out.old) (O.written out.new) result m h }
+    ensures causes { IfErr result (HasCauses
+        (Rose (L.faults log.old) (L.faults log.new) (L.spent log.new))
         (Rose (O.faults out.old) (O.faults out.new) (O.spent out.new))) }
     ensures log { GoesUp (L.faults log.old) (L.faults log.new) (L.spent log.old) (L.spent log.new) }
     ensures out { GoesUp (O.faults out.old) (O.faults out.new) (O.spent out.old) (O.spent out.new) }
@@ -95,7 +103,7 @@ fn finish<R: Reducer, L: Source, O: Sink>(
     match cut.finish() {
         None => Ok(()),
         Some(line) => {
-            let _turn = take_turn(alloc, engine, log, out, question_in(&line))?;
+            let _turn = take_turn(session, log, out, &question_in(&line))?;
             Ok(())
         }
     }
@@ -103,30 +111,45 @@ fn finish<R: Reducer, L: Source, O: Sink>(
 
 /// Answers the questions in order, up to `end` or to their end.
 pub fn watch<R: Reducer, L: Source, Q: Source, O: Sink>(
-    alloc: Global,
+    session: &mut Session<R>,
     limits: &Limits,
-    engine: &mut Ingest<R, VecRows>,
     log: &mut L,
     questions: &mut Q,
     out: &mut O,
 ) -> Result<(), Halt>
-    ensures talked { (m : Moment) (q : List ℕ) → At R.mode limits.now engine.old (L.left log.old) m → Q.left questions.old ≡ Some q
-        → EndTalked R.mode limits.now (QuestionsStop limits.now q) engine.new (L.left log.new) (O.written out.old) (O.written out.new) result m (asks limits.now (lines_in q)) }
-    ensures within { (m : Moment) (q : List ℕ) → At R.mode limits.now engine.old (L.left log.old) m → Q.left questions.old ≡ Some q
+    ensures talked { (m : Moment) (q : List ℕ)
+        → At R.mode limits.now session.old.engine (L.left log.old) m → Q.left questions.old ≡ Some q
+        → EndTalked R.mode limits.now (QuestionsStop limits.now q) session.new.engine (L.left log.new)
+        (O.written out.old) (O.written out.new) result m (asks limits.now (lines_in q)) }
+    ensures within { (m : Moment) (q : List ℕ)
+        → At R.mode limits.now session.old.engine (L.left log.old) m → Q.left questions.old ≡ Some q
         → OnOk result (KeepsWithin limits.now m q) }
-    ensures left { (m : Moment) (q : List ℕ) → At R.mode limits.now engine.old (L.left log.old) m → Q.left questions.old ≡ Some q
+    ensures left { (m : Moment) (q : List ℕ)
+        → At R.mode limits.now session.old.engine (L.left log.old) m → Q.left questions.old ≡ Some q
         → OnOk result (ReadsNoFurther limits.now m q (Q.left questions.new)) }
-    ensures causes { IfErr result (HasCauses (Rose (L.faults log.old) (L.faults log.new) (L.spent log.new) ⊎ Rose (Q.faults questions.old) (Q.faults questions.new) (Q.spent questions.new))
+    ensures causes { IfErr result (HasCauses
+        (Rose (L.faults log.old) (L.faults log.new) (L.spent log.new)
+        ⊎ Rose (Q.faults questions.old) (Q.faults questions.new) (Q.spent questions.new))
         (Rose (O.faults out.old) (O.faults out.new) (O.spent out.new))) }
 {
     lines_stay();
-    let mut cut = LineCut::new(alloc, limits.question);
+    let mut cut = LineCut::new(session.alloc, limits.question);
     let mut heard: u64 = 0;
+    let mut buf = room_for_a_read(session.alloc)?;
     loop {
-        match listen(alloc, limits, heard, &mut cut, engine, log, questions, out)? {
+        match listen(
+            session,
+            limits,
+            heard,
+            &mut cut,
+            buf.as_mut_slice(),
+            log,
+            questions,
+            out,
+        )? {
             Heed::Piece(count) => heard += count as u64,
             Heed::Ended => return Ok(()),
-            Heed::Silence => return finish(alloc, &mut cut, engine, log, out),
+            Heed::Silence => return finish(session, &mut cut, log, out),
         }
     }
 }

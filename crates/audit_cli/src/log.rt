@@ -12,9 +12,6 @@ use ingest::{Ingest, stops_stay};
 use outside::Source;
 use reach_rows::{Reducer, VecRows};
 
-/// The most bytes of one read.
-const PIECE: u64 = 65_536;
-
 // Takes the next bytes of the log, at most as many as the buffer holds. It takes none only at the end.
 fn take_piece<R: Reducer, L: Source>(
     engine: &mut Ingest<R, VecRows>,
@@ -23,13 +20,14 @@ fn take_piece<R: Reducer, L: Source>(
 ) -> Result<usize, Halt>
     requires { 0 < length buf.old }
     ensures within { IfOk result (λ n. n ≤ length buf.old) }
-    ensures took { (limits : Limits) (m : Moment) → At R.mode limits engine.old (L.left log.old) m
-        → IfOk result (λ n. At R.mode limits engine.new (L.left log.new) (after (Some (ask.Take n)) m)) }
+    ensures took { (limits : Limits) (m : Moment) → At R.mode limits engine.old (L.left log.old) m → IfOk result
+        (λ n. At R.mode limits engine.new (L.left log.new) (after (Some (ask.Take n)) m)) }
     ensures some { (limits : Limits) (m : Moment) → At R.mode limits engine.old (L.left log.old) m
         → IfOk result (λ n. IsPart n m.log) }
     ensures due { (limits : Limits) (m : Moment) → At R.mode limits engine.old (L.left log.old) m
         → IfErr result (IsDue (Stops limits (after (Some (ask.Take (length buf.old))) m).history)) }
-    ensures causes { IfErr result (HasCauses (Rose (L.faults log.old) (L.faults log.new) (L.spent log.new)) ⊥) }
+    ensures causes { IfErr result
+        (HasCauses (Rose (L.faults log.old) (L.faults log.new) (L.spent log.new)) ⊥) }
     ensures counts { GoesUp (L.faults log.old) (L.faults log.new) (L.spent log.old) (L.spent log.new) }
 {
     stops_stay();
@@ -43,26 +41,28 @@ fn take_piece<R: Reducer, L: Source>(
     }
 }
 
-/// Takes the next `most` bytes of the log, or what is left, and says how many they were.
+/// Takes the next `most` bytes of the log, or what is left, and says how many they were. Each read fills at most the buffer.
 pub fn take_log<R: Reducer, L: Source>(
     engine: &mut Ingest<R, VecRows>,
     log: &mut L,
+    buf: &mut [u8],
     most: u64,
 ) -> Result<u64, Halt>
-    ensures took { (limits : Limits) (m : Moment) → At R.mode limits engine.old (L.left log.old) m
-        → IfOk result (λ _. At R.mode limits engine.new (L.left log.new) (after (Some (ask.Take most)) m)) }
+    requires { 0 < length buf.old }
+    ensures took { (limits : Limits) (m : Moment) → At R.mode limits engine.old (L.left log.old) m → IfOk result
+        (λ _. At R.mode limits engine.new (L.left log.new) (after (Some (ask.Take most)) m)) }
     ensures count { (limits : Limits) (m : Moment) → At R.mode limits engine.old (L.left log.old) m
         → IfOk result (λ n. n ≡ length (take most m.log)) }
     ensures due { (limits : Limits) (m : Moment) → At R.mode limits engine.old (L.left log.old) m
         → IfErr result (IsDue (Stops limits (after (Some (ask.Take most)) m).history)) }
-    ensures causes { IfErr result (HasCauses (Rose (L.faults log.old) (L.faults log.new) (L.spent log.new)) ⊥) }
+    ensures causes { IfErr result
+        (HasCauses (Rose (L.faults log.old) (L.faults log.new) (L.spent log.new)) ⊥) }
     ensures counts { GoesUp (L.faults log.old) (L.faults log.new) (L.spent log.old) (L.spent log.new) }
 {
     stops_stay();
-    let mut buf = [0u8; PIECE as usize];
     let mut count: u64 = 0;
     while count < most {
-        let room = (most - count).min(PIECE) as usize;
+        let room = (most - count).min(buf.len() as u64) as usize;
         let taken = take_piece(engine, log, &mut buf[..room])?;
         if taken == 0 {
             return Ok(count);

@@ -14,6 +14,7 @@ mod hear;
 mod listen;
 mod log;
 mod run;
+mod session;
 mod status;
 #[cfg(test)]
 mod tests;

@@ -13,6 +13,7 @@ ghost use Rattle.audit_cli.specs.Statuses.{StatusCause};
 use crate::back::back;
 use crate::halt::Halt;
 use crate::listen::watch;
+use crate::session::{Session, room_for_a_read};
 use crate::status::{Status, status_of};
 use crate::words::{Job, WordsFault, read_words};
 use flow_base::{EntityId, Limits};
@@ -33,14 +34,21 @@ fn run<L: Source, Q: Source, O: Sink>(
     questions: &mut Q,
     out: &mut O,
 ) -> Result<(), Halt>
-    ensures talked { (bytes asked : List ℕ) → L.left log.old ≡ Some bytes → Tells job.now (Q.left questions.old) asked
-        → JobTalked limits.now job.now bytes asked (L.left log.new) (O.written out.old) (O.written out.new) result }
-    ensures within { (bytes asked : List ℕ) → L.left log.old ≡ Some bytes → Tells job.now (Q.left questions.old) asked
+    ensures talked { (bytes asked : List ℕ) → L.left log.old ≡ Some bytes
+        → Tells job.now (Q.left questions.old) asked
+        → JobTalked limits.now job.now bytes asked (L.left log.new)
+        (O.written out.old) (O.written out.new) result }
+    ensures within { (bytes asked : List ℕ) → L.left log.old ≡ Some bytes
+        → Tells job.now (Q.left questions.old) asked
         → OnOk result (KeepsLimit limits.now job.now bytes asked) }
-    ensures left { (bytes asked : List ℕ) → L.left log.old ≡ Some bytes → Tells job.now (Q.left questions.old) asked
+    ensures left { (bytes asked : List ℕ) → L.left log.old ≡ Some bytes
+        → Tells job.now (Q.left questions.old) asked
         → OnOk result (LeavesQuestions limits.now job.now bytes asked (Q.left questions.new)) }
-    ensures whole { (of : ℕ) (bytes : List ℕ) → job.now ≡ Job.Back of → L.left log.old ≡ Some bytes → OnOk result (L.left log.new ≡ Some []) }
-    ensures causes { IfErr result (HasCauses (Rose (L.faults log.old) (L.faults log.new) (L.spent log.new) ⊎ Rose (Q.faults questions.old) (Q.faults questions.new) (Q.spent questions.new))
+    ensures whole { (of : ℕ) (bytes : List ℕ) → job.now ≡ Job.Back of
+        → L.left log.old ≡ Some bytes → OnOk result (L.left log.new ≡ Some []) }
+    ensures causes { IfErr result (HasCauses
+        (Rose (L.faults log.old) (L.faults log.new) (L.spent log.new)
+        ⊎ Rose (Q.faults questions.old) (Q.faults questions.new) (Q.spent questions.new))
         (Rose (O.faults out.old) (O.faults out.new) (O.spent out.new))) }
     ensures other { (of : ℕ) → job.now ≡ Job.Back of → questions.new ≡ questions.old }
 {
@@ -91,21 +99,34 @@ fn run_with<R: Reducer + Drop, L: Source, Q: Source, O: Sink>(
     requires mode { mode_for job.now ≡ R.mode }
     requires stands { R.stands_for reducer [] }
     requires holds { R.holds reducer [] }
-    ensures talked { (bytes asked : List ℕ) → L.left log.old ≡ Some bytes → Tells job.now (Q.left questions.old) asked
-        → JobTalked limits.now job.now bytes asked (L.left log.new) (O.written out.old) (O.written out.new) result }
-    ensures within { (bytes asked : List ℕ) → L.left log.old ≡ Some bytes → Tells job.now (Q.left questions.old) asked
+    ensures talked { (bytes asked : List ℕ) → L.left log.old ≡ Some bytes
+        → Tells job.now (Q.left questions.old) asked
+        → JobTalked limits.now job.now bytes asked (L.left log.new)
+        (O.written out.old) (O.written out.new) result }
+    ensures within { (bytes asked : List ℕ) → L.left log.old ≡ Some bytes
+        → Tells job.now (Q.left questions.old) asked
         → OnOk result (KeepsLimit limits.now job.now bytes asked) }
-    ensures left { (bytes asked : List ℕ) → L.left log.old ≡ Some bytes → Tells job.now (Q.left questions.old) asked
+    ensures left { (bytes asked : List ℕ) → L.left log.old ≡ Some bytes
+        → Tells job.now (Q.left questions.old) asked
         → OnOk result (LeavesQuestions limits.now job.now bytes asked (Q.left questions.new)) }
-    ensures whole { (of : ℕ) (bytes : List ℕ) → job.now ≡ Job.Back of → L.left log.old ≡ Some bytes → OnOk result (L.left log.new ≡ Some []) }
-    ensures causes { IfErr result (HasCauses (Rose (L.faults log.old) (L.faults log.new) (L.spent log.new) ⊎ Rose (Q.faults questions.old) (Q.faults questions.new) (Q.spent questions.new))
+    ensures whole { (of : ℕ) (bytes : List ℕ) → job.now ≡ Job.Back of
+        → L.left log.old ≡ Some bytes → OnOk result (L.left log.new ≡ Some []) }
+    ensures causes { IfErr result (HasCauses
+        (Rose (L.faults log.old) (L.faults log.new) (L.spent log.new)
+        ⊎ Rose (Q.faults questions.old) (Q.faults questions.new) (Q.spent questions.new))
         (Rose (O.faults out.old) (O.faults out.new) (O.spent out.new))) }
     ensures other { (of : ℕ) → job.now ≡ Job.Back of → questions.new ≡ questions.old }
 {
-    let mut engine = Ingest::new(alloc, limits, reducer, VecRows::new(alloc));
+    let piece = room_for_a_read(alloc)?;
+    let engine = Ingest::new(alloc, limits, reducer, VecRows::new(alloc));
+    let mut session = Session {
+        alloc,
+        engine,
+        piece,
+    };
     match job {
-        Job::Back(of) => back(alloc, &mut engine, log, out, EntityId(*of)),
-        Job::Watch { mode: _, log: _ } => { watch(alloc, limits, &mut engine, log, questions, out) }
+        Job::Back(of) => back(&mut session, log, out, EntityId(*of)),
+        Job::Watch { mode: _, log: _ } => watch(&mut session, limits, log, questions, out),
     }
 }
 

@@ -17,6 +17,7 @@ ghost use Rattle.audit_cli.specs.Course.{At, GoesUp, HasCauses, IsDue, Talked, n
 
 use crate::halt::{Halt, Turn, halt_of};
 use crate::log::take_log;
+use crate::session::Session;
 use audit_lex::Line;
 use ingest::{AskFault, Ingest};
 use outside::{Sink, Source, put_all};
@@ -25,8 +26,9 @@ use report_json::{Ask, Reply, read_question, reply_text, what_is_found_is_asked}
 use std::alloc::Global;
 
 /// What a line asks. A line that is too long asks nothing.
-pub fn question_in(line: &Line) -> Option<Ask>
-    ensures { (most number : ℕ) (text : List ℕ) → line.now ≡ line_of most number text → result ≡ asked most text }
+pub fn question_in(line: &Line) -> Option<Ask<'_>>
+    ensures { (most number : ℕ) (text : List ℕ) → line.now ≡ line_of most number text
+        → result ≡ asked most text }
 {
     what_is_found_is_asked();
     if line.long {
@@ -54,16 +56,18 @@ fn settle<R: Reducer>(engine: &mut Ingest<R, VecRows>) -> Result<Reply, Halt>
     }
 }
 
-// The engine's reply to a question about what was taken. Rows in memory have no faults of their own, so memory is all
-// that it can want.
-fn reply_of<R: Reducer>(engine: &mut Ingest<R, VecRows>, question: &Ask) -> Result<Reply, Halt>
-    requires asks { IsQuestion question.now }
-    ensures reply { IfOk result (λ reply. (limits : Limits) (h : History) → StandsFor limits engine.old h → IsReply R.mode limits h question.now reply) }
+// The engine's reply to what is asked about what was taken. Rows in memory have no faults of their own, so it can only
+// fail to allocate.
+fn reply_of<R: Reducer>(engine: &mut Ingest<R, VecRows>, ask: &Ask<'_>) -> Result<Reply, Halt>
+    requires asks { IsQuestion ask.now }
+    ensures reply { IfOk result (λ reply. (limits : Limits) (h : History)
+        → StandsFor limits engine.old h → IsReply R.mode limits h ask.now reply) }
     ensures memory { IfErr result (λ why. why ≡ halt.NoMemory) }
     ensures causes { IfErr result (HasCauses ⊥ ⊥) }
-    ensures same { engine.new ≡ engine.old }
+    ensures stands { (limits : Limits) (h : History)
+        → StandsFor limits engine.old h → StandsFor limits engine.new h }
 {
-    match engine.ask(question) {
+    match engine.ask(ask) {
         Ok(reply) => Ok(reply),
         Err(AskFault::NoMemory) => Err(Halt::NoMemory),
         Err(AskFault::StoreFault) | Err(AskFault::BadStore(_)) => unreachable!(),
@@ -72,29 +76,37 @@ fn reply_of<R: Reducer>(engine: &mut Ingest<R, VecRows>, question: &Ask) -> Resu
 
 /// The reply to a question.
 pub fn answer<R: Reducer, L: Source>(
-    engine: &mut Ingest<R, VecRows>,
+    session: &mut Session<R>,
     log: &mut L,
-    question: Option<Ask>,
+    question: &Option<Ask<'_>>,
 ) -> Result<Reply, Halt>
-    ensures moves { (limits : Limits) (m : Moment) → At R.mode limits engine.old (L.left log.old) m
-        → OnOk result (At R.mode limits engine.new (L.left log.new) (after question m)) }
-    ensures answers { (limits : Limits) (m : Moment) → At R.mode limits engine.old (L.left log.old) m
-        → IfOk result (Answers limits question m) }
-    ensures due { (limits : Limits) (m : Moment) → At R.mode limits engine.old (L.left log.old) m
-        → IfErr result (IsDue (Stops limits (after question m).history)) }
-    ensures causes { IfErr result (HasCauses (Rose (L.faults log.old) (L.faults log.new) (L.spent log.new)) ⊥) }
+    ensures moves { (limits : Limits) (m : Moment)
+        → At R.mode limits session.old.engine (L.left log.old) m
+        → OnOk result (At R.mode limits session.new.engine (L.left log.new) (after question.now m)) }
+    ensures answers { (limits : Limits) (m : Moment)
+        → At R.mode limits session.old.engine (L.left log.old) m
+        → IfOk result (Answers limits question.now m) }
+    ensures due { (limits : Limits) (m : Moment)
+        → At R.mode limits session.old.engine (L.left log.old) m
+        → IfErr result (IsDue (Stops limits (after question.now m).history)) }
+    ensures causes { IfErr result
+        (HasCauses (Rose (L.faults log.old) (L.faults log.new) (L.spent log.new)) ⊥) }
     ensures counts { GoesUp (L.faults log.old) (L.faults log.new) (L.spent log.old) (L.spent log.new) }
 {
     match question {
         None => Ok(Reply::BadQuestion),
         Some(Ask::Take(most)) => {
-            let count = take_log(engine, log, most)?;
+            let count = take_log(
+                &mut session.engine,
+                log,
+                session.piece.as_mut_slice(),
+                *most,
+            )?;
             Ok(Reply::Take(count))
         }
-        Some(Ask::Settle) => settle(engine),
-        Some(Ask::Question(question)) => reply_of(engine, &Ask::Question(question)),
-        Some(Ask::Stat) => reply_of(engine, &Ask::Stat),
+        Some(Ask::Settle) => settle(&mut session.engine),
         Some(Ask::End) => Ok(Reply::End),
+        Some(ask) => reply_of(&mut session.engine, ask),
     }
 }
 
@@ -114,8 +126,8 @@ pub fn say<O: Sink>(alloc: Global, out: &mut O, reply: &Reply) -> Result<(), Hal
 }
 
 // Whether the question ended the dialogue.
-fn turn_after(question: Option<Ask>) -> Turn
-    ensures { result ≡ turn_of question }
+fn turn_after(question: &Option<Ask<'_>>) -> Turn
+    ensures { result ≡ turn_of question.now }
 {
     match question {
         Some(Ask::End) => Turn::Ended,
@@ -125,20 +137,22 @@ fn turn_after(question: Option<Ask>) -> Turn
 
 /// Answers a question.
 pub fn take_turn<R: Reducer, L: Source, O: Sink>(
-    alloc: Global,
-    engine: &mut Ingest<R, VecRows>,
+    session: &mut Session<R>,
     log: &mut L,
     out: &mut O,
-    question: Option<Ask>,
+    question: &Option<Ask<'_>>,
 ) -> Result<Turn, Halt>
-    ensures talk { (limits : Limits) (m : Moment) → At R.mode limits engine.old (L.left log.old) m
-        → Talked R.mode limits nothing_beyond engine.new (L.left log.new) (O.written out.old) (O.written out.new) result m (question ∷ []) }
-    ensures causes { IfErr result (HasCauses (Rose (L.faults log.old) (L.faults log.new) (L.spent log.new))
+    ensures talk { (limits : Limits) (m : Moment)
+        → At R.mode limits session.old.engine (L.left log.old) m
+        → Talked R.mode limits nothing_beyond session.new.engine (L.left log.new)
+        (O.written out.old) (O.written out.new) result m (question.now ∷ []) }
+    ensures causes { IfErr result (HasCauses
+        (Rose (L.faults log.old) (L.faults log.new) (L.spent log.new))
         (Rose (O.faults out.old) (O.faults out.new) (O.spent out.new))) }
     ensures log { GoesUp (L.faults log.old) (L.faults log.new) (L.spent log.old) (L.spent log.new) }
     ensures out { GoesUp (O.faults out.old) (O.faults out.new) (O.spent out.old) (O.spent out.new) }
 {
-    let reply = answer(engine, log, question)?;
-    say(alloc, out, &reply)?;
+    let reply = answer(session, log, question)?;
+    say(session.alloc, out, &reply)?;
     Ok(turn_after(question))
 }

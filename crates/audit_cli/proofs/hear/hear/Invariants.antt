@@ -15,8 +15,8 @@ invariant-loop-at g l =
     record {
       within : l.at ≤ length l.piece;
       lines : l.cut.lines ≤ l.initial.cut.lines + l.at;
-      heard : (limits : Limits) (m : Moment) (h : History) → At g.R.Reducer.mode limits l.initial.engine (source.left l.initial.log) m → Holds limits l.initial.cut h →
-          Heard g.R.Reducer.mode limits nothing_beyond l.cut l.engine (source.left l.log) (sink.written l.initial.out) (sink.written l.out) (Ok turn.More) m h (take l.at l.piece);
+      heard : (limits : Limits) (m : Moment) (h : History) → At g.R.Reducer.mode limits l.initial.session.engine (source.left l.initial.log) m → Holds limits l.initial.cut h →
+          Heard g.R.Reducer.mode limits nothing_beyond l.cut l.session.engine (source.left l.log) (sink.written l.initial.out) (sink.written l.out) (Ok turn.More) m h (take l.at l.piece);
       log : GoesUp (source.faults l.initial.log) (source.faults l.log) (source.spent l.initial.log) (source.spent l.log);
       out : GoesUp (sink.faults l.initial.out) (sink.faults l.out) (sink.spent l.initial.out) (sink.spent l.out);
     }

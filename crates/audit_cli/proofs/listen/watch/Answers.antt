@@ -4,18 +4,20 @@ use Rattle.std.proofs.lemmas.Result.{err_from_is_err_and}
 use Rattle.std.proofs.Math.Seq.{take-add}
 use Rattle.audit_lex.specs.History.{with_bytes}
 use Rattle.audit_cli.specs.declared.halt.Turn.TheVariants as turn
+use Rattle.audit_cli.specs.declared.halt.Halt.TheVariants as halt
 use Rattle.audit_cli.specs.Dialogue.{QuestionsStop, nothing_beyond, asks, lines_in}
 use Rattle.audit_cli.specs.Course.{EndTalked}
 use Rattle.audit_cli.specs.Hearing.{Heard}
 use Rattle.audit_cli.specs.Listening.{PassesRoom}
 use Rattle.audit_cli.proofs.HearLemmas.{heard_none, heard_both, heard_more, questions_pass_after, questions_closed_after, no_further, on_ok}
 use Rattle.audit_cli.proofs.TalkLemmas.{carries_none}
-use Rattle.audit_cli.proofs.ListenLemmas.{end_heard, end_both}
+use Rattle.audit_cli.proofs.ListenLemmas.{end_heard, end_both, ended_early, kept_room}
 use Rattle.audit_cli.proofs.listen.watch.Goals as goal
 
-pub loop-cut-init : goal.loop-cut-init
-loop-cut-init g c = record {
+pub loop-buf-init : goal.loop-buf-init
+loop-buf-init g c = record {
   within = omega arith;
+  room = c.in_ok-buf.ensures;
   lines = omega (arith, c.new-cut.ensures.nothing.count);
   left = λ q told. told;
   part = λ q told. omega arith;
@@ -27,37 +29,39 @@ loop-cut-init g c = record {
 
 pub returns-in_err-count-clause-talked : goal.returns-in_err-count-clause-talked
 returns-in_err-count-clause-talked g c = λ m q at told.
-    let p = err_from_is_err_and c.from_residual.result c.from_residual.ensures.1 in
-    let n = c.loop-cut.heard in
+    let p = err_from_is_err_and c.from_residual-in_err-count.result c.from_residual-in_err-count.ensures.1 in
+    let n = c.loop-buf.heard in
     let limits = c.args.limits.now in
-    let first = c.loop-cut.invariant.heard m q at told in
-    let part = c.loop-cut.invariant.part q told in
-    let within = c.loop-cut.invariant.within in
-    let second = c.in_err-count.ensures.heard first.talked.to (with_bytes [] (take n q)) (drop n q) first.talked.at first.holds (c.loop-cut.invariant.left q told) in
+    let first = c.loop-buf.invariant.heard m q at told in
+    let part = c.loop-buf.invariant.part q told in
+    let within = c.loop-buf.invariant.within in
+    let second = c.in_err-count.ensures.heard first.talked.to (with_bytes [] (take n q)) (drop n q) first.talked.at first.holds (c.loop-buf.invariant.left q told) in
     let carries = questions_pass_after _ limits n _ _ _ _ _ m q within part first in
     let both = heard_both _ limits (PassesRoom limits (limits.input - n) (with_bytes [] (take n q)) (drop n q)) (QuestionsStop limits q) _ _ _ _ _ _ _ _ _ _ m [] _ _ first carries second in
     let ended = end_heard c.lines_stay.ensures.stay _ limits (QuestionsStop limits q) _ _ _ _ _ _ m _ tt both in
-    rw (p.1, p.2) (subst (λ (xs : List ℕ). EndTalked g.R.Reducer.mode limits (QuestionsStop limits q) c.listen.new.engine (g.L.Source.left c.listen.new.log) (g.O.Sink.written c.args.out.now) (g.O.Sink.written c.listen.new.out) (Err c.in_err-count.field-0.0) m (asks limits (lines_in xs))) (take-append-drop n q) ended)
+    rw (p.1, p.2) (subst (λ (xs : List ℕ). EndTalked g.R.Reducer.mode limits (QuestionsStop limits q) c.listen.new.session.engine (g.L.Source.left c.listen.new.log) (g.O.Sink.written c.args.out.now) (g.O.Sink.written c.listen.new.out) (Err c.in_err-count.field-0.0) m (asks limits (lines_in xs))) (take-append-drop n q) ended)
 
-pub loop-cut-preserved : goal.loop-cut-preserved
-loop-cut-preserved g c =
-    let n = c.loop-cut.heard in
+pub loop-buf-preserved : goal.loop-buf-preserved
+loop-buf-preserved g c =
+    let n = c.loop-buf.heard in
     let k = c.in-Piece.count in
     let progress = rw c.in-Piece.is at c.in_ok-count.ensures.progress in
     let few = rw c.in-Piece.is at c.in_ok-count.ensures.lines in
-    let after = λ (q : List ℕ) (told : g.Q.Source.left c.args.questions.now ≡ Some q). (rw c.in-Piece.is at c.in_ok-count.ensures.left (drop n q) (c.loop-cut.invariant.left q told)) in
+    let after = λ (q : List ℕ) (told : g.Q.Source.left c.args.questions.now ≡ Some q). (rw c.in-Piece.is at c.in_ok-count.ensures.left (drop n q) (c.loop-buf.invariant.left q told)) in
     record {
       within = omega (arith, progress.1);
+      room = (let same = ap length c.as_mut_slice.ensures.value in
+          kept_room c.loop-buf.buf.len c.listen.new.buf c.loop-buf.buf.items (omega (arith, c.listen.auto.buf, same, c.loop-buf.invariant.room)) (omega (arith, c.loop-buf.buf.ok.0, c.loop-buf.invariant.room)));
       lines = few;
       left = λ q told. rw (← drop-drop k n q) ((after q told).0);
-      part = λ q told. omega (arith, (after q told).1, length-drop n q, c.loop-cut.invariant.part q told);
+      part = λ q told. omega (arith, (after q told).1, length-drop n q, c.loop-buf.invariant.part q told);
       heard = λ m q at told.
           let limits = c.args.limits.now in
-          let first = c.loop-cut.invariant.heard m q at told in
-          let second = rw c.in-Piece.is at c.in_ok-count.ensures.heard first.talked.to (with_bytes [] (take n q)) (drop n q) first.talked.at first.holds (c.loop-cut.invariant.left q told) in
+          let first = c.loop-buf.invariant.heard m q at told in
+          let second = rw c.in-Piece.is at c.in_ok-count.ensures.heard first.talked.to (with_bytes [] (take n q)) (drop n q) first.talked.at first.holds (c.loop-buf.invariant.left q told) in
           let more = heard_more _ limits (PassesRoom limits (limits.input - n) (with_bytes [] (take n q)) (drop n q)) nothing_beyond _ _ _ _ _ _ _ _ second in
-          let both = heard_both _ limits nothing_beyond nothing_beyond _ _ _ _ _ _ _ _ _ _ m [] _ _ first (carries_none _ nothing_beyond) more in
-          subst (λ (xs : List ℕ). Heard g.R.Reducer.mode limits nothing_beyond c.listen.new.cut c.listen.new.engine (g.L.Source.left c.listen.new.log) (g.O.Sink.written c.args.out.now) (g.O.Sink.written c.listen.new.out) (Ok turn.More) m [] xs) (sym (take-add n k q)) both;
+          let both = heard_both _ limits nothing_beyond nothing_beyond _ _ _ _ _ _ _ _ _ _ m [] _ _ first (carries_none (asks limits first.answered) nothing_beyond) more in
+          subst (λ (xs : List ℕ). Heard g.R.Reducer.mode limits nothing_beyond c.listen.new.cut c.listen.new.session.engine (g.L.Source.left c.listen.new.log) (g.O.Sink.written c.args.out.now) (g.O.Sink.written c.listen.new.out) (Ok turn.More) m [] xs) (sym (take-add n k q)) both;
       log_up = search rules;
       questions_up = search rules;
       out_up = search rules;
@@ -65,52 +69,57 @@ loop-cut-preserved g c =
 
 pub returns-in-Ended-clause-talked : goal.returns-in-Ended-clause-talked
 returns-in-Ended-clause-talked g c = λ m q at told.
-    let n = c.loop-cut.heard in
+    let n = c.loop-buf.heard in
     let limits = c.args.limits.now in
-    let part = c.loop-cut.invariant.part q told in
-    let within = c.loop-cut.invariant.within in
-    let first = c.loop-cut.invariant.heard m q at told in
-    let second = rw c.in-Ended.is at c.in_ok-count.ensures.heard first.talked.to (with_bytes [] (take n q)) (drop n q) first.talked.at first.holds (c.loop-cut.invariant.left q told) in
+    let part = c.loop-buf.invariant.part q told in
+    let within = c.loop-buf.invariant.within in
+    let first = c.loop-buf.invariant.heard m q at told in
+    let second = rw c.in-Ended.is at c.in_ok-count.ensures.heard first.talked.to (with_bytes [] (take n q)) (drop n q) first.talked.at first.holds (c.loop-buf.invariant.left q told) in
     let carries = questions_pass_after _ limits n _ _ _ _ _ m q within part first in
     let both = heard_both _ limits (PassesRoom limits (limits.input - n) (with_bytes [] (take n q)) (drop n q)) (QuestionsStop limits q) _ _ _ _ _ _ _ _ _ _ m [] _ _ first carries second in
     let ended = end_heard c.lines_stay.ensures.stay _ limits (QuestionsStop limits q) _ _ _ _ _ _ m _ tt both in
-    subst (λ (xs : List ℕ). EndTalked g.R.Reducer.mode limits (QuestionsStop limits q) c.listen.new.engine (g.L.Source.left c.listen.new.log) (g.O.Sink.written c.args.out.now) (g.O.Sink.written c.listen.new.out) (Ok tt) m (asks limits (lines_in xs))) (take-append-drop n q) ended
+    subst (λ (xs : List ℕ). EndTalked g.R.Reducer.mode limits (QuestionsStop limits q) c.listen.new.session.engine (g.L.Source.left c.listen.new.log) (g.O.Sink.written c.args.out.now) (g.O.Sink.written c.listen.new.out) (Ok tt) m (asks limits (lines_in xs))) (take-append-drop n q) ended
 
 pub returns-in-Silence-clause-talked : goal.returns-in-Silence-clause-talked
 returns-in-Silence-clause-talked g c = λ m q at told.
-    let n = c.loop-cut.heard in
+    let n = c.loop-buf.heard in
     let limits = c.args.limits.now in
-    let first = c.loop-cut.invariant.heard m q at told in
-    let second = rw c.in-Silence.is at c.in_ok-count.ensures.heard first.talked.to (with_bytes [] (take n q)) (drop n q) first.talked.at first.holds (c.loop-cut.invariant.left q told) in
-    let none = (rw c.in-Silence.is at c.in_ok-count.ensures.left (drop n q) (c.loop-cut.invariant.left q told)).0 in
+    let first = c.loop-buf.invariant.heard m q at told in
+    let second = rw c.in-Silence.is at c.in_ok-count.ensures.heard first.talked.to (with_bytes [] (take n q)) (drop n q) first.talked.at first.holds (c.loop-buf.invariant.left q told) in
+    let none = (rw c.in-Silence.is at c.in_ok-count.ensures.left (drop n q) (c.loop-buf.invariant.left q told)).0 in
     let more = heard_more _ limits (PassesRoom limits (limits.input - n) (with_bytes [] (take n q)) (drop n q)) nothing_beyond _ _ _ _ _ _ _ _ second in
-    let both = heard_both _ limits nothing_beyond nothing_beyond _ _ _ _ _ _ _ _ _ _ m [] _ _ first (carries_none _ nothing_beyond) more in
+    let both = heard_both _ limits nothing_beyond nothing_beyond _ _ _ _ _ _ _ _ _ _ m [] _ _ first (carries_none (asks limits first.answered) nothing_beyond) more in
     let ended = end_both _ limits (QuestionsStop limits q) _ _ _ _ _ _ _ _ _ m _ both (c.finish.ensures.heard limits both.talked.to _ both.talked.at both.holds) in
     let same : take n q ++ [] ≡ q = ap (λ (xs : List ℕ). take n q ++ xs) (sym none) ∙ take-append-drop n q in
-    subst (λ (xs : List ℕ). EndTalked g.R.Reducer.mode limits (QuestionsStop limits q) c.finish.new.engine (g.L.Source.left c.finish.new.log) (g.O.Sink.written c.args.out.now) (g.O.Sink.written c.finish.new.out) c.finish.result m (asks limits (lines_in xs))) same ended
+    subst (λ (xs : List ℕ). EndTalked g.R.Reducer.mode limits (QuestionsStop limits q) c.finish.new.session.engine (g.L.Source.left c.finish.new.log) (g.O.Sink.written c.args.out.now) (g.O.Sink.written c.finish.new.out) c.finish.result m (asks limits (lines_in xs))) same ended
 
 pub returns-in-Ended-clause-within : goal.returns-in-Ended-clause-within
 returns-in-Ended-clause-within g c = λ m q at told.
-    let n = c.loop-cut.heard in
-    let first = c.loop-cut.invariant.heard m q at told in
-    let closes = rw c.in-Ended.is at c.in_ok-count.ensures.closes first.talked.to (with_bytes [] (take n q)) (drop n q) first.talked.at first.holds (c.loop-cut.invariant.left q told) in
-    inr (questions_closed_after _ c.args.limits.now n _ _ _ _ _ m q c.loop-cut.invariant.within first closes)
+    let n = c.loop-buf.heard in
+    let first = c.loop-buf.invariant.heard m q at told in
+    let closes = rw c.in-Ended.is at c.in_ok-count.ensures.closes first.talked.to (with_bytes [] (take n q)) (drop n q) first.talked.at first.holds (c.loop-buf.invariant.left q told) in
+    inr (questions_closed_after _ c.args.limits.now n _ _ _ _ _ m q c.loop-buf.invariant.within first closes)
 
 pub returns-in-Silence-clause-within : goal.returns-in-Silence-clause-within
 returns-in-Silence-clause-within g c = λ m q at told.
-    let none = (rw c.in-Silence.is at c.in_ok-count.ensures.left (drop c.loop-cut.heard q) (c.loop-cut.invariant.left q told)).0 in
-    on_ok c.finish.result _ (inl (omega (arith, ap length none, length-drop c.loop-cut.heard q, c.loop-cut.invariant.within)))
+    let none = (rw c.in-Silence.is at c.in_ok-count.ensures.left (drop c.loop-buf.heard q) (c.loop-buf.invariant.left q told)).0 in
+    on_ok c.finish.result _ (inl (omega (arith, ap length none, length-drop c.loop-buf.heard q, c.loop-buf.invariant.within)))
 
 pub returns-in-Ended-clause-left : goal.returns-in-Ended-clause-left
 returns-in-Ended-clause-left g c = λ m q at told.
-    let n = c.loop-cut.heard in
-    let first = c.loop-cut.invariant.heard m q at told in
-    let left = rw c.in-Ended.is at c.in_ok-count.ensures.left (drop n q) (c.loop-cut.invariant.left q told) in
+    let n = c.loop-buf.heard in
+    let first = c.loop-buf.invariant.heard m q at told in
+    let left = rw c.in-Ended.is at c.in_ok-count.ensures.left (drop n q) (c.loop-buf.invariant.left q told) in
     no_further _ c.args.limits.now _ _ _ _ _ m q n left.0 _ first left.1 left.2
 
 pub returns-in-Silence-clause-left : goal.returns-in-Silence-clause-left
 returns-in-Silence-clause-left g c = λ m q at told.
-    let n = c.loop-cut.heard in
-    let first = c.loop-cut.invariant.heard m q at told in
-    let left = rw c.in-Silence.is at c.in_ok-count.ensures.left (drop n q) (c.loop-cut.invariant.left q told) in
+    let n = c.loop-buf.heard in
+    let first = c.loop-buf.invariant.heard m q at told in
+    let left = rw c.in-Silence.is at c.in_ok-count.ensures.left (drop n q) (c.loop-buf.invariant.left q told) in
     on_ok c.finish.result _ (no_further _ c.args.limits.now _ _ _ _ _ m q n 0 _ first (omega arith) left.1)
+
+pub returns-in_err-buf-clause-talked : goal.returns-in_err-buf-clause-talked
+returns-in_err-buf-clause-talked g c = λ m q at told.
+    let p = err_from_is_err_and c.from_residual.result c.from_residual.ensures.1 in
+    rw (p.1, p.2) (ended_early _ c.args.limits.now _ _ _ _ halt.NoMemory m _ tt)

@@ -6,22 +6,23 @@ use Rattle.audit_cli.specs.Hearing.{Heard}
 use Rattle.audit_cli.proofs.listen.watch.Given as goal
 
 -- the first `heard` bytes of the questions were heard, and the rest is left
-abbrev pub invariant-loop-cut : goal.invariant-loop-cut
-invariant-loop-cut g l =
+abbrev pub invariant-loop-buf : goal.invariant-loop-buf
+invariant-loop-buf g l =
     let log = g.L.Source in
     let questions = g.Q.Source in
     let sink = g.O.Sink in
     record {
       within : l.heard ≤ l.limits.input;
+      room : length l.buf.items ≡ 65536;
       lines : l.cut.lines ≤ l.heard;
       left : (q : List ℕ) → questions.left l.initial.questions ≡ Some q → questions.left l.questions ≡ Some (drop l.heard q);
       part : (q : List ℕ) → questions.left l.initial.questions ≡ Some q → l.heard ≤ length q;
-      heard : (m : Moment) (q : List ℕ) → At g.R.Reducer.mode l.limits l.initial.engine (log.left l.initial.log) m → questions.left l.initial.questions ≡ Some q →
-          Heard g.R.Reducer.mode l.limits nothing_beyond l.cut l.engine (log.left l.log) (sink.written l.initial.out) (sink.written l.out) (Ok turn.More) m [] (take l.heard q);
+      heard : (m : Moment) (q : List ℕ) → At g.R.Reducer.mode l.limits l.initial.session.engine (log.left l.initial.log) m → questions.left l.initial.questions ≡ Some q →
+          Heard g.R.Reducer.mode l.limits nothing_beyond l.cut l.session.engine (log.left l.log) (sink.written l.initial.out) (sink.written l.out) (Ok turn.More) m [] (take l.heard q);
       log_up : GoesUp (log.faults l.initial.log) (log.faults l.log) (log.spent l.initial.log) (log.spent l.log);
       questions_up : GoesUp (questions.faults l.initial.questions) (questions.faults l.questions) (questions.spent l.initial.questions) (questions.spent l.questions);
       out_up : GoesUp (sink.faults l.initial.out) (sink.faults l.out) (sink.spent l.initial.out) (sink.spent l.out);
     }
 
-abbrev pub decreases-loop-cut : goal.decreases-loop-cut
-decreases-loop-cut g l = l.limits.input - l.heard
+abbrev pub decreases-loop-buf : goal.decreases-loop-buf
+decreases-loop-buf g l = l.limits.input - l.heard

@@ -2,7 +2,8 @@ use Rattle.std.proofs.Common.{refl, ◌<◌, ◌-◌, ◌^◌, sym, arith}
 use Rattle.audit_cli.specs.Dialogue.{begin}
 use Rattle.audit_cli.proofs.JobLemmas.{back_talked, watch_talked}
 use Rattle.audit_cli.proofs.HearLemmas.{on_ok}
-use Rattle.audit_cli.proofs.JobLemmas.{causes_too}
+use Rattle.audit_cli.proofs.JobLemmas.{causes_too, not_begun}
+use Rattle.std.proofs.lemmas.Result.{err_from_is_err_and}
 use Rattle.audit_cli.proofs.run.run_with.Goals as goal
 
 pub returns-in-Back-clause-talked : goal.returns-in-Back-clause-talked
@@ -46,3 +47,8 @@ returns-clause-left g c = λ bytes asked told tells.
 
 pub returns-in-Back-clause-causes : goal.returns-in-Back-clause-causes
 returns-in-Back-clause-causes g c = causes_too c.back.result _ _ _ c.back.ensures.causes
+
+pub returns-in_err-piece-clause-talked : goal.returns-in_err-piece-clause-talked
+returns-in_err-piece-clause-talked g c = λ bytes asked told tells.
+    let p = err_from_is_err_and c.from_residual.result c.from_residual.ensures.1 in
+    rw (p.1, p.2) (not_begun c.args.limits.now c.args.job.now bytes asked _ _)

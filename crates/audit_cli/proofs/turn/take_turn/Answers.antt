@@ -12,7 +12,7 @@ returns-in_err-reply-clause-talk g c = λ limits m h.
       to = m;
       bytes = [];
       wrote = appends_none _;
-      course = no_reply limits m c.args.question _ h.stands.fits (c.in_err-reply.ensures.due limits m h);
+      course = no_reply limits m c.args.question.now _ h.stands.fits (c.in_err-reply.ensures.due limits m h);
       at = tt;
     })
 
@@ -24,16 +24,16 @@ returns-in_err-say-clause-talk g c = λ limits m h.
       to = m;
       bytes = take cut.0 (text_of c.in_ok-reply.reply);
       wrote = cut.1;
-      course = other_halt limits nothing_beyond m _ _ _ c.in_err-say.ensures.due (half_said limits m c.args.question _ cut.0 (c.in_ok-reply.ensures.answers limits m h));
+      course = other_halt limits nothing_beyond m _ _ _ c.in_err-say.ensures.due (half_said limits m c.args.question.now _ cut.0 (c.in_ok-reply.ensures.answers limits m h));
       at = tt;
     })
 
 pub returns-clause-talk : goal.returns-clause-talk
 returns-clause-talk g c = λ limits m h.
     rw c.turn_after.ensures (record {
-      to = after c.args.question m;
+      to = after c.args.question.now m;
       bytes = text_of c.in_ok-reply.reply;
       wrote = c.in_ok-say.ensures.said;
-      course = one_turn limits nothing_beyond c.args.question m _ (c.in_ok-reply.ensures.answers limits m h);
+      course = one_turn limits nothing_beyond c.args.question.now m _ (c.in_ok-reply.ensures.answers limits m h);
       at = c.in_ok-reply.ensures.moves limits m h;
     })

@@ -1,0 +1,27 @@
+//! What a dialogue works with: an engine, and the memory through which the log comes to it.
+ghost use Rattle.std.specs.Prelude.{◌≡◌, IfOk, length};
+
+use flow_base::NoMemory;
+use ingest::Ingest;
+use reach_rows::{Reducer, VecRows};
+use std::alloc::Global;
+
+/// The most bytes of one read.
+pub const PIECE: usize = 65_536;
+
+/// An engine that answers, and the buffer of each read of its log. The buffer is made once a run, so that its memory can be
+/// refused, and no question takes more.
+#[derive(Drop)]
+pub struct Session<R: Reducer> {
+    pub alloc: Global,
+    pub engine: Ingest<R, VecRows>,
+    pub piece: Vec<u8>,
+    pub ghost room: { length piece.items ≡ 65536 },
+}
+
+/// A buffer for the bytes of one read.
+pub fn room_for_a_read(alloc: Global) -> Result<Vec<u8>, NoMemory>
+    ensures { IfOk result (λ room. length room.items ≡ 65536) }
+{
+    Ok(vec![in alloc; 0; PIECE]?)
+}
