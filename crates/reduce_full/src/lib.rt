@@ -5,8 +5,10 @@
 #![tactic(auto)]
 
 mod full;
+mod laws;
 
 pub use full::Full;
+pub use laws::full_mode_loses_later_starts;
 
 #[cfg(test)]
 mod tests;

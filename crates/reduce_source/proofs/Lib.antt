@@ -7,3 +7,5 @@ pub mod Joining
 pub mod Room
 pub mod Deciding
 pub mod Adding
+pub mod Counting
+pub mod OtherStarts

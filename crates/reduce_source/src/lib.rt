@@ -8,10 +8,12 @@
 
 mod column;
 mod columns;
+mod laws;
 mod sets;
 mod sources;
 mod standing;
 
+pub use laws::source_mode_loses_other_starts;
 pub use sets::SourceSets;
 pub use sources::Sources;
 

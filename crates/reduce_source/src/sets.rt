@@ -7,7 +7,7 @@ ghost use Rattle.reach_model.specs.Numbers.{known};
 ghost use Rattle.reach_model.specs.SourceSets.{HasSource, IsLater};
 ghost use Rattle.reach_model.specs.Sources.{first_at};
 ghost use Rattle.reduce_source.specs.Columns.{AreAsLong, AreLong, HasNumber};
-ghost use Rattle.reduce_source.specs.Sets.{HasRoom, IsBetween, StandsFor, count_after, first_given, standing_of};
+ghost use Rattle.reduce_source.specs.Counts.{count_sources};
 ghost use Rattle.reduce_source.specs.declared.standing.Standing.TheVariants as variant;
 
 use crate::column::Column;
@@ -25,9 +25,12 @@ pub struct SourceSets {
     columns: Vec<Column>,
     standings: Vec<Standing>,
     count: u64,
+    ghost counted: { count ≡ count_sources standings.items },
 }
 
 impl SourceSets {
+    ghost use Rattle.reduce_source.specs.Sets.{HasRoom, IsBetween, StandsFor, count_after, first_given, standing_of};
+
     /// The sets of no flows.
     pub fn new(alloc: Global) -> SourceSets
         ensures stands { StandsFor result [] }
@@ -95,7 +98,7 @@ impl SourceSets {
         ensures standings { (x : ℕ) → standing_of self.new x ≡ standing_of self.old x }
     {
         let alloc = *self.columns.allocator();
-        let numbers = self.count.checked_add(flows.len() as u64).ok_or(NoMemory)?;
+        let numbers = self.count + flows.len() as u64;
         standing::grow(&mut self.standings, known_of(flows))?;
         columns::widen(alloc, &mut self.columns, numbers.div_ceil(64))?;
         columns::grow(&mut self.columns, self.standings.len())?;

@@ -1,7 +1,6 @@
 use Rattle.std.proofs.Common.{◌<◌, length, [], sym, subst, ◌∙◌}
 use Rattle.reduce_source.specs.Columns.{HasNumber}
 use Rattle.reduce_source.specs.Sets.{standing_of}
-use Rattle.reduce_source.specs.declared.sets.SourceSets.{SourceSets}
 use Rattle.reduce_source.proofs.Joining.{stands_next}
 use Rattle.reduce_source.proofs.Room.{ends_fit, room_left}
 use Rattle.reduce_source.proofs.sets.SourceSets.union.Goals as goal
@@ -21,9 +20,8 @@ join-requires c =
 pub returns-clause-next : goal.returns-clause-next
 returns-clause-next c = λ K f between apart later s.
     let old = c.args.self.now in
-    let new : SourceSets = record { columns = c.join.new.columns; standings = c.see.new.standings; count = c.begin.new.self.count } in
     let middle = c.begin.new.self in
-    stands_next c.args.with.0 c.args.into.0 old new (standing_of middle) (HasNumber middle.columns.items)
+    stands_next c.args.with.0 c.args.into.0 old _ (standing_of middle) (HasNumber middle.columns.items)
     (record {
       begun = c.begin.ensures.standings;
       entered = c.see.ensures.standings;
@@ -36,6 +34,5 @@ returns-clause-next c = λ K f between apart later s.
 pub returns-clause-rest : goal.returns-clause-rest
 returns-clause-rest c = λ f rest r.
     let old = c.args.self.now in
-    let new : SourceSets = record { columns = c.join.new.columns; standings = c.see.new.standings; count = c.begin.new.self.count } in
-    room_left old new (standing_of old c.args.with.0) c.begin.ensures.count (c.see.ensures.len ∙ c.begin.ensures.places) (c.join.ensures.shape.count ∙ c.begin.ensures.words.count)
+    room_left old _ (standing_of old c.args.with.0) c.begin.ensures.count (c.see.ensures.len ∙ c.begin.ensures.places) (c.join.ensures.shape.count ∙ c.begin.ensures.words.count)
     (λ objects l. c.join.ensures.shape.words objects (c.begin.ensures.words.words objects l)) f rest r

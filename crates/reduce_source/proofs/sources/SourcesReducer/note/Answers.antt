@@ -14,6 +14,9 @@ union-requires c = let r = c.requires in record { room = (c.args.flow.now, (refl
 pub returns-in-Drop-clause-rest : goal.returns-in-Drop-clause-rest
 returns-in-Drop-clause-rest c = λ rest r. room_rest c.args.self.now.sets c.args.flow.now rest r
 
+pub returns-in-Drop-clause-holds : goal.returns-in-Drop-clause-holds
+returns-in-Drop-clause-holds c = λ R h few fits. subst (λ d. Holds c.args.self.now (rows_after R c.args.flow.now d)) (sym c.in-Drop.is) h
+
 pub returns-in-Add-clause-rows : goal.returns-in-Add-clause-rows
 returns-in-Add-clause-rows c = λ R s n.
     let f = c.args.flow.now in
