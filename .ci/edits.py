@@ -1,0 +1,76 @@
+"""Whether the wrong bodies of each crate are wrong bodies: each changes code in src/, and each crate with code has some.
+
+An edit of a definition, a contract or a proof would be refused whatever it said, so it would show nothing.
+Prints what isn't so, and ends with status 1 if there is any.
+"""
+import re
+import sys
+from pathlib import Path
+
+CLAUSE = re.compile(r'\s*(pub )?(requires|ensures|ghost)\b')
+BODY = re.compile(r'\s*\{$|\s*(pub(\(crate\))? )?fn .*\{$|\s*\) .*\{$')
+
+
+def code_of(text):
+    """The lines of a source file without its comments and clauses."""
+    code, depth = [], 0
+    for line in text.splitlines():
+        line = re.sub(r'//.*', '', line).rstrip()
+        if depth or CLAUSE.match(line):
+            depth += line.count('{') - line.count('}')
+        elif line:
+            code.append(line)
+    return code
+
+
+def pairs_of(edit):
+    """The triples (file, old, new) of an edit."""
+    name = old = None
+    for line in edit.read_text(encoding='utf-8').splitlines():
+        key, _, rest = line.partition(':')
+        rest = rest.removeprefix(' ')
+        if key == 'file':
+            name = rest.strip()
+        elif key == 'old':
+            old = rest
+        elif key == 'new':
+            yield name, old, rest
+
+
+def fault_of(crate, edit):
+    """Why an edit is no wrong body, or None."""
+    changed = {}
+    for name, old, new in pairs_of(edit):
+        if not name.startswith('src/'):
+            return f'changes {name}, which is no code'
+        text = changed.get(name) or (crate / name).read_text(encoding='utf-8')
+        if text.count(old) != 1:
+            return f'its old text stands {text.count(old)} times in {name}'
+        changed[name] = text.replace(old, new)
+    if all(code_of(text) == code_of((crate / name).read_text(encoding='utf-8')) for name, text in changed.items()):
+        return 'changes no code'
+    return None
+
+
+def has_code(crate):
+    """Whether some function has a body: a crate of laws alone has none that could be wrong."""
+    sources = (path.read_text(encoding='utf-8') for path in crate.glob('src/**/*.rt'))
+    return any(BODY.match(line) for text in sources for line in code_of(text))
+
+
+def main():
+    faults = []
+    for crate in sorted(path for path in Path('crates').iterdir() if (path / 'src').is_dir()):
+        edits = sorted(crate.glob('must-fail/*.edit'))
+        if not edits and has_code(crate):
+            faults.append(f'{crate}: has no wrong body')
+        for edit in edits:
+            fault = fault_of(crate, edit)
+            if fault:
+                faults.append(f'{edit}: {fault}')
+    print('\n'.join(faults), end='\n' if faults else '')
+    return 1 if faults else 0
+
+
+if __name__ == '__main__':
+    sys.exit(main())
