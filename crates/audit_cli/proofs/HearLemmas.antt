@@ -18,7 +18,7 @@ use Rattle.audit_cli.specs.Dialogue.{Moment, Beyond, Leads, asked, asks, Questio
 use Rattle.audit_cli.specs.Course.{At, Course, Halted, Talked, IsDue, never}
 use Rattle.audit_cli.specs.Hearing.{Holds, Heard, WhenMore}
 use Rattle.audit_cli.specs.Listening.{PassesRoom, EndsWithin}
-use Rattle.audit_cli.proofs.TalkLemmas.{appends_none, appends_both, leads_none, leads_both, leads_closes, course_after, nothing_said, other_halt, Carries}
+use Rattle.audit_cli.proofs.TalkLemmas.{appends_none, appends_both, leads_none, leads_closes, course_after, nothing_said, other_halt, Carries}
 
 -- lines that have ended stay
 abbrev pub LinesStay : Type 0

@@ -3,7 +3,6 @@ use Rattle.std.proofs.Common.{length, take, drop, arith, ◌≡◌, ℕ, List, [
 use Rattle.std.specs.Prelude.{Result, Ok, Err, OnOk}
 use Rattle.std.proofs.lemmas.List.{append-nil, map-append, length-take, length-append}
 use Rattle.flow_base.specs.declared.limits.Limits.{Limits}
-use Rattle.flow_base.specs.declared.limits.Full.{Full}
 use Rattle.audit_lex.specs.History.{History, Settle, with_bytes, lines_of}
 use Rattle.audit_lex.specs.LineCut.{Cutter}
 use Rattle.reach_model.specs.declared.modes.Mode.{Mode}

@@ -1,5 +1,5 @@
 -- Parts of a dialogue, one after another.
-use Rattle.std.proofs.Common.{◌≡◌, ℕ, List, [], ◌∷◌, ◌++◌, take, drop, refl, ap, sym, append_assoc, ◌∙◌, Option, Some, None, inl, inr}
+use Rattle.std.proofs.Common.{ℕ, List, [], ◌∷◌, ◌++◌, take, drop, refl, ap, sym, append_assoc, ◌∙◌, Option, Some, None, inl, inr}
 use Rattle.std.specs.Prelude.{◌⊎◌, Result, Ok, Err}
 use Rattle.std.specs.Io.KnownBytes.{Appends}
 use Rattle.std.proofs.lemmas.List.{append-nil, take-append-drop}
@@ -148,19 +148,6 @@ one_turn limits beyond (Some ask.End) m r a = (r ∷ [], sym (append-nil (text_o
 -- a dialogue may end where it stands
 pub dialogue_of : (limits : Limits) (a b : Moment) (f : List (Option Ask)) (s : List Reply) → Leads limits a f s b → Dialogue limits a f s b
 dialogue_of limits a b f s leads = let talk = leads [] [] b refl in rw (append-nil f, append-nil s) at talk
-
--- all that was asked was answered
-pub all_said : (limits : Limits) (a b : Moment) (f : List (Option Ask)) (s : List Reply) (bytes : List ℕ) → bytes ≡ texts s → Leads limits a f s b → IsFront limits a f bytes
-all_said limits a b f s bytes is leads = record {
-  front = f;
-  rest = [];
-  said = s;
-  to = b;
-  more = [];
-  parts = sym (append-nil f);
-  dialogue = dialogue_of limits a b f s leads;
-  bytes_are = append-nil bytes ∙ is;
-}
 
 front_more : (limits : Limits) (a : Moment) (f g : List (Option Ask)) (bytes : List ℕ) → IsFront limits a f bytes → IsFront limits a (f ++ g) bytes
 front_more limits a f g bytes x = record {

@@ -26,7 +26,8 @@ pub fn back<R: Reducer, L: Source, O: Sink>(
     ensures talked { (limits : Limits) (bytes : List ℕ) → limits.input < 2 ^ 64 - 1
         → At R.mode limits session.old.engine (L.left log.old) (begin R.mode bytes)
         → LastTalked R.mode limits session.new.engine (L.left log.new)
-        (O.written out.old) (O.written out.new) result (begin R.mode bytes) (back_questions of.0 bytes) }
+        (O.written out.old) (O.written out.new) result
+        (begin R.mode bytes) (back_questions of.0 bytes) }
     ensures whole { (limits : Limits) (bytes : List ℕ) → limits.input < 2 ^ 64 - 1
         → At R.mode limits session.old.engine (L.left log.old) (begin R.mode bytes)
         → OnOk result (L.left log.new ≡ Some []) }

@@ -14,8 +14,8 @@ use audit_lex::{LineCut, lines_stay};
 use outside::{Sink, Source};
 use reach_rows::Reducer;
 
-// Takes bytes of the piece up to and with a line feed, and answers the line that they end. It says how many bytes it
-// took.
+// Takes bytes of the piece up to and with a line feed, and answers the line that they end. It says
+// how many bytes it took.
 fn hear_line<R: Reducer, L: Source, O: Sink>(
     session: &mut Session<R>,
     cut: &mut LineCut,

@@ -1,7 +1,8 @@
 //! The dialogue, from the first question to the last.
 //!
-//! The questions are read in pieces, and each line of a piece is answered before the next read. Their bytes are counted
-//! apart from those of the log, and at most as many are heard as the limit on input says.
+//! The questions are read in pieces, and each line of a piece is answered before the next read.
+//! Their bytes are counted apart from those of the log, and at most as many are heard as the limit
+//! on input says.
 ghost use Rattle.std.specs.Prelude.{◌≡◌, ◌⊎◌, ◌≤◌, ◌<◌, ◌-◌, ◌^◌, ℕ, List, length, Some, OnOk, IfOk, IfErr};
 ghost use Rattle.flow_base.specs.declared.limits.Limits.{Limits};
 ghost use Rattle.outside.specs.Cause.{Rose};
@@ -20,8 +21,8 @@ use flow_base::{Full, Limit, Limits};
 use outside::{Sink, Source};
 use reach_rows::Reducer;
 
-// Reads the questions once into the buffer, and answers what it can. Of `heard` bytes that were read before and of these at
-// most `limits.input` are heard.
+// Reads the questions once into the buffer, and answers what it can. Of `heard` bytes that were
+// read before and of these at most `limits.input` are heard.
 fn listen<R: Reducer, L: Source, Q: Source, O: Sink>(
     session: &mut Session<R>,
     limits: &Limits,
@@ -55,7 +56,8 @@ fn listen<R: Reducer, L: Source, Q: Source, O: Sink>(
         (Rose (O.faults out.old) (O.faults out.new) (O.spent out.new))) }
     ensures log { GoesUp (L.faults log.old) (L.faults log.new) (L.spent log.old) (L.spent log.new) }
     ensures questions { GoesUp
-        (Q.faults questions.old) (Q.faults questions.new) (Q.spent questions.old) (Q.spent questions.new) }
+        (Q.faults questions.old) (Q.faults questions.new)
+        (Q.spent questions.old) (Q.spent questions.new) }
     ensures out { GoesUp (O.faults out.old) (O.faults out.new) (O.spent out.old) (O.spent out.new) }
 {
     lines_stay();
@@ -119,8 +121,9 @@ pub fn watch<R: Reducer, L: Source, Q: Source, O: Sink>(
 ) -> Result<(), Halt>
     ensures talked { (m : Moment) (q : List ℕ)
         → At R.mode limits.now session.old.engine (L.left log.old) m → Q.left questions.old ≡ Some q
-        → EndTalked R.mode limits.now (QuestionsStop limits.now q) session.new.engine (L.left log.new)
-        (O.written out.old) (O.written out.new) result m (asks limits.now (lines_in q)) }
+        → EndTalked R.mode limits.now (QuestionsStop limits.now q) session.new.engine
+        (L.left log.new) (O.written out.old) (O.written out.new) result m
+        (asks limits.now (lines_in q)) }
     ensures within { (m : Moment) (q : List ℕ)
         → At R.mode limits.now session.old.engine (L.left log.old) m → Q.left questions.old ≡ Some q
         → OnOk result (KeepsWithin limits.now m q) }

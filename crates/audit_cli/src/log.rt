@@ -12,7 +12,8 @@ use ingest::{Ingest, stops_stay};
 use outside::Source;
 use reach_rows::{Reducer, VecRows};
 
-// Takes the next bytes of the log, at most as many as the buffer holds. It takes none only at the end.
+// Takes the next bytes of the log, at most as many as the buffer holds. It takes none only at the
+// end.
 fn take_piece<R: Reducer, L: Source>(
     engine: &mut Ingest<R, VecRows>,
     log: &mut L,
@@ -20,7 +21,8 @@ fn take_piece<R: Reducer, L: Source>(
 ) -> Result<usize, Halt>
     requires { 0 < length buf.old }
     ensures within { IfOk result (λ n. n ≤ length buf.old) }
-    ensures took { (limits : Limits) (m : Moment) → At R.mode limits engine.old (L.left log.old) m → IfOk result
+    ensures took { (limits : Limits) (m : Moment) → At R.mode limits engine.old (L.left log.old) m
+        → IfOk result
         (λ n. At R.mode limits engine.new (L.left log.new) (after (Some (ask.Take n)) m)) }
     ensures some { (limits : Limits) (m : Moment) → At R.mode limits engine.old (L.left log.old) m
         → IfOk result (λ n. IsPart n m.log) }
@@ -28,7 +30,8 @@ fn take_piece<R: Reducer, L: Source>(
         → IfErr result (IsDue (Stops limits (after (Some (ask.Take (length buf.old))) m).history)) }
     ensures causes { IfErr result
         (HasCauses (Rose (L.faults log.old) (L.faults log.new) (L.spent log.new)) ⊥) }
-    ensures counts { GoesUp (L.faults log.old) (L.faults log.new) (L.spent log.old) (L.spent log.new) }
+    ensures counts { GoesUp
+        (L.faults log.old) (L.faults log.new) (L.spent log.old) (L.spent log.new) }
 {
     stops_stay();
     let count = match log.read(buf) {
@@ -41,7 +44,8 @@ fn take_piece<R: Reducer, L: Source>(
     }
 }
 
-/// Takes the next `most` bytes of the log, or what is left, and says how many they were. Each read fills at most the buffer.
+/// Takes the next `most` bytes of the log, or what is left, and says how many they were. Each read
+/// takes at most as many as the buffer holds.
 pub fn take_log<R: Reducer, L: Source>(
     engine: &mut Ingest<R, VecRows>,
     log: &mut L,
@@ -49,7 +53,8 @@ pub fn take_log<R: Reducer, L: Source>(
     most: u64,
 ) -> Result<u64, Halt>
     requires { 0 < length buf.old }
-    ensures took { (limits : Limits) (m : Moment) → At R.mode limits engine.old (L.left log.old) m → IfOk result
+    ensures took { (limits : Limits) (m : Moment) → At R.mode limits engine.old (L.left log.old) m
+        → IfOk result
         (λ _. At R.mode limits engine.new (L.left log.new) (after (Some (ask.Take most)) m)) }
     ensures count { (limits : Limits) (m : Moment) → At R.mode limits engine.old (L.left log.old) m
         → IfOk result (λ n. n ≡ length (take most m.log)) }
@@ -57,7 +62,8 @@ pub fn take_log<R: Reducer, L: Source>(
         → IfErr result (IsDue (Stops limits (after (Some (ask.Take most)) m).history)) }
     ensures causes { IfErr result
         (HasCauses (Rose (L.faults log.old) (L.faults log.new) (L.spent log.new)) ⊥) }
-    ensures counts { GoesUp (L.faults log.old) (L.faults log.new) (L.spent log.old) (L.spent log.new) }
+    ensures counts { GoesUp
+        (L.faults log.old) (L.faults log.new) (L.spent log.old) (L.spent log.new) }
 {
     stops_stay();
     let mut count: u64 = 0;

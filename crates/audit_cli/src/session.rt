@@ -9,8 +9,8 @@ use std::alloc::Global;
 /// The most bytes of one read.
 pub const PIECE: usize = 65_536;
 
-/// An engine that answers, and the buffer of each read of its log. The buffer is made once a run, so that its memory can be
-/// refused, and no question takes more.
+/// An engine that answers, and the buffer for each read of its log. The buffer is allocated once a
+/// run, in memory that can be refused, and no question allocates another.
 #[derive(Drop)]
 pub struct Session<R: Reducer> {
     pub alloc: Global,

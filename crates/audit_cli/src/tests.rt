@@ -36,6 +36,30 @@ const UNCLOSED: &[u8] =
 const FILE: &[u8] =
     b"type=PATH msg=audit(1.000:1): item=0 name=\"/f7\" inode=7 dev=08:01 nametype=NORMAL\n";
 
+// A change of a file whose name is coded in hex digits, and a name of an odd number of them.
+const CODED: &[&[u8]] = &[
+    b"type=SYSCALL msg=audit(1.000:1): arch=c000003e syscall=90 success=yes exit=0 a0=0 a1=0 a2=0 a3=0 items=0 ppid=1 pid=100 comm=\"p\" exe=\"/p\"\n",
+    b"type=PATH msg=audit(1.000:1): item=0 name=2F746D702F6120622E747874 inode=7 dev=08:01 nametype=NORMAL\n",
+    b"type=PATH msg=audit(1.000:1): item=1 name=2F7 nametype=NORMAL\n",
+    b"type=EOE msg=audit(1.000:1): \n",
+];
+
+// Process 100 opens file 7, copies its descriptor, executes file 8, reads its descriptors 3 and 9, and connects and writes to
+// an address.
+const DESCRIPTORS: &[&[u8]] = &[
+    b"type=SYSCALL msg=audit(1.000:1): arch=c000003e syscall=257 success=yes exit=3 a0=ffffff9c a1=0 a2=80000 a3=0 items=0 ppid=1 pid=100 comm=\"p\" exe=\"/p\"\n",
+    b"type=PATH msg=audit(1.000:1): item=0 name=\"/f7\" inode=7 dev=08:01 nametype=NORMAL\n",
+    b"type=SYSCALL msg=audit(1.001:2): arch=c000003e syscall=33 success=yes exit=9 a0=3 a1=9 a2=0 a3=0 items=0 ppid=1 pid=100 comm=\"p\" exe=\"/p\"\n",
+    b"type=SYSCALL msg=audit(1.002:3): arch=c000003e syscall=59 success=yes exit=0 a0=0 a1=0 a2=0 a3=0 items=0 ppid=1 pid=100 comm=\"p\" exe=\"/p\"\n",
+    b"type=PATH msg=audit(1.002:3): item=0 name=\"/f8\" inode=8 dev=08:01 nametype=NORMAL\n",
+    b"type=SYSCALL msg=audit(1.003:4): arch=c000003e syscall=0 success=yes exit=1 a0=3 a1=0 a2=1 a3=0 items=0 ppid=1 pid=100 comm=\"p\" exe=\"/p\"\n",
+    b"type=SYSCALL msg=audit(1.004:5): arch=c000003e syscall=0 success=yes exit=1 a0=9 a1=0 a2=1 a3=0 items=0 ppid=1 pid=100 comm=\"p\" exe=\"/p\"\n",
+    b"type=SYSCALL msg=audit(1.005:6): arch=c000003e syscall=41 success=yes exit=4 a0=2 a1=1 a2=0 a3=0 items=0 ppid=1 pid=100 comm=\"p\" exe=\"/p\"\n",
+    b"type=SYSCALL msg=audit(1.006:7): arch=c000003e syscall=42 success=no exit=-115 a0=4 a1=0 a2=10 a3=0 items=0 ppid=1 pid=100 comm=\"p\" exe=\"/p\"\n",
+    b"type=SOCKADDR msg=audit(1.006:7): saddr=020001BBC00002010000000000000000\n",
+    b"type=SYSCALL msg=audit(1.007:8): arch=c000003e syscall=1 success=yes exit=1 a0=4 a1=0 a2=1 a3=0 items=0 ppid=1 pid=100 comm=\"p\" exe=\"/p\"\n",
+];
+
 const UNKNOWN: &[u8] = b"{\"error\":\"Unknown\"}\n";
 
 const REACHED: &[u8] = b"{\"back\":2,\"ids\":[0,1,2]}\n";
@@ -255,6 +279,35 @@ fn questions_are_answered_at_their_moment(rt: HostRuntime) -> Result<(), Fail> {
         let (ended, written) = run(&rt, &Limits::standard(), "watch plain log", log, asked)?;
         assert_eq!(rt; ended, Status::Done);
         assert_eq!(rt; written.as_slice(), text);
+    }
+    Ok(())
+}
+
+#[test]
+fn objects_are_found_and_shown_and_paths_are_named(rt: HostRuntime) -> Result<(), Fail> {
+    let rows = [
+        (
+            [FORK, WRITE, FEED].as_slice(),
+            b"show 0\nshow 2\n".as_slice(),
+            b"{\"is\":\"process 100 0\",\"names\":[\"/p\"],\"show\":0}\n{\"is\":\"lost 101 0 1\",\"names\":[],\"show\":2}\n".as_slice(),
+        ),
+        (
+            CODED,
+            b"find /tmp/a b.txt\n".as_slice(),
+            b"{\"find\":\"/tmp/a b.txt\",\"ids\":[1]}\n".as_slice(),
+        ),
+        (
+            DESCRIPTORS,
+            b"back 4\nshow 2\nshow 3\nshow 4\nwhy 0 4\nwhy 4 0\nwhy 2 4 1.006\n".as_slice(),
+            b"{\"back\":4,\"ids\":[0,1,2,3,4]}\n{\"is\":\"lost 100 0 3\",\"names\":[],\"show\":2}\n{\"is\":\"file 08:01 7 0\",\"names\":[\"/f7\"],\"show\":3}\n{\"is\":\"address 192.0.2.1:443\",\"names\":[\"192.0.2.1:443\"],\"show\":4}\n{\"from\":0,\"path\":[{\"at\":\"1.002\",\"from\":0,\"how\":\"exec\",\"serial\":3,\"to\":1},{\"at\":\"1.007\",\"from\":1,\"how\":\"write\",\"serial\":8,\"to\":4}],\"to\":4}\n{\"from\":4,\"path\":null,\"to\":0}\n{\"from\":2,\"path\":null,\"to\":4}\n".as_slice(),
+        ),
+    ];
+    for (lines, asked, text) in rows {
+        let log = joined(&rt, lines)?;
+        let asked = joined(&rt, &[b"take 5000\nsettle\n".as_slice(), asked])?;
+        let (ended, written) = run(&rt, &Limits::standard(), "watch plain log", log, asked)?;
+        assert_eq!(rt; ended, Status::Done);
+        assert!(rt; written.as_slice().ends_with(text));
     }
     Ok(())
 }

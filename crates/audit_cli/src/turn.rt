@@ -56,8 +56,8 @@ fn settle<R: Reducer>(engine: &mut Ingest<R, VecRows>) -> Result<Reply, Halt>
     }
 }
 
-// The engine's reply to what is asked about what was taken. Rows in memory have no faults of their own, so it can only
-// fail to allocate.
+// The engine's reply to what is asked about what was taken. Rows in memory have no faults of their
+// own, so it can only fail to allocate.
 fn reply_of<R: Reducer>(engine: &mut Ingest<R, VecRows>, ask: &Ask<'_>) -> Result<Reply, Halt>
     requires asks { IsQuestion ask.now }
     ensures reply { IfOk result (λ reply. (limits : Limits) (h : History)
@@ -82,7 +82,8 @@ pub fn answer<R: Reducer, L: Source>(
 ) -> Result<Reply, Halt>
     ensures moves { (limits : Limits) (m : Moment)
         → At R.mode limits session.old.engine (L.left log.old) m
-        → OnOk result (At R.mode limits session.new.engine (L.left log.new) (after question.now m)) }
+        → OnOk result
+        (At R.mode limits session.new.engine (L.left log.new) (after question.now m)) }
     ensures answers { (limits : Limits) (m : Moment)
         → At R.mode limits session.old.engine (L.left log.old) m
         → IfOk result (Answers limits question.now m) }
@@ -91,7 +92,8 @@ pub fn answer<R: Reducer, L: Source>(
         → IfErr result (IsDue (Stops limits (after question.now m).history)) }
     ensures causes { IfErr result
         (HasCauses (Rose (L.faults log.old) (L.faults log.new) (L.spent log.new)) ⊥) }
-    ensures counts { GoesUp (L.faults log.old) (L.faults log.new) (L.spent log.old) (L.spent log.new) }
+    ensures counts { GoesUp
+        (L.faults log.old) (L.faults log.new) (L.spent log.old) (L.spent log.new) }
 {
     match question {
         None => Ok(Reply::BadQuestion),
@@ -112,11 +114,15 @@ pub fn answer<R: Reducer, L: Source>(
 
 /// Writes a reply.
 pub fn say<O: Sink>(alloc: Global, out: &mut O, reply: &Reply) -> Result<(), Halt>
-    ensures said { OnOk result (Appends (O.written out.old) (O.written out.new) (text_of reply.now)) }
-    ensures cut { OnErr result ((done : ℕ) × Appends (O.written out.old) (O.written out.new) (take done (text_of reply.now))) }
-    ensures causes { IfErr result (HasCauses ⊥ (Rose (O.faults out.old) (O.faults out.new) (O.spent out.new))) }
+    ensures said { OnOk result
+        (Appends (O.written out.old) (O.written out.new) (text_of reply.now)) }
+    ensures cut { OnErr result ((done : ℕ)
+        × Appends (O.written out.old) (O.written out.new) (take done (text_of reply.now))) }
+    ensures causes { IfErr result
+        (HasCauses ⊥ (Rose (O.faults out.old) (O.faults out.new) (O.spent out.new))) }
     ensures due { IfErr result (IsDue never) }
-    ensures counts { GoesUp (O.faults out.old) (O.faults out.new) (O.spent out.old) (O.spent out.new) }
+    ensures counts { GoesUp
+        (O.faults out.old) (O.faults out.new) (O.spent out.old) (O.spent out.new) }
 {
     let text = reply_text(alloc, reply)?;
     match put_all(out, text.as_slice()) {
