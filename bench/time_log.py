@@ -1,13 +1,12 @@
 #!/usr/bin/env python3
 """Times the built program on logs of three sizes, beside grep -c and ausearch --raw on the same files in the same run.
 
-    bench/time_log.py [--seed N] [--sizes 10,30,100] [--modes plain,continuous] [--asked 100] [--trial EVENTS]
-                      [--program ./crates/audit_cli/out/audit_cli]
+    bench/time_log.py [--seed N] [--sizes 10,30,100] [--modes plain,continuous] [--asked 100] [--program ./crates/audit_cli/out/audit_cli]
 
 Each log comes from make_log.py, by the number that --seed names. In each mode the program takes the whole log and settles; then it is asked
 `back`, `fore`, `why`, `show` and `find` about random objects, `find` for a name that such an object has. Printed are the machine, megabytes a
 second, the peak of memory, the rows kept, the median and the 95th of a hundred of each question's time from its line to its reply, and the
-exponent between the smallest and the largest log. With --trial the program also runs `trial SEED EVENTS`. ausearch is Debian's package auditd.
+exponent between the smallest and the largest log. ausearch is Debian's package auditd.
 """
 import argparse, json, math, os, platform, random, resource, subprocess, sys, tempfile, time
 
@@ -70,7 +69,6 @@ def main():
     parser.add_argument('--sizes', default='10,30,100')
     parser.add_argument('--modes', default='plain,continuous')
     parser.add_argument('--asked', type=int, default=100)
-    parser.add_argument('--trial', type=int)
     parser.add_argument('--program', default=os.path.join(HERE, '..', 'crates', 'audit_cli', 'out', 'audit_cli'))
     options = parser.parse_args()
     program, modes = os.path.abspath(options.program), options.modes.split(',')
@@ -94,9 +92,6 @@ def main():
                       f'{stat["kept"]} rows of {stat["flows"]} flows ({100 * stat["kept"] / max(stat["flows"], 1):.0f}%), {stat["known"]} objects')
                 for way, times in (ask(words, options.asked, options.seed) if options.asked else {}).items():
                     print(f'  {mode:10}  {way}: median {1000 * times[len(times) // 2]:.2f} ms, 95th of 100 {1000 * times[len(times) * 95 // 100]:.2f} ms')
-    if options.trial:
-        seconds, peak, out = run([program, 'trial', str(options.seed), str(options.trial)])
-        print(f'trial {options.seed} {options.trial}: {seconds:.2f} s, peak {peak:.1f} MB: {" ".join(out.decode().split())}')
     for mode, points in taken.items():
         if len(points) > 1:
             (small, first), (large, last) = points[0], points[-1]
