@@ -27,6 +27,9 @@ says_so kind known flows (question.Back of until) (reply.Sources named ids) belo
 says_so kind known flows (question.Back of until) (reply.Fore named ids) below may says = absurd says
 says_so kind known flows (question.Back of until) (reply.Take count) below may says = absurd says
 says_so kind known flows (question.Back of until) (reply.Settle count) below may says = absurd says
+says_so kind known flows (question.Back of until) (reply.Why from to path) below may says = absurd says
+says_so kind known flows (question.Back of until) (reply.Find text ids) below may says = absurd says
+says_so kind known flows (question.Back of until) (reply.Show id key names) below may says = absurd says
 says_so kind known flows (question.Back of until) (reply.Stat counts) below may says = absurd says
 says_so kind known flows (question.Back of until) reply.End below may says = absurd says
 says_so kind known flows (question.Back of until) reply.BadQuestion below may says = absurd says
@@ -37,6 +40,9 @@ says_so kind known flows (question.Fore of since) (reply.Sources named ids) belo
 says_so kind known flows (question.Fore of since) (reply.Fore named ids) below may says = (below, may, says)
 says_so kind known flows (question.Fore of since) (reply.Take count) below may says = absurd says
 says_so kind known flows (question.Fore of since) (reply.Settle count) below may says = absurd says
+says_so kind known flows (question.Fore of since) (reply.Why from to path) below may says = absurd says
+says_so kind known flows (question.Fore of since) (reply.Find text ids) below may says = absurd says
+says_so kind known flows (question.Fore of since) (reply.Show id key names) below may says = absurd says
 says_so kind known flows (question.Fore of since) (reply.Stat counts) below may says = absurd says
 says_so kind known flows (question.Fore of since) reply.End below may says = absurd says
 says_so kind known flows (question.Fore of since) reply.BadQuestion below may says = absurd says
@@ -54,7 +60,7 @@ so_many kept kind flows n mode count stands =
 abbrev pub AnswersIn : Mode → Limits → List Event → Question → Reply → Type 0
 AnswersIn kind limits released asked said = AnswersQuestion kind (length (objects_in limits released)) (flows_in limits released) asked said
 
-module _ (kind : Mode) (limits : Limits) (joined : Joined) (s : Joining) (released : List Event) (asked : Question) (stands : JoinedStandsFor limits joined s released) where
+module _ {K : Type 0} (kind : Mode) (limits : Limits) (joined : Joined K) (s : Joining) (released : List Event) (asked : Question) (stands : JoinedStandsFor limits joined s released) where
   count_is : length joined.tables.entities.keys ≡ length (objects_in limits released)
   count_is = ap length stands.tables.objects_are
 

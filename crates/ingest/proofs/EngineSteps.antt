@@ -21,12 +21,13 @@ use Rattle.ingest.specs.Events.{lines_since, line_tells, lines_tell, tells_at, t
 use Rattle.ingest.specs.LineRecords.{record_by, record_of}
 use Rattle.ingest.specs.Owing.{MayOwe, NextPasses, IsOwed, OwesFor, Halts}
 use Rattle.ingest.specs.Parts.{Reader, Joined, Engine}
-use Rattle.ingest.specs.StandsFor.{ReaderStandsFor, JoinedStandsFor, StandsFor}
+use Rattle.ingest.specs.StandsFor.{ReaderStandsFor, JoinedStandsFor, StandsFor, HasNoTail}
 use Rattle.ingest.specs.Stops.{Fits, Stops, StopsAmong, StopsFor, full_of}
 use Rattle.ingest.specs.declared.stop.Stop.{Stop}
 use Rattle.ingest.specs.declared.stop.StopWhy.{StopWhy}
 use Rattle.ingest.specs.declared.stop.StopWhy.TheVariants as why
 use Rattle.ingest.proofs.Bytes.{bytes_more, bytes_settled}
+use Rattle.ingest.proofs.Clocking.{clock_so}
 use Rattle.ingest.proofs.Closing.{released_closed, left_when_closed}
 use Rattle.ingest.proofs.FewEvents.{few_events, few_records, records_in, records_append, releases_hold}
 use Rattle.ingest.proofs.Limiting.{fit_so, fewer_fit, events_fit}
@@ -142,15 +143,15 @@ module _ (limits : Limits) where
   -- ---- standing and owing
 
   -- the joined stands for a longer history
-  joined_to : (joined : Joined) (s t : Joining) (xs ys : List Event) → t ≡ s → ys ≡ xs → JoinedStandsFor limits joined s xs → JoinedStandsFor limits joined t ys
+  joined_to : {K : Type 0} (joined : Joined K) (s t : Joining) (xs ys : List Event) → t ≡ s → ys ≡ xs → JoinedStandsFor limits joined s xs → JoinedStandsFor limits joined t ys
   joined_to joined s t xs ys e f stands =
       subst (λ (u : Joining). JoinedStandsFor limits joined u ys) (sym e) (subst (λ (l : List Event). JoinedStandsFor limits joined s l) (sym f) stands)
 
-  engine_at : (engine : Engine) (h : History) → ReaderStandsFor limits engine.reader h → JoinedStandsFor limits engine.joined (state_of limits h) (events_of limits h) → bytes_in h ≤ limits.input → StandsFor limits engine h
+  engine_at : {K : Type 0} (engine : Engine K) (h : History) → ReaderStandsFor limits engine.reader h → JoinedStandsFor limits engine.joined (state_of limits h) (events_of limits h) → bytes_in h ≤ limits.input → StandsFor limits engine h
   engine_at engine h reader joined within = record { reader = reader; joined = joined; fits = fit_so limits h within joined.fits }
 
   -- where no event came, nothing is owed
-  abbrev pub owes_nothing : (engine : Engine) (h g : History) → ReaderStandsFor limits engine.reader g → JoinedStandsFor limits engine.joined (state_of limits h) (events_of limits h)
+  abbrev pub owes_nothing : {K : Type 0} (engine : Engine K) (h g : History) → ReaderStandsFor limits engine.reader g → JoinedStandsFor limits engine.joined (state_of limits h) (events_of limits h)
       → events_of limits g ≡ events_of limits h → state_of limits g ≡ state_of limits h → bytes_in g ≤ limits.input → MayOwe limits engine g
   owes_nothing engine h g reader joined same left within = record {
     reader = reader;
@@ -159,17 +160,18 @@ module _ (limits : Limits) where
     joined = joined;
     events_are = same ∙ sym (ap (λ (l : List Event). events_of limits h ++ l) (nothing_released h) ∙ append-nil (events_of limits h));
     left_is = left ∙ sym (nothing_left h);
+    clock = clock_so limits engine.joined g (state_of limits h) (events_of limits h) joined (left ∙ sym (nothing_left h));
     within = within;
   }
 
-  abbrev pub at_rest : (engine : Engine) (h : History) → StandsFor limits engine h → MayOwe limits engine h
+  abbrev pub at_rest : {K : Type 0} (engine : Engine K) (h : History) → StandsFor limits engine h → MayOwe limits engine h
   at_rest engine h stands = owes_nothing engine h h stands.reader stands.joined refl refl stands.fits.input
 
   -- few enough records for the counts
   pub few_excess : (h : History) → Fits limits h → (state_of limits h).excess < 2 ^ 61
   few_excess h fits = omega (arith, few_events limits h, fits.input, limits.input_within)
 
-  few_owed : (engine : Engine) (h : History) (w : MayOwe limits engine h) → length w.done + length w.rest.waiting ≤ 2 ^ 61
+  few_owed : {K : Type 0} (engine : Engine K) (h : History) (w : MayOwe limits engine h) → length w.done + length w.rest.waiting ≤ 2 ^ 61
   few_owed engine h w =
       let long : length (events_of limits h) ≡ length w.done + length (released_after limits w.rest) = ap length w.events_are ∙ length-append w.done (released_after limits w.rest) in
       let all : records_in (events_of limits h) ≡ records_in w.done + records_in (released_after limits w.rest) = ap records_in w.events_are ∙ records_append w.done (released_after limits w.rest) in
@@ -178,7 +180,7 @@ module _ (limits : Limits) where
 
   -- ---- a line that has ended
 
-  pub line_came : (engine : Engine) (h : History) (part : List ℕ) (item : Record) → position_or_len (is_byte 10) part ≡ length part
+  pub line_came : {K : Type 0} (engine : Engine K) (h : History) (part : List ℕ) (item : Record) → position_or_len (is_byte 10) part ≡ length part
       → bytes_in h + (length part + 1) ≤ limits.input → Some item ≡ record_of limits.line (tail_of h ++ part)
       → ReaderStandsFor limits engine.reader (with_bytes h (part ++ 10 ∷ [])) → JoinedStandsFor limits engine.joined (enter limits (state_of limits h) item) (events_of limits h)
       → MayOwe limits engine (with_bytes h (part ++ 10 ∷ []))
@@ -192,10 +194,11 @@ module _ (limits : Limits) where
         joined = joined;
         events_are = events_came h more item tells;
         left_is = state_came h more item tells;
+        clock = clock_so limits engine.joined (h ++ more) (enter limits (state_of limits h) item) (events_of limits h) joined (state_came h more item tells);
         within = omega (arith, bytes_more h (part ++ 10 ∷ []), length-append part (10 ∷ []), room);
       }
 
-  pub line_passed : (engine : Engine) (h : History) (part : List ℕ) → position_or_len (is_byte 10) part ≡ length part
+  pub line_passed : {K : Type 0} (engine : Engine K) (h : History) (part : List ℕ) → position_or_len (is_byte 10) part ≡ length part
       → bytes_in h + (length part + 1) ≤ limits.input → None ≡ record_of limits.line (tail_of h ++ part)
       → ReaderStandsFor limits engine.reader (with_bytes h (part ++ 10 ∷ [])) → JoinedStandsFor limits engine.joined (state_of limits h) (events_of limits h)
       → MayOwe limits engine (with_bytes h (part ++ 10 ∷ []))
@@ -206,7 +209,7 @@ module _ (limits : Limits) where
       (omega (arith, bytes_more h (part ++ 10 ∷ []), length-append part (10 ∷ []), room))
 
   -- bytes that end no line
-  pub part_held : (engine : Engine) (h : History) (part : List ℕ) → position_or_len (is_byte 10) part ≡ length part → bytes_in h + length part ≤ limits.input
+  pub part_held : {K : Type 0} (engine : Engine K) (h : History) (part : List ℕ) → position_or_len (is_byte 10) part ≡ length part → bytes_in h + length part ≤ limits.input
       → ReaderStandsFor limits engine.reader (with_bytes h part) → JoinedStandsFor limits engine.joined (state_of limits h) (events_of limits h)
       → StandsFor limits engine (with_bytes h part)
   part_held engine h part none room reader joined =
@@ -217,7 +220,7 @@ module _ (limits : Limits) where
 
   -- ---- the last line
 
-  pub last_came : (engine : Engine) (h : History) (item : Record) → Some item ≡ record_of limits.line (tail_of h) → ReaderStandsFor limits engine.reader (h ++ Settle ∷ [])
+  pub last_came : {K : Type 0} (engine : Engine K) (h : History) (item : Record) → Some item ≡ record_of limits.line (tail_of h) → ReaderStandsFor limits engine.reader (h ++ Settle ∷ [])
       → JoinedStandsFor limits engine.joined (enter limits (state_of limits h) item) (events_of limits h) → EndsLast limits engine h
   last_came engine h item is reader joined =
       let tells = settle_told h (Some item) (sym is) in
@@ -229,7 +232,7 @@ module _ (limits : Limits) where
         left_is = state_ended h item tells;
       }
 
-  pub last_passed : (engine : Engine) (h : History) → None ≡ record_of limits.line (tail_of h) → ReaderStandsFor limits engine.reader (h ++ Settle ∷ [])
+  pub last_passed : {K : Type 0} (engine : Engine K) (h : History) → None ≡ record_of limits.line (tail_of h) → ReaderStandsFor limits engine.reader (h ++ Settle ∷ [])
       → JoinedStandsFor limits engine.joined (state_of limits h) (events_of limits h) → EndsLast limits engine h
   last_passed engine h is reader joined =
       let tells = settle_told h None (sym is) in
@@ -242,7 +245,7 @@ module _ (limits : Limits) where
       }
 
   -- all is closed, and its events are owed
-  pub closed_owes : (reader : Reader) (before after : Joined) (h : History) → bytes_in h ≤ limits.input → EndsLast limits (record { reader = reader; joined = before }) h
+  pub closed_owes : {K : Type 0} (reader : Reader) (before after : Joined K) (h : History) → bytes_in h ≤ limits.input → EndsLast limits (record { reader = reader; joined = before }) h
       → ((s : Joining) (released : List Event) → JoinedStandsFor limits before s released → JoinedStandsFor limits after (settled s) released)
       → MayOwe limits (record { reader = reader; joined = after }) (h ++ Settle ∷ [])
   closed_owes reader before after h within last closes = record {
@@ -252,12 +255,13 @@ module _ (limits : Limits) where
     joined = closes last.rest (events_of limits h) last.joined;
     events_are = last.events_are;
     left_is = last.left_is;
+    clock = clock_so limits after (h ++ Settle ∷ []) (settled last.rest) (events_of limits h) (closes last.rest (events_of limits h) last.joined) last.left_is;
     within = omega (arith, bytes_settled h, within);
   }
 
   -- ---- releases
 
-  pub all_released : (reader : Reader) (before after : Joined) (h : History) → MayOwe limits (record { reader = reader; joined = before }) h
+  pub all_released : {K : Type 0} (reader : Reader) (before after : Joined K) (h : History) → MayOwe limits (record { reader = reader; joined = before }) h
       → ((s : Joining) (released : List Event) → JoinedStandsFor limits before s released → length released + length s.waiting ≤ 2 ^ 61 → JoinedStandsFor limits after (left_after limits s) (released ++ released_after limits s))
       → StandsFor limits (record { reader = reader; joined = after }) h
   all_released reader before after h w releases =
@@ -265,7 +269,7 @@ module _ (limits : Limits) where
       (joined_to after _ _ _ _ w.left_is w.events_are (releases w.rest w.done w.joined (few_owed (record { reader = reader; joined = before }) h w)))
       w.within
 
-  pub still_owes : (reader : Reader) (before after : Joined) (h : History) (cause : StopWhy) → MayOwe limits (record { reader = reader; joined = before }) h
+  pub still_owes : {K : Type 0} (reader : Reader) (before after : Joined K) (h : History) (cause : StopWhy) → MayOwe limits (record { reader = reader; joined = before }) h
       → ((s : Joining) (released : List Event) → JoinedStandsFor limits before s released → length released + length s.waiting ≤ 2 ^ 61 → IsOwed limits after s released cause)
       → OwesFor limits (record { reader = reader; joined = after }) h cause
   still_owes reader before after h cause w releases =
@@ -278,15 +282,29 @@ module _ (limits : Limits) where
           joined = owed.stands;
           events_are = w.events_are ∙ ap (λ (l : List Event). w.done ++ l) owed.done_is ∙ sym (append_assoc w.done owed.done (released_after limits owed.rest));
           left_is = w.left_is ∙ owed.left_is;
+          clock = clock_so limits after h owed.rest (w.done ++ owed.done) owed.stands (w.left_is ∙ owed.left_is);
           within = w.within;
         };
         by = owed.by;
       }
 
+  -- what was refused at a release was owed before it
+  pub owed_some : {K : Type 0} (own old : Engine K) (after : Joined K) (h : History) (cause : StopWhy) (w : MayOwe limits old h) → own ≡ old
+      → ((s : Joining) (released : List Event) → JoinedStandsFor limits own.joined s released → length released + length s.waiting ≤ 2 ^ 61 → IsOwed limits after s released cause)
+      → length w.done < length (events_of limits h)
+  owed_some {K} own old after h cause w is releases =
+      let owed = releases w.rest w.done (subst (λ (e : Engine K). JoinedStandsFor limits e.joined w.rest w.done) (sym is) w.joined) (few_owed old h w) in
+      let later = released_after limits (next_left limits owed.rest) in
+      let first : released_after limits owed.rest ≡ owed.some.0 ∷ later =
+      one_release limits owed.rest ∙ ap (λ (o : Option Event). option_to_list o ++ later) owed.some.1 in
+      let all : length (events_of limits h) ≡ length w.done + length (released_after limits w.rest) = ap length w.events_are ∙ length-append w.done (released_after limits w.rest) in
+      let rest : length (released_after limits w.rest) ≡ length owed.done + length (released_after limits owed.rest) = ap length owed.done_is ∙ length-append owed.done (released_after limits owed.rest) in
+      omega (arith, all, rest, ap length first)
+
   -- ---- stops
 
   -- the event that passes a limit, among all events of the history
-  passing_is : (engine : Engine) (h : History) (full : Full) (w : MayOwe limits engine h) (passes : NextPasses limits w.rest w.done full)
+  passing_is : {K : Type 0} (engine : Engine K) (h : History) (full : Full) (w : MayOwe limits engine h) (passes : NextPasses limits w.rest w.done full)
       → events_of limits h ≡ w.done ++ passes.0 ∷ released_after limits (next_left limits w.rest)
   passing_is engine h full w passes =
       w.events_are
@@ -294,7 +312,7 @@ module _ (limits : Limits) where
       ∙ ap (λ (o : Option Event). w.done ++ (option_to_list o ++ released_after limits (next_left limits w.rest))) passes.1
 
   -- no event of a history that passes no limit passes one
-  pub none_passes : (engine : Engine) (h : History) (full : Full) → Fits limits h → (w : MayOwe limits engine h) → NextPasses limits w.rest w.done full → ⊥
+  pub none_passes : {K : Type 0} (engine : Engine K) (h : History) (full : Full) → Fits limits h → (w : MayOwe limits engine h) → NextPasses limits w.rest w.done full → ⊥
   none_passes engine h full fits w passes =
       let after = released_after limits (next_left limits w.rest) in
       let whole : events_of limits h ≡ (w.done ++ passes.0 ∷ []) ++ after = passing_is engine h full w passes ∙ sym (append_assoc w.done (passes.0 ∷ []) after) in
@@ -314,7 +332,7 @@ module _ (limits : Limits) where
       absurd (none_some (full_of limits (done ++ event ∷ [])) full (fewer_fit limits (done ++ event ∷ []) d (ap (full_of limits) (sym xs_is) ∙ none)) passes)
 
   -- the step that owes an event that would pass a limit stops there
-  pub owes_stops : (engine : Engine) (front : History) (step : Step) (full : Full) → Fits limits front → (w : MayOwe limits engine (front ++ step ∷ [])) → NextPasses limits w.rest w.done full
+  pub owes_stops : {K : Type 0} (engine : Engine K) (front : History) (step : Step) (full : Full) → Fits limits front → (w : MayOwe limits engine (front ++ step ∷ [])) → NextPasses limits w.rest w.done full
       → Stops limits (front ++ step ∷ []) full
   owes_stops engine front step full fits w passes =
       let after = released_after limits (next_left limits w.rest) in
@@ -339,15 +357,15 @@ module _ (limits : Limits) where
 
 -- a cause that is a limit
 module _ (limits : Limits) where
-  pub settle_full : (engine : Engine) (h : History) (full : Full) → Fits limits h → OwesFor limits engine (h ++ Settle ∷ []) (why.Full full) → Stops limits (h ++ Settle ∷ []) full
+  pub settle_full : {K : Type 0} (engine : Engine K) (h : History) (full : Full) → Fits limits h → OwesFor limits engine (h ++ Settle ∷ []) (why.Full full) → Stops limits (h ++ Settle ∷ []) full
   settle_full engine h full fits owes = owes_stops limits engine h Settle full fits owes.stands owes.by
 
-  pub never_full : (engine : Engine) (h : History) (cause : StopWhy) (full : Full) → cause ≡ why.Full full → Fits limits h → OwesFor limits engine h cause → ⊥
+  pub never_full : {K : Type 0} (engine : Engine K) (h : History) (cause : StopWhy) (full : Full) → cause ≡ why.Full full → Fits limits h → OwesFor limits engine h cause → ⊥
   never_full engine h cause full is fits owes =
       let own = subst (λ (c : StopWhy). OwesFor limits engine h c) is owes in
       none_passes limits engine h full fits own.stands own.by
 
-abbrev pub engine_of : Reader → Joined → Engine
+abbrev pub engine_of : {K : Type 0} → Reader → Joined K → Engine K
 engine_of reader joined = record { reader = reader; joined = joined }
 
 -- what ending a line that isn't used does to the reader
@@ -358,36 +376,40 @@ abbrev pub SettlesOther : Reader → Reader → Type 0
 SettlesOther old new = (limits : Limits) (h : History) → ReaderStandsFor limits old h → record_of limits.line (tail_of h) ≡ None → ReaderStandsFor limits new (h ++ Settle ∷ [])
 
 -- a piece is taken, or it stops
-abbrev pub Takes : Engine → Engine → List ℕ → Type 0
+abbrev pub Takes : {K : Type 0} → Engine K → Engine K → List ℕ → Type 0
 Takes old new piece = (limits : Limits) (h : History) → StandsFor limits old h → StandsFor limits new (with_bytes h piece)
 
-abbrev pub StopsIn : Engine → List ℕ → Stop → Type 0
+abbrev pub StopsIn : {K : Type 0} → Engine K → List ℕ → Stop → Type 0
 StopsIn old piece stop = (limits : Limits) (h : History) → StandsFor limits old h → StopsFor limits h piece stop
 
-abbrev pub HaltsIn : Engine → Engine → List ℕ → Stop → Type 0
+abbrev pub HaltsIn : {K : Type 0} → Engine K → Engine K → List ℕ → Stop → Type 0
 HaltsIn old new piece stop = (limits : Limits) (h : History) → StandsFor limits old h → Halts limits new h piece stop
 
 -- all that is ripe is released, or some of it is owed
-abbrev pub Releases : Joined → Joined → Type 0
+abbrev pub Releases : {K : Type 0} → Joined K → Joined K → Type 0
 Releases old new = (limits : Limits) (s : Joining) (released : List Event) → JoinedStandsFor limits old s released → length released + length s.waiting ≤ 2 ^ 61
     → JoinedStandsFor limits new (left_after limits s) (released ++ released_after limits s)
 
-abbrev pub OwesSome : Joined → Joined → StopWhy → Type 0
+abbrev pub OwesSome : {K : Type 0} → Joined K → Joined K → StopWhy → Type 0
 OwesSome old new cause = (limits : Limits) (s : Joining) (released : List Event) → JoinedStandsFor limits old s released → length released + length s.waiting ≤ 2 ^ 61
     → IsOwed limits new s released cause
 
 -- ---- the engine's own fields
 
-pub engine_own : (limits : Limits) (old seen : Engine) (h : History) → old ≡ seen → StandsFor limits seen h → StandsFor limits old h
-engine_own limits old seen h is stands = subst (λ (e : Engine). StandsFor limits e h) (sym is) stands
+pub engine_own : {K : Type 0} (limits : Limits) (old seen : Engine K) (h : History) → old ≡ seen → StandsFor limits seen h → StandsFor limits old h
+engine_own {K} limits old seen h is stands = subst (λ (e : Engine K). StandsFor limits e h) (sym is) stands
 
-pub owes_own : (limits : Limits) (old seen : Engine) (h : History) → old ≡ seen → MayOwe limits seen h → MayOwe limits old h
-owes_own limits old seen h is owes = subst (λ (e : Engine). MayOwe limits e h) (sym is) owes
+pub owes_own : {K : Type 0} (limits : Limits) (old seen : Engine K) (h : History) → old ≡ seen → MayOwe limits seen h → MayOwe limits old h
+owes_own {K} limits old seen h is owes = subst (λ (e : Engine K). MayOwe limits e h) (sym is) owes
 
 pub room_so : (limits : Limits) (reader : Reader) (h : History) (n : ℕ) → ReaderStandsFor limits reader h → reader.bytes + n ≤ reader.limits.input → bytes_in h + n ≤ limits.input
 room_so limits reader h n stands room =
     let most : reader.limits.input ≡ limits.input = ap (λ (l : Limits). l.input) stands.limits_are in
     omega (arith, stands.bytes, room, most)
 
-pub ends_own : (limits : Limits) (old seen : Engine) (h : History) → old ≡ seen → EndsLast limits seen h → EndsLast limits old h
-ends_own limits old seen h is ends = subst (λ (e : Engine). EndsLast limits e h) (sym is) ends
+pub ends_own : {K : Type 0} (limits : Limits) (old seen : Engine K) (h : History) → old ≡ seen → EndsLast limits seen h → EndsLast limits old h
+ends_own {K} limits old seen h is ends = subst (λ (e : Engine K). EndsLast limits e h) (sym is) ends
+
+-- no byte of the line had come, whoever sees the engine
+pub tail_own : {K : Type 0} (old seen : Engine K) → old ≡ seen → (HasNoTail old.reader → ⊥) → HasNoTail seen.reader → ⊥
+tail_own {K} old seen is begun none = begun (subst (λ (e : Engine K). HasNoTail e.reader) (sym is) none)

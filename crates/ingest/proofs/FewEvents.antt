@@ -114,7 +114,7 @@ module _ (limits : Limits) where
 
   -- ---- the records of events
 
-  hold_at : (s : Joining) (o : Option EventKey) → records_in (option_to_list (event_at s o)) + length (left_at s o).waiting ≡ length s.waiting
+  pub hold_at : (s : Joining) (o : Option EventKey) → records_in (option_to_list (event_at s o)) + length (left_at s o).waiting ≡ length s.waiting
   hold_at s None = omega arith
   hold_at s (Some k) = omega (arith, parts_of (λ (r : Record). is_key k r.key) s.waiting)
 

@@ -52,9 +52,9 @@ put_clock limits s r = if_clock (is_excess limits (group_of r.key s.waiting) r)
     if_clock true = refl
     if_clock false = refl
 
--- a record that enters doesn't raise the effective time
-pub enter_time : (limits : Limits) (s : Joining) (r : Record) → (enter limits s r).clock.effective ≡ s.clock.effective
-enter_time limits s r = ap (λ (c : JoinClock). c.effective) (if_clock (ends_event r))
+-- a record that enters is seen by the clock
+pub enter_clock : (limits : Limits) (s : Joining) (r : Record) → (enter limits s r).clock ≡ saw s.clock r.key.ms
+enter_clock limits s r = if_clock (ends_event r)
   where
     now : Joining
     now = record s { clock = saw s.clock r.key.ms }
@@ -62,6 +62,35 @@ enter_time limits s r = ap (λ (c : JoinClock). c.effective) (if_clock (ends_eve
     if_clock : (b : Bool) → (if b then close now r.key else put limits now r).clock ≡ now.clock
     if_clock true = close_clock now r.key
     if_clock false = put_clock limits now r
+
+-- it doesn't raise the effective time
+pub enter_time : (limits : Limits) (s : Joining) (r : Record) → (enter limits s r).clock.effective ≡ s.clock.effective
+enter_time limits s r = ap (λ (c : JoinClock). c.effective) (enter_clock limits s r)
+
+close_waiting : (s : Joining) (key : EventKey) → length (close s key).waiting ≤ length s.waiting + 1
+close_waiting s key = if_waiting (waits key s.waiting)
+  where
+    if_waiting : (b : Bool) → length (if b then record s { closed = key ∷ s.closed } else s).waiting ≤ length s.waiting + 1
+    if_waiting true = omega arith
+    if_waiting false = omega arith
+
+put_waiting : (limits : Limits) (s : Joining) (r : Record) → length (put limits s r).waiting ≤ length s.waiting + 1
+put_waiting limits s r = if_waiting (is_excess limits (group_of r.key s.waiting) r)
+  where
+    if_waiting : (b : Bool) → length (if b then record s { excess = suc s.excess } else record s { waiting = s.waiting ++ r ∷ [] }).waiting ≤ length s.waiting + 1
+    if_waiting true = omega arith
+    if_waiting false = omega (arith, length-append s.waiting (r ∷ []))
+
+-- at most one record more waits then
+pub enter_waiting : (limits : Limits) (s : Joining) (r : Record) → length (enter limits s r).waiting ≤ length s.waiting + 1
+enter_waiting limits s r = if_waiting (ends_event r)
+  where
+    now : Joining
+    now = record s { clock = saw s.clock r.key.ms }
+
+    if_waiting : (b : Bool) → length (if b then close now r.key else put limits now r).waiting ≤ length now.waiting + 1
+    if_waiting true = close_waiting now r.key
+    if_waiting false = put_waiting limits now r
 
 abbrev pub size : Joining → ℕ
 size s = length s.waiting + s.excess

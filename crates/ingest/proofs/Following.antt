@@ -12,6 +12,7 @@ use Rattle.record_join.specs.Events.{Joining, ripe_key, next_event, next_left}
 use Rattle.record_join.specs.StandsFor.{Joiner, StandsFor as JoinStandsFor}
 use Rattle.record_join.specs.declared.clock.JoinClock.{JoinClock}
 use Rattle.record_join.specs.declared.event.Event.{Event}
+use Rattle.record_join.specs.declared.event.EventView.{EventView}
 use Rattle.audit_record.specs.declared.types.Record.{Record}
 use Rattle.acts.specs.declared.act.Act.{Act}
 use Rattle.acts.specs.declared.act.Taken.{Taken}
@@ -22,8 +23,8 @@ use Rattle.call_acts.specs.Acts.{event_acts, acts_of_events}
 use Rattle.flow_events.specs.declared.plan.Plan.{Plan}
 use Rattle.flow_events.specs.declared.tables.Tables.{Tables}
 use Rattle.flow_events.specs.Drafts.{turned}
-use Rattle.flow_events.specs.Following.{MayFollow}
-use Rattle.flow_events.specs.Standing.{StandsFor as TablesStandFor, HasLimits, IsPlanOf}
+use Rattle.flow_events.specs.Following.{MayFollow, MayComeAfter}
+use Rattle.flow_events.specs.Standing.{StandsFor as TablesStandFor, IsPlanOf, HasLimits}
 use Rattle.kept_flows.specs.KeptFlows.{KeptFlows, ComeNext, StandsFor as KeptStandsFor}
 use Rattle.ingest.specs.Counting.{counts_in}
 use Rattle.ingest.specs.EventActs.{acts_of_event}
@@ -32,6 +33,7 @@ use Rattle.ingest.specs.Following.{HasTaken, MayComeAt, turned_by}
 use Rattle.ingest.specs.Parts.{Joined}
 use Rattle.ingest.specs.StandsFor.{IsInTime, AreInTime, JoinedStandsFor}
 use Rattle.ingest.specs.Stops.{full_of}
+use Rattle.ingest.proofs.Clocking.{released_then}
 use Rattle.ingest.proofs.Fewer.{released_so}
 use Rattle.ingest.proofs.Growing.{taken_more, map_turned}
 use Rattle.ingest.proofs.Limiting.{full_parts}
@@ -104,16 +106,16 @@ rise_then limits event taken rise later =
 
 -- ---- what is asked before an event
 
-pub may_follow : (tables : Tables) (taken : List Taken) (acts records count : ℕ) → HasTaken tables taken → count ≡ length taken → count < 2 ^ 62 → acts ≤ 4 + 2 * records → records < 2 ^ 60 → MayFollow tables taken acts
-may_follow tables taken acts records count has count_is few acts_few records_few = record {
+pub may_follow : (tables : Tables) (taken : List Taken) (acts records : ℕ) → HasTaken tables taken → tables.acts + 2 * records ≤ 6 * 2 ^ 60 → acts ≤ 4 + 2 * records → MayFollow tables taken acts
+may_follow tables taken acts records has few acts_few = record {
   stands = has.tables_are;
   admitted = has.admitted;
-  few = omega (arith, count_is, few, acts_few, records_few);
+  few = omega (arith, has.tables_are.acts_are, few, acts_few);
 }
 
-pub ripe_so : (limits : Limits) (joined seen : Joined) (s : Joining) → seen ≡ joined → ((l : Limits) (s : Joining) → JoinStandsFor l joined.join s → is_some (ripe_key l s) ≡ true) → JoinStandsFor limits seen.join s
+pub ripe_so : {K : Type 0} (limits : Limits) (joined seen : Joined K) (s : Joining) → seen ≡ joined → ((l : Limits) (s : Joining) → JoinStandsFor l joined.join s → is_some (ripe_key l s) ≡ true) → JoinStandsFor limits seen.join s
     → is_some (ripe_key limits s) ≡ true
-ripe_so limits joined seen s is ripe stands = ripe limits s (subst (λ (j : Joined). JoinStandsFor limits j.join s) is stands)
+ripe_so {K} limits joined seen s is ripe stands = ripe limits s (subst (λ (j : Joined K). JoinStandsFor limits j.join s) is stands)
 
 pub same_some : {A : Type 0} (a b : A) → Some a ≡ Some b → a ≡ b
 same_some a b e = cc e
@@ -127,7 +129,7 @@ never_none limits s ripe none = let e = ripe_event limits s ripe in none_some e.
 pub on_some : {A : Type 0} (r : Option A) (P : Type 0) (a : A) → r ≡ Some a → OnSome r P → P
 on_some {A} r P a is on = subst (λ (o : Option A). OnSome o P) is on
 
-pub has_taken : EventsAdmitted → (limits : Limits) (joined : Joined) (s : Joining) (released : List Event) → JoinedStandsFor limits joined s released → HasTaken joined.tables (taken_in limits released)
+pub has_taken : {K : Type 0} → EventsAdmitted → (limits : Limits) (joined : Joined K) (s : Joining) (released : List Event) → JoinedStandsFor limits joined s released → HasTaken joined.tables (taken_in limits released)
 has_taken admitted limits joined s released stands = record { tables_are = stands.tables; admitted = admitted_in admitted limits released }
 
 -- an event may come after the acts that the tables and the kept flows are those of
@@ -139,7 +141,7 @@ may_come_own limits join tables kept event w next = record {
   no_later = omega (arith, w.later, ap (λ (c : JoinClock). c.effective) w.join_is.clock, (released_so limits w.s event next).no_less);
 }
 
-pub may_come : EventsAdmitted → (limits : Limits) (joined : Joined) (s : Joining) (released : List Event) (event : Event) → JoinedStandsFor limits joined s released → Some event ≡ next_event limits s
+pub may_come : {K : Type 0} → EventsAdmitted → (limits : Limits) (joined : Joined K) (s : Joining) (released : List Event) (event : Event) → JoinedStandsFor limits joined s released → Some event ≡ next_event limits s
     → MayComeAt event.ms joined.tables joined.kept (taken_in limits released)
 may_come admitted limits joined s released event stands next = record {
   has = has_taken admitted limits joined s released stands;
@@ -159,12 +161,13 @@ pub come_next : FlowsAreLawful → (limits : Limits) (event : Event) (plan : Pla
 come_next lawful limits event plan taken rise later plan_is fits =
     let now = turned_by limits event ++ taken in
     let all = lawful now (rise_then limits event taken rise later).0 in
-    let few = (full_parts limits.entities limits.flows (length (objects (acts_of now))) (length (flows now)) fits).0 in
+    let few = full_parts limits.entities limits.flows (length (objects (acts_of now))) (length (flows now)) fits in
     let count : known (flows taken ++ plan.flows) ≡ length (objects (acts_of now)) = ap known (sym plan_is.flows_are) ∙ all.objects in
     record {
       lawful = subst IsLawful plan_is.flows_are all.lawful;
       numbered = subst IsNumbered plan_is.flows_are all.numbered;
-      few_objects = omega (arith, count, few, limits.entities_within);
+      few_objects = omega (arith, count, few.0, limits.entities_within);
+      few_flows = omega (arith, ap length plan_is.flows_are, few.1, limits.flows_within);
     }
 
 -- the flows know as many objects as the tables
@@ -175,12 +178,13 @@ kept_known lawful limits join tables kept w =
 -- ---- after an event
 
 -- tables and kept flows that say the same as before
-pub stands_still : (limits : Limits) (joined after : Joined) (s : Joining) (released : List Event) → JoinedStandsFor limits joined s released
+pub stands_still : {K : Type 0} (limits : Limits) (joined after : Joined K) (s : Joining) (released : List Event) → JoinedStandsFor limits joined s released
     → after.limits ≡ joined.limits → after.join ≡ joined.join → after.excess ≡ joined.excess → after.counts ≡ joined.counts → HasTaken after.tables (taken_in limits released) → after.kept ≡ joined.kept
     → JoinedStandsFor limits after s released
 stands_still limits joined after s released stands own join excess counts has kept = record {
   limits_are = own ∙ stands.limits_are;
   join = subst (λ (j : Joiner). JoinStandsFor limits j s) (sym join) stands.join;
+  released_last = stands.released_last;
   excess = excess ∙ stands.excess;
   counts = counts ∙ stands.counts;
   tables = has.tables_are;
@@ -206,7 +210,7 @@ in_time_then limits s released event before next =
     subst (λ (l : List Taken). AreInTime l (next_left limits s)) (sym (taken_then limits released event))
     (record { rise = then.0; later = omega (arith, then.1, so.time) })
 
-pub stands_next : (limits : Limits) (joined after : Joined) (s : Joining) (released : List Event) (event : Event) → JoinedStandsFor limits joined s released → Some event ≡ next_event limits s
+pub stands_next : {K : Type 0} (limits : Limits) (joined after : Joined K) (s : Joining) (released : List Event) (event : Event) → JoinedStandsFor limits joined s released → Some event ≡ next_event limits s
     → after.limits ≡ joined.limits → JoinStandsFor limits after.join (next_left limits s) → after.excess ≡ joined.excess
     → after.counts ≡ counts_in (released ++ event ∷ [])
     → TablesStandFor text_of after.tables (turned_by joined.limits event ++ taken_in limits released)
@@ -219,6 +223,7 @@ stands_next limits joined after s released event stands next own join excess cou
     record {
       limits_are = own ∙ stands.limits_are;
       join = join;
+      released_last = released_then limits s released event stands.released_last next;
       excess = excess ∙ stands.excess ∙ sym (released_so limits s event next).excess;
       counts = counts;
       tables = subst (λ (l : List Taken). TablesStandFor text_of after.tables l) acts tables;
@@ -227,7 +232,7 @@ stands_next limits joined after s released event stands next own join excess cou
       fits = full_then limits joined.limits released event None stands.limits_are fits;
     }
 
-pub same_event : (limits : Limits) (after : Joined) (t : Joining) (released : List Event) (seen event : Event) → seen ≡ event → JoinedStandsFor limits after t (released ++ seen ∷ []) → JoinedStandsFor limits after t (released ++ event ∷ [])
+pub same_event : {K : Type 0} (limits : Limits) (after : Joined K) (t : Joining) (released : List Event) (seen event : Event) → seen ≡ event → JoinedStandsFor limits after t (released ++ seen ∷ []) → JoinedStandsFor limits after t (released ++ event ∷ [])
 same_event limits after t released seen event is stands = subst (λ (e : Event). JoinedStandsFor limits after t (released ++ e ∷ [])) is stands
 
 pub in_time_next : EventAdmitted → (limits : Limits) (join after : Joiner) (tables more : Tables) (kept all : KeptFlows) (event : Event) (w : IsInTime limits join tables kept) → Some event ≡ next_event limits w.s
@@ -249,5 +254,35 @@ in_time_next admitted limits join after tables more kept all event w next stands
       later = omega (arith, then.1, ap (λ (c : JoinClock). c.effective) stands.clock, so.time);
     }
 
-pub length_seen : (joined seen : Joined) (n : ℕ) → seen ≡ joined → length seen.join.groups ≡ suc n → length joined.join.groups ≡ suc n
-length_seen joined seen n is e = subst (λ (j : Joined). length j.join.groups ≡ suc n) is e
+pub length_seen : {K : Type 0} (joined seen : Joined K) (n : ℕ) → seen ≡ joined → length seen.join.groups ≡ suc n → length joined.join.groups ≡ suc n
+length_seen {K} joined seen n is e = subst (λ (j : Joined K). length j.join.groups ≡ suc n) is e
+
+-- the tables may follow an event with few acts
+pub may_come_after : (tables : Tables) (taken : List Taken) (event : EventView) → HasLimits tables.limits tables → HasTaken tables taken → tables.acts + 2 * length event.records.now ≤ 6 * 2 ^ 60
+    → length (event_acts tables.limits.path event.records.now) ≤ 4 + 2 * length event.records.now → MayComeAfter tables event tables.limits taken
+may_come_after tables taken event limited has few acts_few = record {
+  limited = limited;
+  follows = may_follow tables taken (length (event_acts tables.limits.path event.records.now)) (length event.records.now) has few acts_few;
+}
+
+-- ---- limits that are those of the tables
+
+pub in_time_by : (limits own : Limits) (join : Joiner) (tables : Tables) (kept : KeptFlows) → own ≡ limits → IsInTime limits join tables kept → IsInTime own join tables kept
+in_time_by limits own join tables kept is w = subst (λ (l : Limits). IsInTime l join tables kept) (sym is) w
+
+-- tables and kept flows that say the same as before
+pub in_time_still : (join : Joiner) (tables after : Tables) (kept all : KeptFlows) (w : IsInTime tables.limits join tables kept) → HasTaken after w.taken → HasLimits tables.limits after → all ≡ kept
+    → IsInTime after.limits join after all
+in_time_still join tables after kept all w has bounds same =
+    in_time_by tables.limits after.limits join after all bounds.limits_are
+    (record {
+      s = w.s;
+      join_is = w.join_is;
+      taken = w.taken;
+      tables_are = has.tables_are;
+      admitted = has.admitted;
+      bounds = bounds;
+      kept_are = subst (λ (k : KeptFlows). KeptStandsFor k (flows w.taken)) (sym same) w.kept_are;
+      rise = w.rise;
+      later = w.later;
+    })

@@ -7,12 +7,16 @@ pub mod Tallying
 pub mod ReaderSteps
 pub mod Answered
 pub mod Asked
+pub mod Causes
 pub mod Fewer
 pub mod Counted
+pub mod Clocking
+pub mod FewEvents
+pub mod FewActs
 pub mod Releasing
 pub mod Following
+pub mod Named
 pub mod Quiet
-pub mod FewEvents
 pub mod Closing
 pub mod EngineSteps
 pub mod StopLemmas

@@ -10,6 +10,7 @@ use Rattle.ingest.specs.Events.{told_of, state_of, events_of}
 use Rattle.ingest.specs.Owing.{MayOwe}
 use Rattle.ingest.specs.Parts.{Engine}
 use Rattle.ingest.specs.StandsFor.{JoinedStandsFor, StandsFor}
+use Rattle.ingest.proofs.Clocking.{clock_so}
 use Rattle.ingest.proofs.Limiting.{fit_so}
 use Rattle.record_join.proofs.Turns.{none_released, none_left, ends}
 
@@ -42,7 +43,7 @@ module _ (limits : Limits) where
   quiet_left s e = none_left limits (length s.waiting) s e
 
   -- what stands owes nothing
-  pub stands_owes : (engine : Engine) (h : History) → StandsFor limits engine h → (w : MayOwe limits engine h) × (next_event limits w.rest ≡ None)
+  pub stands_owes : {K : Type 0} (engine : Engine K) (h : History) → StandsFor limits engine h → (w : MayOwe limits engine h) × (next_event limits w.rest ≡ None)
   stands_owes engine h stands =
       let still = quiet h in
       let owes : MayOwe limits engine h = record {
@@ -52,12 +53,13 @@ module _ (limits : Limits) where
         joined = stands.joined;
         events_are = sym (ap (λ (l : List Event). events_of limits h ++ l) (quiet_released (state_of limits h) still) ∙ append-nil (events_of limits h));
         left_is = sym (quiet_left (state_of limits h) still);
+        clock = clock_so limits engine.joined h (state_of limits h) (events_of limits h) stands.joined (sym (quiet_left (state_of limits h) still));
         within = stands.fits.input;
       } in
       (owes, none_next (state_of limits h) still)
 
   -- what owes nothing stands
-  pub owes_stands : (engine : Engine) (h : History) (w : MayOwe limits engine h) → next_event limits w.rest ≡ None → StandsFor limits engine h
+  pub owes_stands : {K : Type 0} (engine : Engine K) (h : History) (w : MayOwe limits engine h) → next_event limits w.rest ≡ None → StandsFor limits engine h
   owes_stands engine h w none =
       let still = none_ripe w.rest none in
       let events_are : w.done ≡ events_of limits h = sym (w.events_are ∙ ap (λ (l : List Event). w.done ++ l) (quiet_released w.rest still) ∙ append-nil w.done) in

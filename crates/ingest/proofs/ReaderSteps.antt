@@ -11,6 +11,7 @@ use Rattle.audit_lex.specs.declared.tally.Tally.{Tally}
 use Rattle.audit_lex.proofs.HistoryLaws.{after_settle}
 use Rattle.audit_lex.proofs.HistoryLemmas.{more_line}
 use Rattle.audit_record.specs.declared.types.Record.{Record}
+use Rattle.ingest.specs.Bounds.{EndsLine, KeepsLines}
 use Rattle.ingest.specs.Counting.{bytes_in, tally_of_lines, total}
 use Rattle.ingest.specs.LineRecords.{record_of}
 use Rattle.ingest.specs.Parts.{Reader}
@@ -196,3 +197,25 @@ own_reads limits reader h stands item text is = ap (λ (l : Limits). record_of l
 -- the cutter's limit is the reader's own
 pub own_line : (limits : Limits) (reader : Reader) (h : History) → ReaderStandsFor limits reader h → reader.cut.limit ≡ reader.limits.line
 own_line limits reader h stands = stands.line ∙ ap (λ (l : Limits). l.line) (sym stands.limits_are)
+
+-- ---- how many lines have ended
+
+pub ends_line : (inside old new : Reader) (limit : ℕ) → inside ≡ old → new.cut ≡ next_cut limit inside.cut.lines → inside.cut.lines < 2 ^ 60 → EndsLine old new
+ends_line inside old new limit is cut room =
+    let lines : new.cut.lines ≡ inside.cut.lines + 1 = ap (λ (k : Cutter). k.lines) cut in
+    let same : inside.cut.lines ≡ old.cut.lines = ap (λ (r : Reader). r.cut.lines) is in
+    record { one = omega (arith, lines, same); within = omega (arith, lines, room) }
+
+pub keeps_line : (inside old new : Reader) (limit : ℕ) → inside ≡ old → new.cut ≡ next_cut limit inside.cut.lines → inside.cut.lines < 2 ^ 60 → KeepsLines old new
+keeps_line inside old new limit is cut room =
+    let ends = ends_line inside old new limit is cut room in
+    record { no_less = omega (arith, ends.one); within = ends.within }
+
+pub keeps_own : (inside old : Reader) → inside ≡ old → IsWithin inside.limits inside.cut inside.tally inside.bytes → KeepsLines old old
+keeps_own inside old is w =
+    subst (λ (r : Reader). KeepsLines r r) is (record { no_less = omega arith; within = omega (arith, few _ _ _ _ w, w.within, w.input) })
+
+pub keeps_lines : (inside old new : Reader) → inside ≡ old → IsWithin new.limits new.cut new.tally new.bytes → inside.cut.lines ≤ new.cut.lines → KeepsLines old new
+keeps_lines inside old new is w no_less =
+    let same : inside.cut.lines ≡ old.cut.lines = ap (λ (r : Reader). r.cut.lines) is in
+    record { no_less = omega (arith, same, no_less); within = omega (arith, few _ _ _ _ w, w.within, w.input) }

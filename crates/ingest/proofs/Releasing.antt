@@ -1,13 +1,17 @@
 -- A loop that releases all that is ripe, and follows each event.
-use Rattle.std.proofs.Common.{◌≡◌, ◌≤◌, ◌<◌, ◌+◌, ◌^◌, ◌++◌, ◌∙◌, sym, refl, ap, subst, true, false, List, [], ◌∷◌, length, arith, append_assoc, append-nil, length-append, Option, None, Some}
-use Rattle.std.specs.Prelude.{is_some}
+use Rattle.std.proofs.Common.{◌≡◌, ◌≤◌, ◌<◌, ◌+◌, ◌^◌, ◌++◌, ◌∙◌, sym, refl, ap, subst, suc, Bool, true, false, List, [], ◌∷◌, length, arith, append_assoc, append-nil, length-append, Option, None, Some}
+use Rattle.std.specs.Prelude.{is_some, if◌then◌else◌}
 use Rattle.std.specs.Option.{option_to_list}
 use Rattle.std.proofs.lemmas.Bool.{true≢false}
 use Rattle.flow_base.specs.declared.limits.Limits.{Limits}
 use Rattle.flow_base.specs.declared.limits.Full.{Full}
 use Rattle.audit_lex.specs.declared.header.EventKey.{EventKey}
 use Rattle.audit_record.specs.declared.types.Record.{Record}
-use Rattle.record_join.specs.Events.{Joining, enter, ripe_key, event_of, event_at, next_event, next_left}
+use Rattle.record_join.specs.Keys.{ends_event}
+use Rattle.record_join.specs.contracts.event.TakenPartialEq.TheImpl.{ghosts}
+use Rattle.record_join.specs.declared.event.Taken.{Taken}
+use Rattle.record_join.specs.declared.event.Taken.TheVariants.{Held, Closed, Excess}
+use Rattle.record_join.specs.Events.{Joining, enter, saw, close, put, waits, group_of, is_excess, taken_as, ripe_key, event_of, event_at, next_event, next_left}
 use Rattle.record_join.specs.History.{released, left, released_after, left_after}
 use Rattle.record_join.specs.StandsFor.{Joiner, StandsFor as JoinStandsFor}
 use Rattle.record_join.specs.declared.clock.JoinClock.{JoinClock}
@@ -20,10 +24,11 @@ use Rattle.ingest.specs.StandsFor.{IsInTime, JoinedStandsFor}
 use Rattle.ingest.specs.declared.stop.StopWhy.{StopWhy}
 use Rattle.ingest.specs.declared.stop.StopWhy.TheVariants as why
 use Rattle.record_join.proofs.Turns.{none_released, none_left, one_release, one_left}
+use Rattle.ingest.proofs.Clocking.{released_entered}
 use Rattle.ingest.proofs.Fewer.{released_so, enter_time}
 
 -- some events of those that s releases were followed, and the rest is left
-pub record IsUnderWay (limits : Limits) (s : Joining) (before : List Event) (joined : Joined) : Type 0 where
+pub record IsUnderWay {K : Type 0} (limits : Limits) (s : Joining) (before : List Event) (joined : Joined K) : Type 0 where
   pub rest : Joining
   pub done : List Event
   pub stands : JoinedStandsFor limits joined rest (before ++ done)
@@ -47,7 +52,7 @@ module _ (limits : Limits) where
       by None e = refl
       by (Some key) e = absurd (true≢false e)
 
-  pub all_done : (s : Joining) (before : List Event) (joined : Joined) (w : IsUnderWay limits s before joined) → is_some (ripe_key limits w.rest) ≡ false
+  pub all_done : {K : Type 0} (s : Joining) (before : List Event) (joined : Joined K) (w : IsUnderWay limits s before joined) → is_some (ripe_key limits w.rest) ≡ false
       → JoinedStandsFor limits joined (left_after limits s) (before ++ released_after limits s)
   all_done s before joined w none =
       let quiet = not_ripe w.rest none in
@@ -56,7 +61,7 @@ module _ (limits : Limits) where
       subst (λ (t : Joining). JoinedStandsFor limits joined t (before ++ released_after limits s)) left
       (subst (λ (l : List Event). JoinedStandsFor limits joined w.rest (before ++ l)) done w.stands)
 
-  goes_by : (s : Joining) (before : List Event) (joined after : Joined) (event : Event) (w : IsUnderWay limits s before joined)
+  goes_by : {K : Type 0} (s : Joining) (before : List Event) (joined after : Joined K) (event : Event) (w : IsUnderWay limits s before joined)
       → Some event ≡ next_event limits w.rest
       → JoinedStandsFor limits after (next_left limits w.rest) ((before ++ w.done) ++ event ∷ [])
       → IsUnderWay limits s before after
@@ -78,12 +83,12 @@ module _ (limits : Limits) where
       }
 
 -- an event that is ripe was followed
-abbrev pub Follows : Joined → Joined → Type 0
+abbrev pub Follows : {K : Type 0} → Joined K → Joined K → Type 0
 Follows old new = (limits : Limits) (s : Joining) (released : List Event) (event : Event) → JoinedStandsFor limits old s released → length released < 2 ^ 62 → next_event limits s ≡ Some event
     → JoinedStandsFor limits new (next_left limits s) (released ++ event ∷ [])
 
 -- one more event is followed
-pub goes_on : (limits : Limits) (s : Joining) (before : List Event) (joined after : Joined) (w : IsUnderWay limits s before joined)
+pub goes_on : {K : Type 0} (limits : Limits) (s : Joining) (before : List Event) (joined after : Joined K) (w : IsUnderWay limits s before joined)
     → is_some (ripe_key limits w.rest) ≡ true → Follows joined after → IsUnderWay limits s before after
 goes_on limits s before joined after w ripe follows =
     let next = ripe_event limits w.rest ripe in
@@ -91,16 +96,18 @@ goes_on limits s before joined after w ripe follows =
     goes_by limits s before joined after next.0 w (sym next.1) (follows limits w.rest (before ++ w.done) next.0 w.stands few next.1)
 
 -- the event that was refused is owed with those behind it
-pub owed : (limits : Limits) (s : Joining) (before : List Event) (joined after : Joined) (cause : StopWhy) (w : IsUnderWay limits s before joined)
+pub owed : {K : Type 0} (limits : Limits) (s : Joining) (before : List Event) (joined after : Joined K) (cause : StopWhy) (w : IsUnderWay limits s before joined)
+    → is_some (ripe_key limits w.rest) ≡ true
     → ((limits : Limits) (s : Joining) (released : List Event) → JoinedStandsFor limits joined s released → JoinedStandsFor limits after s released)
     → ((full : Full) → cause ≡ why.Full full → (limits : Limits) (s : Joining) (released : List Event) → JoinedStandsFor limits joined s released → NextPasses limits s released full)
     → IsOwed limits after s before cause
-owed limits s before joined after cause w same passes = record {
+owed limits s before joined after cause w ripe same passes = record {
   rest = w.rest;
   done = w.done;
   stands = same limits w.rest (before ++ w.done) w.stands;
   done_is = sym w.done_is;
   left_is = sym w.left_is;
+  some = ripe_event limits w.rest ripe;
   by = by cause refl;
 }
   where
@@ -108,8 +115,8 @@ owed limits s before joined after cause w same passes = record {
     by why.NoMemory is = tt
     by (why.Full full) is = passes full is limits w.rest (before ++ w.done) w.stands
 
-pub joined_at : (limits : Limits) (joined seen : Joined) (s : Joining) (released : List Event) → seen ≡ joined → JoinedStandsFor limits joined s released → JoinedStandsFor limits seen s released
-joined_at limits joined seen s released is stands = subst (λ (j : Joined). JoinedStandsFor limits j s released) (sym is) stands
+pub joined_at : {K : Type 0} (limits : Limits) (joined seen : Joined K) (s : Joining) (released : List Event) → seen ≡ joined → JoinedStandsFor limits joined s released → JoinedStandsFor limits seen s released
+joined_at {K} limits joined seen s released is stands = subst (λ (j : Joined K). JoinedStandsFor limits j s released) (sym is) stands
 
 -- ---- in time
 
@@ -129,3 +136,50 @@ module _ (limits : Limits) (join after : Joiner) (tables : Tables) (kept : KeptF
 
   pub in_time_entered : (item : Record) → JoinStandsFor limits after (enter limits w.s item) → IsInTime limits after tables kept
   in_time_entered item stands = in_time_at (enter limits w.s item) stands (enter_time limits w.s item)
+
+-- ---- a record that isn't in excess
+
+close_excess : (s : Joining) (key : EventKey) → (close s key).excess ≡ s.excess
+close_excess s key = by (waits key s.waiting)
+  where
+    by : (b : Bool) → (if b then record s { closed = key ∷ s.closed } else s).excess ≡ s.excess
+    by true = refl
+    by false = refl
+
+held_excess : (limits : Limits) (s : Joining) (r : Record) (t : Taken) → t ≡ taken_as limits s r → (t ≡ Excess → ⊥) → (enter limits s r).excess ≡ s.excess
+held_excess limits s r t is none = by (ends_event r) is
+  where
+    now : Joining
+    now = record s { clock = saw s.clock r.key.ms }
+
+    by_group : (b : Bool) → t ≡ (if b then Excess else Held) → (if b then record now { excess = suc now.excess } else record now { waiting = now.waiting ++ r ∷ [] }).excess ≡ s.excess
+    by_group true e = absurd (none e)
+    by_group false e = refl
+
+    by : (b : Bool) → t ≡ (if b then Closed else if is_excess limits (group_of r.key s.waiting) r then Excess else Held) → (if b then close now r.key else put limits now r).excess ≡ s.excess
+    by true e = close_excess now r.key
+    by false e = by_group (is_excess limits (group_of r.key s.waiting) r) e
+
+-- what a test for an excess says
+pub not_excess : (t : Taken) (b : Bool) → b ≡ false → b ≡ ghosts.eq t Excess → t ≡ Excess → ⊥
+not_excess Held b is_not is e = absurd (cc e)
+not_excess Closed b is_not is e = absurd (cc e)
+not_excess Excess b is_not is e = absurd (true≢false (sym is ∙ is_not))
+
+-- a record has come, and none was dropped
+pub stands_entered : {K : Type 0} (limits : Limits) (joined after : Joined K) (s : Joining) (released : List Event) (item : Record) (t : Taken) → JoinedStandsFor limits joined s released
+    → after ≡ record joined { join = after.join } → JoinStandsFor limits after.join (enter limits s item) → t ≡ taken_as limits s item → (t ≡ Excess → ⊥)
+    → JoinedStandsFor limits after (enter limits s item) released
+stands_entered {K} limits joined after s released item t w same join is none =
+    subst (λ (j : Joined K). JoinedStandsFor limits j (enter limits s item) released) (sym same)
+    (record {
+      limits_are = w.limits_are;
+      join = join;
+      released_last = released_entered limits s item released w.released_last;
+      excess = w.excess ∙ sym (held_excess limits s item t is none);
+      counts = w.counts;
+      tables = w.tables;
+      kept_are = w.kept_are;
+      in_time = record { rise = w.in_time.rise; later = omega (arith, w.in_time.later, enter_time limits s item) };
+      fits = w.fits;
+    })

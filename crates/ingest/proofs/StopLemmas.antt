@@ -12,6 +12,7 @@ use Rattle.record_join.specs.Events.{Joining}
 use Rattle.record_join.specs.declared.event.Event.{Event}
 use Rattle.audit_lex.proofs.HistoryLaws.{joined as bytes_joined}
 use Rattle.audit_lex.proofs.HistoryLemmas.{with_feed}
+use Rattle.ingest.specs.Clocks.{IsClockOf}
 use Rattle.ingest.specs.Counting.{bytes_in}
 use Rattle.ingest.specs.Events.{state_of, events_of}
 use Rattle.ingest.specs.Owing.{MayOwe, OwesBy, OwesFor, HaltsBy, Halts}
@@ -58,7 +59,7 @@ one_then h piece k within =
 
 module _ (limits : Limits) where
   -- the same events are owed of the same history
-  abbrev owes_at : (engine : Engine) (g k : History) → k ≡ g → MayOwe limits engine g → MayOwe limits engine k
+  abbrev owes_at : {K : Type 0} (engine : Engine K) (g k : History) → k ≡ g → MayOwe limits engine g → MayOwe limits engine k
   owes_at engine g k is w = record {
     reader = subst (λ (h : History). ReaderStandsFor limits engine.reader h) (sym is) w.reader;
     rest = w.rest;
@@ -66,6 +67,7 @@ module _ (limits : Limits) where
     joined = w.joined;
     events_are = ap (events_of limits) is ∙ w.events_are;
     left_is = ap (state_of limits) is ∙ w.left_is;
+    clock = subst (λ (h : History). IsClockOf limits engine.joined.join.clock h w.done) (sym is) w.clock;
     within = subst (λ (h : History). bytes_in h ≤ limits.input) (sym is) w.within;
   }
 
@@ -154,7 +156,7 @@ module _ (limits : Limits) where
 
   -- ---- a line that ends with these bytes and a line feed
 
-  ended_by : (engine : Engine) (h : History) (part : List ℕ) (cause : StopWhy) → Fits limits h → bytes_in h + (length part + 1) ≤ limits.input
+  ended_by : {K : Type 0} (engine : Engine K) (h : History) (part : List ℕ) (cause : StopWhy) → Fits limits h → bytes_in h + (length part + 1) ≤ limits.input
       → position_or_len (is_byte 10) part ≡ length part → OwesFor limits engine (with_bytes h (part ++ 10 ∷ [])) cause → StopsBy limits h (part ++ 10 ∷ []) (length part + 1) cause
   ended_by engine h part why.NoMemory fits room none owes = tt
   ended_by engine h part (why.Full full) fits room none owes =
@@ -173,7 +175,7 @@ module _ (limits : Limits) where
         ),
       )
 
-  pub stop_ended : (engine : Engine) (h : History) (part : List ℕ) (cause : StopWhy) → Fits limits h → bytes_in h + (length part + 1) ≤ limits.input
+  pub stop_ended : {K : Type 0} (engine : Engine K) (h : History) (part : List ℕ) (cause : StopWhy) → Fits limits h → bytes_in h + (length part + 1) ≤ limits.input
       → position_or_len (is_byte 10) part ≡ length part → OwesFor limits engine (with_bytes h (part ++ 10 ∷ [])) cause
       → StopsFor limits h (part ++ 10 ∷ []) (record { done = length part + 1; why = cause })
   stop_ended engine h part cause fits room none owes = record {
@@ -188,7 +190,7 @@ module _ (limits : Limits) where
   halts_by h piece done rest events (why.Full full) by = inr by
 
   -- events are owed after so many bytes
-  pub halts_at : (engine : Engine) (h g : History) (piece : List ℕ) (done : ℕ) (cause : StopWhy) → done ≤ length piece → with_bytes h (take done piece) ≡ g → OwesFor limits engine g cause
+  pub halts_at : {K : Type 0} (engine : Engine K) (h g : History) (piece : List ℕ) (done : ℕ) (cause : StopWhy) → done ≤ length piece → with_bytes h (take done piece) ≡ g → OwesFor limits engine g cause
       → Halts limits engine h piece (record { done = done; why = cause })
   halts_at engine h g piece done cause within is owes = record {
     within = within;
@@ -200,13 +202,13 @@ module _ (limits : Limits) where
   pub nothing_taken : (h : History) (piece : List ℕ) → with_bytes h (take 0 piece) ≡ h
   nothing_taken h piece = ap (λ l. h ++ map Byte l) (take_zero piece) ∙ append-nil h
 
-  pub halts_ended : (engine : Engine) (h : History) (part : List ℕ) (cause : StopWhy) → OwesFor limits engine (with_bytes h (part ++ 10 ∷ [])) cause
+  pub halts_ended : {K : Type 0} (engine : Engine K) (h : History) (part : List ℕ) (cause : StopWhy) → OwesFor limits engine (with_bytes h (part ++ 10 ∷ [])) cause
       → Halts limits engine h (part ++ 10 ∷ []) (record { done = length part + 1; why = cause })
   halts_ended engine h part cause owes =
       halts_at engine h (with_bytes h (part ++ 10 ∷ [])) (part ++ 10 ∷ []) (length part + 1) cause (omega (arith, length-append part (10 ∷ []))) (ap (with_bytes h) (take-append-add part (10 ∷ []) 1)) owes
 
   -- want of memory, where nothing has changed
-  pub halts_memory : (engine : Engine) (h : History) (piece : List ℕ) → MayOwe limits engine h → Halts limits engine h piece (record { done = 0; why = why.NoMemory })
+  pub halts_memory : {K : Type 0} (engine : Engine K) (h : History) (piece : List ℕ) → MayOwe limits engine h → Halts limits engine h piece (record { done = 0; why = why.NoMemory })
   halts_memory engine h piece owes = halts_at engine h h piece 0 why.NoMemory (omega arith) (nothing_taken h piece) (record { stands = owes; by = tt })
 
   later_halts : (h : History) (piece : List ℕ) (done d : ℕ) (rest : Joining) (events : List Event) (cause : StopWhy) → done ≤ length piece
@@ -221,7 +223,7 @@ module _ (limits : Limits) where
         full_is = byte.full_is;
       })
 
-  pub halts_later : (engine : Engine) (h : History) (piece : List ℕ) (done : ℕ) (stop : Stop) → done ≤ length piece → Halts limits engine (with_bytes h (take done piece)) (drop done piece) stop
+  pub halts_later : {K : Type 0} (engine : Engine K) (h : History) (piece : List ℕ) (done : ℕ) (stop : Stop) → done ≤ length piece → Halts limits engine (with_bytes h (take done piece)) (drop done piece) stop
       → Halts limits engine h piece (record { done = done + stop.done; why = stop.why })
   halts_later engine h piece done stop within halts = record {
     within = omega (arith, halts.within, length-drop done piece, within);
@@ -241,7 +243,7 @@ module _ (limits : Limits) where
         full_is = byte.full_is;
       })
 
-  pub halts_front : (engine : Engine) (h : History) (piece : List ℕ) (room : ℕ) (stop : Stop) → room ≤ length piece → Halts limits engine h (take room piece) stop → Halts limits engine h piece stop
+  pub halts_front : {K : Type 0} (engine : Engine K) (h : History) (piece : List ℕ) (room : ℕ) (stop : Stop) → room ≤ length piece → Halts limits engine h (take room piece) stop → Halts limits engine h piece stop
   halts_front engine h piece room stop within halts =
       let short : stop.done ≤ room = omega (arith, halts.within, length-take-le room piece within) in
       record {
@@ -251,7 +253,7 @@ module _ (limits : Limits) where
       }
 
   -- the byte past the limit
-  pub halts_full : (engine : Engine) (h : History) (piece : List ℕ) (room n : ℕ) → room < length piece → bytes_in h + room ≡ limits.input → n ≡ limits.input → StandsFor limits engine (with_bytes h (take room piece))
+  pub halts_full : {K : Type 0} (engine : Engine K) (h : History) (piece : List ℕ) (room n : ℕ) → room < length piece → bytes_in h + room ≡ limits.input → n ≡ limits.input → StandsFor limits engine (with_bytes h (take room piece))
       → Halts limits engine h piece (record { done = room; why = why.Full (record { limit = limit.Input; number = n }) })
   halts_full engine h piece room n within full is stands = record {
     within = omega (arith, within);
@@ -260,14 +262,14 @@ module _ (limits : Limits) where
   }
 
   -- an engine that stood for its history owes nothing that passes a limit
-  never_by : (engine : Engine) (h : History) (piece : List ℕ) (cause : StopWhy) → Fits limits h → OwesFor limits engine h cause → StopsBy limits h piece 0 cause
+  never_by : {K : Type 0} (engine : Engine K) (h : History) (piece : List ℕ) (cause : StopWhy) → Fits limits h → OwesFor limits engine h cause → StopsBy limits h piece 0 cause
   never_by engine h piece why.NoMemory fits owes = tt
   never_by engine h piece (why.Full full) fits owes = absurd (none_passes limits engine h full fits owes.stands owes.by)
 
-  pub stop_before : (engine : Engine) (h : History) (piece : List ℕ) (cause : StopWhy) → Fits limits h → OwesFor limits engine h cause → StopsFor limits h piece (record { done = 0; why = cause })
+  pub stop_before : {K : Type 0} (engine : Engine K) (h : History) (piece : List ℕ) (cause : StopWhy) → Fits limits h → OwesFor limits engine h cause → StopsFor limits h piece (record { done = 0; why = cause })
   stop_before engine h piece cause fits owes = record { within = omega arith; by = never_by engine h piece cause fits owes }
 
-  pub halts_before : (engine : Engine) (h : History) (piece : List ℕ) (cause : StopWhy) → OwesFor limits engine h cause → Halts limits engine h piece (record { done = 0; why = cause })
+  pub halts_before : {K : Type 0} (engine : Engine K) (h : History) (piece : List ℕ) (cause : StopWhy) → OwesFor limits engine h cause → Halts limits engine h piece (record { done = 0; why = cause })
   halts_before engine h piece cause owes = halts_at engine h h piece 0 cause (omega arith) (nothing_taken h piece) owes
 
   -- ---- a piece with a line feed
@@ -281,7 +283,7 @@ module _ (limits : Limits) where
   stop_whole h piece end stop is below stops =
       stop_front h piece (end + 1) stop (omega (arith, below)) (subst (λ (l : List ℕ). StopsFor limits h l stop) (sym (with_feed piece end is below)) stops)
 
-  pub halts_whole : (engine : Engine) (h : History) (piece : List ℕ) (end : ℕ) (stop : Stop) → end ≡ position_or_len (is_byte 10) piece → end < length piece
+  pub halts_whole : {K : Type 0} (engine : Engine K) (h : History) (piece : List ℕ) (end : ℕ) (stop : Stop) → end ≡ position_or_len (is_byte 10) piece → end < length piece
       → Halts limits engine h (take end piece ++ 10 ∷ []) stop → Halts limits engine h piece stop
   halts_whole engine h piece end stop is below halts =
       halts_front engine h piece (end + 1) stop (omega (arith, below)) (subst (λ (l : List ℕ). Halts limits engine h l stop) (sym (with_feed piece end is below)) halts)
@@ -299,7 +301,7 @@ module _ (limits : Limits) where
       (stop_later h whole end stop (omega (arith, long, length-append part (10 ∷ [])))
       (subst (λ (l : List ℕ). StopsFor limits (with_bytes h l) (drop end whole) stop) (sym front) (subst (λ (l : List ℕ). StopsFor limits (with_bytes h part) l stop) (sym back) stops)))
 
-  pub halts_feed : (engine : Engine) (h : History) (piece : List ℕ) (end : ℕ) (stop : Stop) → end ≡ position_or_len (is_byte 10) piece → end < length piece
+  pub halts_feed : {K : Type 0} (engine : Engine K) (h : History) (piece : List ℕ) (end : ℕ) (stop : Stop) → end ≡ position_or_len (is_byte 10) piece → end < length piece
       → Halts limits engine (with_bytes h (take end piece)) (10 ∷ []) stop → Halts limits engine h piece (record { done = end + stop.done; why = stop.why })
   halts_feed engine h piece end stop is below halts =
       let part = take end piece in

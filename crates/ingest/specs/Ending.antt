@@ -10,7 +10,7 @@ use Rattle.ingest.specs.StandsFor.{ReaderStandsFor, JoinedStandsFor}
 
 -- the last line has ended, and its record has entered where it has one; once all is closed, what is released then are the
 -- events that the settle adds
-pub record EndsLast (limits : Limits) (engine : Engine) (h : History) : Type 0 where
+pub record EndsLast {K : Type 0} (limits : Limits) (engine : Engine K) (h : History) : Type 0 where
   pub reader : ReaderStandsFor limits engine.reader (h ++ Settle ∷ [])
   pub rest : Joining
   pub joined : JoinedStandsFor limits engine.joined rest (events_of limits h)

@@ -3,10 +3,14 @@ pub mod EventActs
 pub mod Events
 pub mod Counting
 pub mod Parts
+pub mod Clocks
+pub mod Bounds
 pub mod Stops
 pub mod Following
 pub mod StandsFor
 pub mod Owing
 pub mod Ending
+pub mod Naming
 pub mod Replies
 pub mod Faults
+pub mod Asking

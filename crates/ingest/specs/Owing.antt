@@ -7,24 +7,27 @@ use Rattle.audit_lex.specs.History.{History, Settle, with_bytes}
 use Rattle.record_join.specs.Events.{Joining, next_event}
 use Rattle.record_join.specs.History.{released_after, left_after}
 use Rattle.record_join.specs.declared.event.Event.{Event}
+use Rattle.ingest.specs.Clocks.{IsClockOf}
 use Rattle.ingest.specs.Counting.{bytes_in}
 use Rattle.ingest.specs.Events.{state_of, events_of}
 use Rattle.ingest.specs.Parts.{Joined, Engine}
-use Rattle.ingest.specs.StandsFor.{ReaderStandsFor, JoinedStandsFor}
+use Rattle.ingest.specs.StandsFor.{ReaderStandsFor, JoinedStandsFor, HasNoTail}
 use Rattle.ingest.specs.Stops.{Fits, full_of, input_full}
 use Rattle.ingest.specs.declared.stop.Stop.{Stop}
 use Rattle.ingest.specs.declared.stop.StopWhy.{StopWhy}
 use Rattle.ingest.specs.declared.stop.StopWhy.TheVariants as why
 
--- the events that were followed are the first of the history's, and the joiner releases the others next, before all that
--- waits
-pub record MayOwe (limits : Limits) (engine : Engine) (h : History) : Type 0 where
+-- The events that were followed are the first of the history's, and the joiner releases the others next, before all that
+-- waits. Its clock has the greatest time seen of the history. The greatest key released and the effective time in this clock
+-- are those of the events that were followed.
+pub record MayOwe {K : Type 0} (limits : Limits) (engine : Engine K) (h : History) : Type 0 where
   pub reader : ReaderStandsFor limits engine.reader h
   pub rest : Joining
   pub done : List Event
   pub joined : JoinedStandsFor limits engine.joined rest done
   pub events_are : events_of limits h ≡ done ++ released_after limits rest
   pub left_is : state_of limits h ≡ left_after limits rest
+  pub clock : IsClockOf limits engine.joined.join.clock h done
   pub within : bytes_in h ≤ limits.input
 
 -- after the events that were followed, the next one would pass this limit
@@ -36,17 +39,18 @@ abbrev pub OwesBy : Limits → Joining → List Event → StopWhy → Type 0
 OwesBy limits rest done why.NoMemory = ⊤
 OwesBy limits rest done (why.Full full) = NextPasses limits rest done full
 
--- of what was ripe some events were followed, and the rest is owed for this cause
-pub record IsOwed (limits : Limits) (joined : Joined) (s : Joining) (released : List Event) (cause : StopWhy) : Type 0 where
+-- of what was ripe some events were followed, and the rest, one event or more, is owed for this cause
+pub record IsOwed {K : Type 0} (limits : Limits) (joined : Joined K) (s : Joining) (released : List Event) (cause : StopWhy) : Type 0 where
   pub rest : Joining
   pub done : List Event
   pub stands : JoinedStandsFor limits joined rest (released ++ done)
   pub done_is : released_after limits s ≡ done ++ released_after limits rest
   pub left_is : left_after limits s ≡ left_after limits rest
+  pub some : (event : Event) × (next_event limits rest ≡ Some event)
   pub by : OwesBy limits rest (released ++ done) cause
 
 -- the engine stands for the history, and owes for this cause
-pub record OwesFor (limits : Limits) (engine : Engine) (h : History) (cause : StopWhy) : Type 0 where
+pub record OwesFor {K : Type 0} (limits : Limits) (engine : Engine K) (h : History) (cause : StopWhy) : Type 0 where
   pub stands : MayOwe limits engine h
   pub by : OwesBy limits stands.rest stands.done cause
 
@@ -63,12 +67,21 @@ HaltsBy limits h piece done rest events why.NoMemory = ⊤
 HaltsBy limits h piece done rest events (why.Full full) = InputPasses limits h piece done full ⊎ NextPasses limits rest events full
 
 -- after a stop the engine stands for the history with the bytes of the piece that were done
-pub record Halts (limits : Limits) (engine : Engine) (h : History) (piece : List ℕ) (stop : Stop) : Type 0 where
+pub record Halts {K : Type 0} (limits : Limits) (engine : Engine K) (h : History) (piece : List ℕ) (stop : Stop) : Type 0 where
   pub within : stop.done ≤ length piece
   pub stands : MayOwe limits engine (with_bytes h (take stop.done piece))
   pub by : HaltsBy limits h piece stop.done stands.rest stands.done stop.why
 
--- after a settle that was refused the engine stands for the history as it was, where an event that was owed before or the
--- last line was refused, and else for the history with the settle
-abbrev pub HaltsSettling : Limits → Engine → History → StopWhy → Type 0
-HaltsSettling limits engine h cause = OwesFor limits engine h cause ⊎ (Fits limits h × OwesFor limits engine (h ++ Settle ∷ []) cause)
+-- an event of the history was not followed yet, or a byte of the last line had come
+abbrev pub IsUnsettled : {K : Type 0} → Limits → Engine K → History → List Event → Type 0
+IsUnsettled limits engine h done = (length done < length (events_of limits h)) ⊎ ¬ HasNoTail engine.reader
+
+-- A settle was refused. Either an event was owed before it, or a byte of the last line had come: then the engine may stand for
+-- the history as it was. Or the engine stands for the history with the settle.
+abbrev pub HaltsSettling : {K : Type 0} (limits : Limits) (old new : Engine K) (h : History) → MayOwe limits old h → StopWhy → Type 0
+HaltsSettling limits old new h w cause =
+    (IsUnsettled limits old h w.done × OwesFor limits new h cause) ⊎ (Fits limits h × OwesFor limits new (h ++ Settle ∷ []) cause)
+
+-- a settle was refused for this cause, whatever history it was
+abbrev pub SettleHalts : {K : Type 0} → Engine K → Engine K → StopWhy → Type 0
+SettleHalts old new cause = (limits : Limits) (h : History) (w : MayOwe limits old h) → HaltsSettling limits old new h w cause

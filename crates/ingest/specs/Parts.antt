@@ -15,17 +15,18 @@ pub record Reader : Type 0 where
   pub tally : Tally
   pub bytes : ℕ
 
--- the limits, what waits, the tables and kept flows of the events that were followed, and the counts of events and of
--- records in excess
-pub record Joined : Type 0 where
+-- the limits, what waits, the tables and kept flows of the events that were followed, the rows `keep` that keep these flows,
+-- and the counts of events and of records in excess
+pub record Joined (K : Type 0) : Type 0 where
   pub limits : Limits
   pub join : Joiner
   pub tables : Tables
   pub kept : KeptFlows
+  pub keep : K
   pub counts : EventCounts
   pub excess : ℕ
 
 -- both
-pub record Engine : Type 0 where
+pub record Engine (K : Type 0) : Type 0 where
   pub reader : Reader
-  pub joined : Joined
+  pub joined : Joined K

@@ -14,6 +14,7 @@ use Rattle.flow_events.specs.declared.tables.Tables.{Tables}
 use Rattle.flow_events.specs.Standing.{StandsFor as TablesStandFor, HasLimits}
 use Rattle.kept_flows.specs.KeptFlows.{KeptFlows, StandsFor as KeptStandsFor}
 use Rattle.record_join.specs.declared.event.Event.{Event}
+use Rattle.ingest.specs.Clocks.{HasReleased}
 use Rattle.ingest.specs.Counting.{bytes_in, tally_in, counts_in, total}
 use Rattle.ingest.specs.Events.{taken_in, flows_in, state_of, events_of}
 use Rattle.ingest.specs.Parts.{Reader, Joined, Engine}
@@ -61,9 +62,10 @@ pub record AreInTime (taken : List Taken) (s : Joining) : Type 0 where
   pub later : latest taken ≤ s.clock.effective
 
 -- this waits, and these events were released, counted and followed
-pub record JoinedStandsFor (limits : Limits) (joined : Joined) (s : Joining) (released : List Event) : Type 0 where
+pub record JoinedStandsFor {K : Type 0} (limits : Limits) (joined : Joined K) (s : Joining) (released : List Event) : Type 0 where
   pub limits_are : joined.limits ≡ limits
   pub join : JoinStandsFor limits joined.join s
+  pub released_last : HasReleased s.clock released
   pub excess : joined.excess ≡ s.excess
   pub counts : joined.counts ≡ counts_in released
   pub tables : TablesStandFor text_of joined.tables (taken_in limits released)
@@ -71,8 +73,12 @@ pub record JoinedStandsFor (limits : Limits) (joined : Joined) (s : Joining) (re
   pub in_time : AreInTime (taken_in limits released) s
   pub fits : full_of limits released ≡ None
 
+-- whatever limits and released events the joined parts stand for, this holds of them
+abbrev pub WhereJoined : {K : Type 0} → Joined K → (Limits → List Event → Type 0) → Type 0
+WhereJoined joined P = (limits : Limits) (s : Joining) (released : List Event) → JoinedStandsFor limits joined s released → P limits released
+
 -- the engine has read the history, joined its records and followed its events, and no limit is passed
-pub record StandsFor (limits : Limits) (engine : Engine) (h : History) : Type 0 where
+pub record StandsFor {K : Type 0} (limits : Limits) (engine : Engine K) (h : History) : Type 0 where
   pub reader : ReaderStandsFor limits engine.reader h
   pub joined : JoinedStandsFor limits engine.joined (state_of limits h) (events_of limits h)
   pub fits : Fits limits h

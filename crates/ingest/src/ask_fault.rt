@@ -1,10 +1,11 @@
 //! Why the engine gives no answer.
 ghost use Rattle.std.specs.Prelude.{◌≡◌};
 ghost use Rattle.ingest.specs.declared.ask_fault.AskFault.TheVariants as fault;
-ghost use Rattle.ingest.specs.Faults.{of_walk};
+ghost use Rattle.ingest.specs.Faults.{of_walk, of_reply};
 
 use flow_base::NoMemory;
 use query_walk::WalkFault;
+use report_json::Reply;
 
 /// Why the engine gives no answer: the store of rows failed, at this place of it stands no row, or no memory was found.
 #[derive(Clone, Copy, Debug, PartialEq, Eq)]
@@ -30,5 +31,15 @@ pub fn fault_of(refused: WalkFault) -> AskFault
         WalkFault::StoreFault => AskFault::StoreFault,
         WalkFault::BadStore(place) => AskFault::BadStore(place),
         WalkFault::NoMemory => AskFault::NoMemory,
+    }
+}
+
+/// A reply that only want of memory refuses, as the engine hands it on.
+pub fn of_reply(found: Result<Reply, NoMemory>) -> Result<Reply, AskFault>
+    ensures { result ≡ of_reply found }
+{
+    match found {
+        Ok(reply) => Ok(reply),
+        Err(NoMemory) => Err(AskFault::NoMemory),
     }
 }

@@ -6,20 +6,22 @@ ghost use Rattle.flow_base.specs.declared.limits.Full.{Full};
 ghost use Rattle.flow_base.specs.declared.limits.Limits.{Limits};
 ghost use Rattle.audit_lex.specs.History.{History, Settle, with_bytes};
 ghost use Rattle.record_join.specs.Events.{next_event};
+ghost use Rattle.record_join.specs.StandsFor.{NothingRipe};
 ghost use Rattle.kept_flows.specs.Answering.{NeverFail};
 ghost use Rattle.ingest.specs.Ending.{EndsLast};
 ghost use Rattle.ingest.specs.Events.{events_of};
-ghost use Rattle.ingest.specs.Owing.{MayOwe, Halts, HaltsSettling};
+ghost use Rattle.ingest.specs.Asking.{AskHasCauses, SameButRows, StandsStill};
+ghost use Rattle.ingest.specs.Owing.{MayOwe, Halts, SettleHalts};
 ghost use Rattle.ingest.specs.Replies.{IsQuestion, IsReply};
 ghost use Rattle.ingest.specs.StandsFor.{StandsFor, HasNoTail};
 ghost use Rattle.ingest.specs.Stops.{Fits, Stops, StopsFor};
 ghost use Rattle.ingest.specs.declared.ask_fault.AskFault.TheVariants as fault;
 ghost use Rattle.ingest.specs.declared.stop.StopWhy.TheVariants as why;
 
-use crate::ask_fault::AskFault;
+use crate::ask_fault::{AskFault, of_reply};
 use crate::event_flows::EventFlows;
 use crate::line_reader::LineReader;
-use crate::replies::{answer_question, answer_stat};
+use crate::replies::{answer_find, answer_question, answer_show, answer_stat, answer_why};
 use crate::stop::{Stop, StopWhy};
 use flow_base::{Full, Limit, Limits, NoMemory};
 use memchr::memchr;
@@ -41,10 +43,13 @@ pub struct Ingest<R: Reducer, K: Keep> {
 
 impl<R: Reducer, K: Keep> Model for Ingest<R, K> {
     ghost use Rattle.ingest.specs.Parts.{Engine};
+    ghost use Rattle.ingest.specs.Bounds.{HasFewRecords};
 
-    ghost Value = { Engine };
+    ghost Value = { Engine K };
 
     ghost view = { λ a. record { reader = a.reader; joined = a.joined } };
+
+    ghost invariant = { λ a. HasFewRecords a.reader a.joined };
 }
 
 impl<R: Reducer, K: Keep> Ingest<R, K> {
@@ -84,7 +89,7 @@ impl<R: Reducer, K: Keep> Ingest<R, K> {
         ensures ok { OnOk result ((limits : Limits) (h : History) → StandsFor limits self.old h → StandsFor limits self.new (h ++ Settle ∷ [])) }
         ensures again { OnOk result ((limits : Limits) (h : History) → MayOwe limits self.old h → StandsFor limits self.new (h ++ Settle ∷ [])) }
         ensures full { (full : Full) → result ≡ Err (why.Full full) → (limits : Limits) (h : History) → StandsFor limits self.old h → Stops limits (h ++ Settle ∷ []) full }
-        ensures halts { IfErr result (λ cause. (limits : Limits) (h : History) → MayOwe limits self.old h → HaltsSettling limits self.new h cause) }
+        ensures halts { IfErr result (SettleHalts self.old self.new) }
     {
         match self.joined.release() {
             Ok(()) => {}
@@ -116,25 +121,32 @@ impl<R: Reducer, K: Keep> Ingest<R, K> {
         self.joined.ripe()
     }
 
-    /// Answers a question about what was taken, where nothing is owed. Asking changes nothing.
+    /// Answers a question about what was taken, if nothing is owed.
+    ///
+    /// `StoreFault` means that a read of the rows failed during this call, or that the rows have stopped counting failed
+    /// reads. `BadStore` comes only from rows that aren't observable, and `NoMemory` means that allocation failed. Whatever
+    /// is returned, the engine stands for the same history as before.
     pub fn ask(&mut self, ask: &Ask) -> Result<Reply, AskFault>
         requires asks { IsQuestion ask.now }
         ensures reply { IfOk result (λ reply. (limits : Limits) (h : History) → StandsFor limits self.old h → IsReply R.mode limits h ask.now reply) }
+        ensures cause { AskHasCauses K.faults K.spent self.old self.new result }
         ensures never { NeverFail K.faults K.spent → IfErr result (λ why. why ≡ fault.NoMemory) }
-        ensures same { self.new ≡ self.old }
+        ensures stands { StandsStill self.old self.new }
+        ensures same { SameButRows self.old self.new }
     {
         match ask {
             Ask::Question(question) => answer_question(&mut self.joined, question),
-            Ask::Stat => match answer_stat(self.alloc, &self.reader, &self.joined) {
-                Ok(reply) => Ok(reply),
-                Err(NoMemory) => Err(AskFault::NoMemory),
-            },
+            Ask::Why { from, to, until } => answer_why(&mut self.joined, *from, *to, *until),
+            Ask::Find(text) => of_reply(answer_find(self.alloc, &self.joined, text.bytes())),
+            Ask::Show(id) => of_reply(answer_show(self.alloc, &self.joined, *id)),
+            Ask::Stat => of_reply(answer_stat(self.alloc, &self.reader, &self.joined)),
             Ask::Take(_) | Ask::Settle | Ask::End => unreachable!(),
         }
     }
 
     // Takes a piece, of which some bytes may be too many.
     fn feed_bounded(&mut self, piece: &[u8]) -> Result<(), Stop>
+        requires quiet { NothingRipe self.old.joined.join }
         ensures ok { OnOk result ((limits : Limits) (h : History) → StandsFor limits self.old h → StandsFor limits self.new (with_bytes h piece.now)) }
         ensures stop { IfErr result (λ stop. (limits : Limits) (h : History) → StandsFor limits self.old h → StopsFor limits h piece.now stop) }
         ensures halts { IfErr result (λ stop. (limits : Limits) (h : History) → StandsFor limits self.old h → Halts limits self.new h piece.now stop) }
@@ -158,6 +170,7 @@ impl<R: Reducer, K: Keep> Ingest<R, K> {
 
     // Takes a piece for which there is room.
     fn feed_within(&mut self, piece: &[u8]) -> Result<(), Stop>
+        requires quiet { NothingRipe self.old.joined.join }
         requires room { self.old.reader.bytes + length piece.now ≤ self.old.reader.limits.input }
         ensures limits { OnOk result (self.new.reader.limits ≡ self.old.reader.limits) }
         ensures ok { OnOk result ((limits : Limits) (h : History) → StandsFor limits self.old h → StandsFor limits self.new (with_bytes h piece.now)) }
@@ -177,8 +190,10 @@ impl<R: Reducer, K: Keep> Ingest<R, K> {
     // Takes bytes of a piece up to and with a line feed, and what comes of the line that they end. It says how many
     // bytes it took.
     fn feed_line(&mut self, piece: &[u8]) -> Result<usize, Stop>
+        requires quiet { NothingRipe self.old.joined.join }
         requires room { self.old.reader.bytes + length piece.now ≤ self.old.reader.limits.input }
         requires some { 0 < length piece.now }
+        ensures quiet { OnOk result (NothingRipe self.new.joined.join) }
         ensures within { IfOk result (λ n. n ≤ length piece.now) }
         ensures some { IfOk result (λ n. 0 < n) }
         ensures short { IfErr result (λ stop. stop.done ≤ length piece.now) }
@@ -207,6 +222,7 @@ impl<R: Reducer, K: Keep> Ingest<R, K> {
     fn hold(&mut self, part: &[u8]) -> Result<(), Stop>
         requires room { self.old.reader.bytes + length part.now ≤ self.old.reader.limits.input }
         requires no_feed { position_or_len (is_byte 10) part.now ≡ length part.now }
+        ensures joined { self.new.joined ≡ self.old.joined }
         ensures limits { self.new.reader.limits ≡ self.old.reader.limits }
         ensures bytes { OnOk result (self.new.reader.bytes ≡ self.old.reader.bytes + length part.now) }
         ensures ok { OnOk result ((limits : Limits) (h : History) → StandsFor limits self.old h → StandsFor limits self.new (with_bytes h part.now)) }
@@ -224,9 +240,11 @@ impl<R: Reducer, K: Keep> Ingest<R, K> {
 
     // Ends a line with these bytes and a line feed, and releases what is ripe then.
     fn end_line(&mut self, part: &[u8]) -> Result<(), Stop>
+        requires quiet { NothingRipe self.old.joined.join }
         requires room { self.old.reader.bytes + (length part.now + 1) ≤ self.old.reader.limits.input }
         requires no_feed { position_or_len (is_byte 10) part.now ≡ length part.now }
         requires whole { HasNoTail self.old.reader ⊎ (part.now ≡ []) }
+        ensures quiet { OnOk result (NothingRipe self.new.joined.join) }
         ensures limits { self.new.reader.limits ≡ self.old.reader.limits }
         ensures short { IfErr result (λ stop. stop.done ≤ length part.now + 1) }
         ensures bytes { OnOk result (self.new.reader.bytes ≡ self.old.reader.bytes + (length part.now + 1)) }
@@ -255,6 +273,7 @@ impl<R: Reducer, K: Keep> Ingest<R, K> {
     // Ends a line with these bytes and a line feed, and gives its record to the joiner. Where no memory is found nothing
     // has changed.
     fn join_line(&mut self, part: &[u8]) -> Result<(), NoMemory>
+        requires quiet { NothingRipe self.old.joined.join }
         requires room { self.old.reader.bytes + (length part.now + 1) ≤ self.old.reader.limits.input }
         requires no_feed { position_or_len (is_byte 10) part.now ≡ length part.now }
         requires whole { HasNoTail self.old.reader ⊎ (part.now ≡ []) }
@@ -276,8 +295,10 @@ impl<R: Reducer, K: Keep> Ingest<R, K> {
     // Ends the last line, where it has a byte, and gives its record to the joiner. Where no memory is found nothing has
     // changed.
     fn end_last(&mut self) -> Result<(), NoMemory>
+        requires quiet { NothingRipe self.old.joined.join }
         ensures ok { OnOk result ((limits : Limits) (h : History) → StandsFor limits self.old h → EndsLast limits self.new h) }
         ensures err { OnErr result (self.new ≡ self.old) }
+        ensures begun { OnErr result (¬ HasNoTail self.old.reader) }
     {
         match self.reader.read(&[])? {
             Some(item) => {

@@ -2,12 +2,12 @@
 //!
 //! An event that is ripe is prepared by the tables, with all the memory for it. Then its flows are taken in, and last the
 //! tables follow it, which can't fail: so an event that is refused has changed nothing, and stays in the joiner.
-ghost use Rattle.std.specs.Prelude.{◌≡◌, ◌≤◌, ◌<◌, ◌+◌, ◌^◌, ◌++◌, ◌∷◌, [], suc, List, None, Some, Err, true, length, is_some, OnOk, IfOk, OnErr, IfErr};
+ghost use Rattle.std.specs.Prelude.{◌≡◌, ◌≤◌, ◌<◌, ◌+◌, ◌*◌, ◌^◌, ◌++◌, ◌∷◌, [], suc, List, None, Some, Err, true, length, is_some, OnOk, IfOk, OnErr, IfErr, slice_get};
 ghost use Rattle.flow_base.specs.declared.limits.Full.{Full};
 ghost use Rattle.flow_base.specs.declared.limits.Limits.{Limits};
 ghost use Rattle.record_join.specs.Events.{Joining, enter, settled, count_keys, ripe_key, next_event, next_left};
 ghost use Rattle.record_join.specs.History.{start, released_after, left_after};
-ghost use Rattle.record_join.specs.StandsFor.{WhereStands, event_seen};
+ghost use Rattle.record_join.specs.StandsFor.{NothingRipe, WhereStands, event_seen};
 ghost use Rattle.record_join.specs.declared.event.Event.{Event as TheEvent};
 ghost use Rattle.reach_rows.specs.Asked.{subject};
 ghost use Rattle.acts.specs.declared.act.Taken.{Taken};
@@ -16,14 +16,17 @@ ghost use Rattle.acts.specs.LookBack.{full_at};
 ghost use Rattle.name_text.specs.Addresses.{text_of};
 ghost use Rattle.flow_events.specs.Standing.{HasLimits, IsReady, IsPlanOf};
 ghost use Rattle.query_walk.specs.declared.fault.WalkFault.TheVariants as walk;
-ghost use Rattle.kept_flows.specs.Answering.{AnswersFor, NeverFail};
+ghost use Rattle.kept_flows.specs.Answering.{AnswersFor, NeverFail, ShowsFor};
 ghost use Rattle.kept_flows.specs.KeptFlows.{StandsFor as KeptStandsFor};
+ghost use Rattle.ingest.specs.Asking.{WalkHasCauses};
+ghost use Rattle.ingest.specs.Bounds.{IsFew, IsBounded, StaysFew, OneMore};
 ghost use Rattle.ingest.specs.EventActs.{is_unmapped};
-ghost use Rattle.ingest.specs.Events.{flows_in};
+ghost use Rattle.ingest.specs.Events.{flows_in, objects_in};
 ghost use Rattle.ingest.specs.Following.{HasTaken, MayComeAt, turned_by};
+ghost use Rattle.ingest.specs.Naming.{named_in, names_in};
 ghost use Rattle.ingest.specs.Owing.{IsOwed, NextPasses};
 ghost use Rattle.ingest.specs.Replies.{KeepsSoMany};
-ghost use Rattle.ingest.specs.StandsFor.{JoinedStandsFor};
+ghost use Rattle.ingest.specs.StandsFor.{JoinedStandsFor, WhereJoined};
 ghost use Rattle.ingest.specs.declared.stop.StopWhy.TheVariants as why;
 ghost use Rattle.flow_events.specs.declared.fault.PrepareFault.TheVariants as fault;
 
@@ -32,9 +35,9 @@ use crate::stop::StopWhy;
 use acts::flows_of_acts_are_lawful;
 use audit_record::Record;
 use call_acts::{acts_are_few, acts_of_events_are_admitted, event_acts_are_admitted};
-use flow_base::{EntityId, Limits, List, NoMemory};
+use flow_base::{Bytes, EntityId, Key, Limits, List, NoMemory};
 use flow_events::{Plan, PrepareFault, Tables};
-use kept_flows::KeptFlows;
+use kept_flows::{KeptFlows, Way};
 use query_walk::WalkFault;
 use reach_model::Mode;
 use reach_rows::{Keep, Question, Reducer};
@@ -42,17 +45,10 @@ use record_join::{EventView, Join, Taken as Entered};
 use std::alloc::Global;
 use std::marker::Model;
 
-/// No log has so many acts: each takes a byte of it.
-const MOST_ACTS: u64 = 1 << 62;
-
-/// Nor has an event so many records.
-const MOST_RECORDS: usize = 1 << 60;
-
 /// Joins records into events, and follows their flows.
 #[derive(Drop)]
 pub struct EventFlows<R: Reducer, K: Keep> {
     alloc: Global,
-    limits: Limits,
     join: Join,
     tables: Tables,
     kept: KeptFlows<R, K>,
@@ -65,11 +61,11 @@ impl<R: Reducer, K: Keep> Model for EventFlows<R, K> {
     ghost use Rattle.ingest.specs.Parts.{Joined};
     ghost use Rattle.ingest.specs.StandsFor.{IsInTime};
 
-    ghost Value = { Joined };
+    ghost Value = { Joined K };
 
-    ghost view = { λ a. record { limits = a.limits; join = a.join; tables = a.tables; kept = a.kept; counts = a.counts; excess = a.excess } };
+    ghost view = { λ a. record { limits = a.tables.limits; join = a.join; tables = a.tables; kept = a.kept.kept; keep = a.kept.keep; counts = a.counts; excess = a.excess } };
 
-    ghost invariant = { λ a. IsInTime a.limits a.join a.tables a.kept };
+    ghost invariant = { λ a. IsInTime a.tables.limits a.join a.tables a.kept.kept };
 }
 
 impl<R: Reducer, K: Keep> EventFlows<R, K> {
@@ -80,11 +76,11 @@ impl<R: Reducer, K: Keep> EventFlows<R, K> {
         requires told { K.rows keep ≡ Some [] }
         requires count { K.count keep ≡ 0 }
         requires known { K.known keep ≡ 0 }
-        ensures { JoinedStandsFor limits.now result start [] }
+        ensures stands { JoinedStandsFor limits.now result start [] }
+        ensures few { IsFew 0 result }
     {
         EventFlows {
             alloc,
-            limits: *limits,
             join: Join::new(alloc, limits),
             tables: Tables::new(alloc, limits),
             kept: KeptFlows::new(reducer, keep),
@@ -95,8 +91,10 @@ impl<R: Reducer, K: Keep> EventFlows<R, K> {
 
     /// Gives a record to the joiner. Where no memory is found nothing has changed.
     pub fn enter(&mut self, item: Record) -> Result<(), NoMemory>
+        requires quiet { NothingRipe self.old.join }
         ensures ok { OnOk result ((limits : Limits) (s : Joining) (released : List TheEvent) → JoinedStandsFor limits self.old s released → s.excess < 2 ^ 61
             → JoinedStandsFor limits self.new (enter limits s item) released) }
+        ensures few { OnOk result (OneMore self.old self.new) }
         ensures err { OnErr result (self.new ≡ self.old) }
     {
         let taken = self.join.take(item)?;
@@ -108,7 +106,8 @@ impl<R: Reducer, K: Keep> EventFlows<R, K> {
 
     /// Closes all that waits.
     pub fn close(&mut self)
-        ensures { (limits : Limits) (s : Joining) (released : List TheEvent) → JoinedStandsFor limits self.old s released → JoinedStandsFor limits self.new (settled s) released }
+        ensures closed { (limits : Limits) (s : Joining) (released : List TheEvent) → JoinedStandsFor limits self.old s released → JoinedStandsFor limits self.new (settled s) released }
+        ensures few { StaysFew self.old self.new }
     {
         self.join.settle();
     }
@@ -116,6 +115,9 @@ impl<R: Reducer, K: Keep> EventFlows<R, K> {
     /// Releases all that is ripe. It stops at an event that would pass a limit, or for which no memory is found: this one
     /// and those behind it are owed.
     pub fn release(&mut self) -> Result<(), StopWhy>
+        requires few { IsBounded self.old }
+        ensures quiet { OnOk result (NothingRipe self.new.join) }
+        ensures few { StaysFew self.old self.new }
         ensures ok { OnOk result ((limits : Limits) (s : Joining) (released : List TheEvent) → JoinedStandsFor limits self.old s released → length released + length s.waiting ≤ 2 ^ 61
             → JoinedStandsFor limits self.new (left_after limits s) (released ++ released_after limits s)) }
         ensures owed { IfErr result (λ cause. (limits : Limits) (s : Joining) (released : List TheEvent) → JoinedStandsFor limits self.old s released → length released + length s.waiting ≤ 2 ^ 61
@@ -192,38 +194,87 @@ impl<R: Reducer, K: Keep> EventFlows<R, K> {
         self.kept.count()
     }
 
-    /// The answer to a question about a known object, and none where the mode doesn't answer it. Asking changes nothing.
+    /// The answer to a question about a known object, or `None` if the mode doesn't answer it. Asking changes nothing but
+    /// the rows, which stay those of the same flows.
     pub fn ask(&mut self, question: &Question) -> Result<Option<List<EntityId>>, WalkFault>
         requires known { subject question.now < length self.old.tables.entities.keys }
         ensures exact { IfOk result (λ found. (limits : Limits) (s : Joining) (released : List TheEvent) → JoinedStandsFor limits self.old s released → AnswersFor R.mode (flows_in limits released) question.now found) }
+        ensures cause { WalkHasCauses K.faults K.spent self.old self.new result }
         ensures never { NeverFail K.faults K.spent → IfErr result (λ why. why ≡ walk.NoMemory) }
-        ensures same { self.new ≡ self.old }
+        ensures same { self.new ≡ record self.old { keep = self.new.keep } }
     {
         flows_of_acts_are_lawful();
         self.kept.ask(self.alloc, question)
     }
 
+    /// How one known object reached another, by flows no later than `until` in milliseconds. Asking changes nothing but the
+    /// rows, which stay those of the same flows.
+    pub fn path(
+        &mut self,
+        from: EntityId,
+        to: EntityId,
+        until: Option<u64>,
+    ) -> Result<Way, WalkFault>
+        requires from { from.0 < length self.old.tables.entities.keys }
+        requires to { to.0 < length self.old.tables.entities.keys }
+        ensures exact { IfOk result (λ way. WhereJoined self.old (λ limits events.
+            ShowsFor R.mode (flows_in limits events) from.0 to.0 until way)) }
+        ensures cause { WalkHasCauses K.faults K.spent self.old self.new result }
+        ensures never { NeverFail K.faults K.spent → IfErr result (λ why. why ≡ walk.NoMemory) }
+        ensures same { self.new ≡ record self.old { keep = self.new.keep } }
+    {
+        flows_of_acts_are_lawful();
+        self.kept.path(self.alloc, from, to, until)
+    }
+
+    /// The known objects that have exactly this name, ascending.
+    pub fn find(&self, text: &[u8]) -> Result<List<EntityId>, NoMemory>
+        ensures { IfOk result (λ ids. WhereJoined self.now (λ limits events.
+            ids ≡ named_in limits events text.now)) }
+    {
+        let _ = &self.join;
+        self.tables.entities().find(text)
+    }
+
+    /// The key of a known object.
+    pub fn key(&self, id: EntityId) -> &Key
+        requires known { id.0 < length self.now.tables.entities.keys }
+        ensures { WhereJoined self.now (λ limits events.
+            slice_get (objects_in limits events) id.0 ≡ Some result.now) }
+    {
+        let _ = &self.join;
+        self.tables.entities().key(id)
+    }
+
+    /// The names of a key, in the order in which they were first given.
+    pub fn names(&self, key: &Key) -> &[Bytes]
+        ensures { WhereJoined self.now (λ limits events. result.now ≡ names_in limits events key.now) }
+    {
+        let _ = &self.join;
+        match self.tables.entities().names(key) {
+            Some(names) => names,
+            None => &[],
+        }
+    }
+
     // Follows the event that is released next. Where it is refused nothing has changed.
     fn follow(&mut self) -> Result<(), StopWhy>
+        requires few { IsBounded self.old }
         requires ripe { WhereStands self.old.join (λ limits s. is_some (ripe_key limits s) ≡ true) }
         ensures next { OnOk result ((limits : Limits) (s : Joining) (released : List TheEvent) (event : TheEvent) → JoinedStandsFor limits self.old s released → length released < 2 ^ 62 → next_event limits s ≡ Some event
             → JoinedStandsFor limits self.new (next_left limits s) (released ++ event ∷ [])) }
         ensures less { OnOk result (length self.old.join.groups ≡ suc (length self.new.join.groups)) }
+        ensures few { StaysFew self.old self.new }
         ensures refused { OnErr result ((limits : Limits) (s : Joining) (released : List TheEvent) → JoinedStandsFor limits self.old s released → JoinedStandsFor limits self.new s released) }
         ensures full { (full : Full) → result ≡ Err (why.Full full) → (limits : Limits) (s : Joining) (released : List TheEvent) → JoinedStandsFor limits self.old s released → NextPasses limits s released full }
     {
+        acts_are_few();
         event_acts_are_admitted();
         acts_of_events_are_admitted();
         let Some(event) = self.join.peek() else {
             unreachable!()
         };
-        let plan = match take_event(
-            self.alloc,
-            &self.limits,
-            &mut self.tables,
-            &mut self.kept,
-            &event,
-        ) {
+        let plan = match take_event(self.alloc, &mut self.tables, &mut self.kept, &event) {
             Ok(plan) => plan,
             Err(cause) => return Err(cause),
         };
@@ -238,25 +289,25 @@ impl<R: Reducer, K: Keep> EventFlows<R, K> {
 // and the tables say the same as before in any case.
 fn take_event<R: Reducer, K: Keep>(
     alloc: Global,
-    limits: &Limits,
     tables: &mut Tables,
     kept: &mut KeptFlows<R, K>,
     event: &EventView<'_>,
 ) -> Result<Plan, StopWhy>
-    requires taken { (taken : List Taken) × MayComeAt event.now.ms tables.old kept.old taken }
-    requires limits { HasLimits limits.now tables.old }
+    requires taken { (taken : List Taken) × MayComeAt event.now.ms tables.old kept.old.kept taken }
+    requires limits { HasLimits tables.old.limits tables.old }
+    requires few { tables.old.acts + 2 * length event.now.records.now ≤ 6 * 2 ^ 60 }
     ensures same { (taken : List Taken) → HasTaken tables.old taken → HasTaken tables.new taken }
-    ensures limits { HasLimits limits.now tables.new }
-    ensures kept { IfOk result (λ plan. (taken : List Taken) → MayComeAt event.now.ms tables.old kept.old taken → KeptStandsFor kept.new (flows_by (turned_by limits.now (event_seen event.now) ++ taken))) }
-    ensures refused { OnErr result (kept.new ≡ kept.old) }
+    ensures limits { HasLimits tables.old.limits tables.new }
+    ensures kept { IfOk result (λ plan. (taken : List Taken) → MayComeAt event.now.ms tables.old kept.old.kept taken → KeptStandsFor kept.new.kept (flows_by (turned_by tables.old.limits (event_seen event.now) ++ taken))) }
+    ensures refused { OnErr result (kept.new.kept ≡ kept.old.kept) }
     ensures ready { IfOk result (λ plan. IsReady tables.new plan) }
     ensures unmapped { IfOk result (λ plan. plan.unmapped ≡ is_unmapped (event_seen event.now)) }
-    ensures plan { IfOk result (λ plan. (taken : List Taken) → HasTaken tables.old taken → IsPlanOf text_of plan taken (turned_by limits.now (event_seen event.now))) }
-    ensures fits { IfOk result (λ plan. (taken : List Taken) → HasTaken tables.old taken → full_at limits.now.entities limits.now.flows (turned_by limits.now (event_seen event.now) ++ taken) ≡ None) }
-    ensures full { (full : Full) → result ≡ Err (why.Full full) → (taken : List Taken) → HasTaken tables.old taken → full_at limits.now.entities limits.now.flows (turned_by limits.now (event_seen event.now) ++ taken) ≡ Some full }
+    ensures plan { IfOk result (λ plan. (taken : List Taken) → HasTaken tables.old taken → IsPlanOf text_of plan taken (turned_by tables.old.limits (event_seen event.now))) }
+    ensures fits { IfOk result (λ plan. (taken : List Taken) → HasTaken tables.old taken → full_at tables.old.limits.entities tables.old.limits.flows (turned_by tables.old.limits (event_seen event.now) ++ taken) ≡ None) }
+    ensures full { (full : Full) → result ≡ Err (why.Full full) → (taken : List Taken) → HasTaken tables.old taken → full_at tables.old.limits.entities tables.old.limits.flows (turned_by tables.old.limits (event_seen event.now) ++ taken) ≡ Some full }
 {
     flows_of_acts_are_lawful();
-    let plan = match plan_event(alloc, limits, tables, event) {
+    let plan = match plan_event(alloc, tables, event) {
         Ok(plan) => plan,
         Err(refused) => return Err(refused),
     };
@@ -267,27 +318,20 @@ fn take_event<R: Reducer, K: Keep>(
 }
 
 // Works out what an event does, with all the memory for it. The tables say the same as before.
-fn plan_event(
-    alloc: Global,
-    limits: &Limits,
-    tables: &mut Tables,
-    event: &EventView<'_>,
-) -> Result<Plan, StopWhy>
+fn plan_event(alloc: Global, tables: &mut Tables, event: &EventView<'_>) -> Result<Plan, StopWhy>
     requires taken { (taken : List Taken) × HasTaken tables.old taken }
-    requires limits { HasLimits limits.now tables.old }
+    requires limits { HasLimits tables.old.limits tables.old }
+    requires few { tables.old.acts + 2 * length event.now.records.now ≤ 6 * 2 ^ 60 }
     ensures same { (taken : List Taken) → HasTaken tables.old taken → HasTaken tables.new taken }
-    ensures limits { HasLimits limits.now tables.new }
+    ensures limits { HasLimits tables.old.limits tables.new }
     ensures ready { IfOk result (λ plan. IsReady tables.new plan) }
     ensures unmapped { IfOk result (λ plan. plan.unmapped ≡ is_unmapped (event_seen event.now)) }
-    ensures plan { IfOk result (λ plan. (taken : List Taken) → HasTaken tables.old taken → IsPlanOf text_of plan taken (turned_by limits.now (event_seen event.now))) }
-    ensures fits { IfOk result (λ plan. (taken : List Taken) → HasTaken tables.old taken → full_at limits.now.entities limits.now.flows (turned_by limits.now (event_seen event.now) ++ taken) ≡ None) }
-    ensures full { (full : Full) → result ≡ Err (why.Full full) → (taken : List Taken) → HasTaken tables.old taken → full_at limits.now.entities limits.now.flows (turned_by limits.now (event_seen event.now) ++ taken) ≡ Some full }
+    ensures plan { IfOk result (λ plan. (taken : List Taken) → HasTaken tables.old taken → IsPlanOf text_of plan taken (turned_by tables.old.limits (event_seen event.now))) }
+    ensures fits { IfOk result (λ plan. (taken : List Taken) → HasTaken tables.old taken → full_at tables.old.limits.entities tables.old.limits.flows (turned_by tables.old.limits (event_seen event.now) ++ taken) ≡ None) }
+    ensures full { (full : Full) → result ≡ Err (why.Full full) → (taken : List Taken) → HasTaken tables.old taken → full_at tables.old.limits.entities tables.old.limits.flows (turned_by tables.old.limits (event_seen event.now) ++ taken) ≡ Some full }
 {
     acts_are_few();
-    if tables.acts() >= MOST_ACTS || event.records.len() >= MOST_RECORDS {
-        return Err(StopWhy::NoMemory);
-    }
-    match tables.prepare(alloc, event, limits) {
+    match tables.prepare(alloc, event) {
         Ok(plan) => Ok(plan),
         Err(fault) => Err(why_of(fault)),
     }

@@ -12,6 +12,8 @@ ghost use Rattle.ingest.specs.StandsFor.{StandsFor};
 ghost use Rattle.ingest.specs.Owing.{MayOwe};
 ghost use Rattle.record_join.specs.Events.{next_event};
 
+use reach_rows::Keep;
+
 /// What has stopped stays stopped at that limit, whatever comes later.
 pub fn stops_stay()
     ensures { (limits : Limits) (h more : History) (full : Full) → Stops limits h full → Stops limits (h ++ more) full }
@@ -33,11 +35,11 @@ pub fn lines_spell_records()
 {}
 
 /// An engine that stands for a history owes nothing of it.
-pub fn what_stands_owes_nothing()
-    ensures { (limits : Limits) (engine : Engine) (h : History) → StandsFor limits engine h → (w : MayOwe limits engine h) × (next_event limits w.rest ≡ None) }
+pub fn what_stands_owes_nothing<K: Keep>()
+    ensures { (limits : Limits) (engine : Engine K) (h : History) → StandsFor limits engine h → (w : MayOwe limits engine h) × (next_event limits w.rest ≡ None) }
 {}
 
 /// An engine that owes nothing of a history stands for it.
-pub fn what_owes_nothing_stands()
-    ensures { (limits : Limits) (engine : Engine) (h : History) (w : MayOwe limits engine h) → next_event limits w.rest ≡ None → StandsFor limits engine h }
+pub fn what_owes_nothing_stands<K: Keep>()
+    ensures { (limits : Limits) (engine : Engine K) (h : History) (w : MayOwe limits engine h) → next_event limits w.rest ≡ None → StandsFor limits engine h }
 {}

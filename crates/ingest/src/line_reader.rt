@@ -1,7 +1,7 @@
 //! The lines of a log: cut, counted and read.
 //!
 //! A line that came whole is read where it stands. Only a line that began in an earlier piece is held.
-ghost use Rattle.std.specs.Prelude.{◌≡◌, ◌≤◌, ◌<◌, ◌+◌, ◌⊎◌, ◌^◌, ◌++◌, ◌∷◌, [], None, Some, true, false, length, IfOk, OnOk, OnErr};
+ghost use Rattle.std.specs.Prelude.{◌≡◌, ◌≤◌, ◌<◌, ◌+◌, ◌⊎◌, ◌^◌, ◌++◌, ◌∷◌, [], None, Some, Ok, true, false, length, IfOk, OnOk, OnErr};
 ghost use Rattle.std.specs.List.{position_or_len};
 ghost use Rattle.memchr.specs.Find.{is_byte};
 ghost use Rattle.flow_base.specs.declared.limits.Limits.{Limits};
@@ -10,6 +10,7 @@ ghost use Rattle.audit_lex.specs.History.{History, Settle, with_bytes, lines_of,
 ghost use Rattle.audit_lex.specs.Lexing.{class_seen};
 ghost use Rattle.audit_lex.specs.LineClass.{class_of};
 ghost use Rattle.audit_lex.specs.LineCut.{StandsFor as CutStandsFor};
+ghost use Rattle.ingest.specs.Bounds.{EndsLine, KeepsLines};
 ghost use Rattle.ingest.specs.Counting.{tally_of_lines, total};
 ghost use Rattle.ingest.specs.LineRecords.{record_of};
 ghost use Rattle.ingest.specs.StandsFor.{ReaderStandsFor, HasNoTail};
@@ -45,7 +46,8 @@ impl Model for LineReader {
 impl LineReader {
     /// A reader that has taken nothing.
     pub fn new(alloc: Global, limits: &Limits) -> LineReader
-        ensures { ReaderStandsFor limits.now result [] }
+        ensures stands { ReaderStandsFor limits.now result [] }
+        ensures lines { result.cut.lines ≡ 0 }
     {
         LineReader {
             alloc,
@@ -99,6 +101,7 @@ impl LineReader {
         requires no_feed { position_or_len (is_byte 10) part.now ≡ length part.now }
         ensures limits { self.new.limits ≡ self.old.limits }
         ensures bytes { OnOk result (self.new.bytes ≡ self.old.bytes + length part.now) }
+        ensures lines { OnOk result (KeepsLines self.old self.new) }
         ensures stands { OnOk result ((limits : Limits) (h : History) → ReaderStandsFor limits self.old h → ReaderStandsFor limits self.new (with_bytes h part.now)) }
         ensures err { OnErr result (self.new ≡ self.old) }
     {
@@ -112,7 +115,7 @@ impl LineReader {
         requires no_feed { position_or_len (is_byte 10) part.now ≡ length part.now }
         requires whole { HasNoTail self.now ⊎ (part.now ≡ []) }
         ensures reads { IfOk result (λ r. (limits : Limits) (h : History) → ReaderStandsFor limits self.now h → r ≡ record_of limits.line (tail_of h ++ part.now)) }
-        ensures nothing { HasNoTail self.now → part.now ≡ [] → IfOk result (λ r. r ≡ None) }
+        ensures nothing { HasNoTail self.now → part.now ≡ [] → result ≡ Ok None }
     {
         if self.cut.long() {
             return Ok(None);
@@ -132,6 +135,7 @@ impl LineReader {
         requires whole { HasNoTail self.old ⊎ (part.now ≡ []) }
         ensures limits { self.new.limits ≡ self.old.limits }
         ensures bytes { self.new.bytes ≡ self.old.bytes + (length part.now + 1) }
+        ensures lines { EndsLine self.old self.new }
         ensures stands { (limits : Limits) (h : History) (item : TheRecord) → ReaderStandsFor limits self.old h → record_of limits.line (tail_of h ++ part.now) ≡ Some item
             → ReaderStandsFor limits self.new (with_bytes h (part.now ++ 10 ∷ [])) }
     {
@@ -147,6 +151,7 @@ impl LineReader {
         requires whole { HasNoTail self.old ⊎ (part.now ≡ []) }
         ensures limits { self.new.limits ≡ self.old.limits }
         ensures bytes { OnOk result (self.new.bytes ≡ self.old.bytes + (length part.now + 1)) }
+        ensures lines { OnOk result (KeepsLines self.old self.new) }
         ensures stands { OnOk result ((limits : Limits) (h : History) → ReaderStandsFor limits self.old h → record_of limits.line (tail_of h ++ part.now) ≡ None
             → ReaderStandsFor limits self.new (with_bytes h (part.now ++ 10 ∷ []))) }
         ensures err { OnErr result (self.new ≡ self.old) }
@@ -162,6 +167,7 @@ impl LineReader {
         requires begun { HasNoTail self.old → ⊥ }
         ensures limits { self.new.limits ≡ self.old.limits }
         ensures bytes { self.new.bytes ≡ self.old.bytes }
+        ensures lines { EndsLine self.old self.new }
         ensures stands { (limits : Limits) (h : History) (item : TheRecord) → ReaderStandsFor limits self.old h → record_of limits.line (tail_of h) ≡ Some item
             → ReaderStandsFor limits self.new (h ++ Settle ∷ []) }
     {
@@ -173,9 +179,11 @@ impl LineReader {
     pub fn settle_other(&mut self) -> Result<(), NoMemory>
         ensures limits { self.new.limits ≡ self.old.limits }
         ensures bytes { self.new.bytes ≡ self.old.bytes }
+        ensures lines { OnOk result (KeepsLines self.old self.new) }
         ensures stands { OnOk result ((limits : Limits) (h : History) → ReaderStandsFor limits self.old h → record_of limits.line (tail_of h) ≡ None
             → ReaderStandsFor limits self.new (h ++ Settle ∷ [])) }
         ensures err { OnErr result (self.new ≡ self.old) }
+        ensures begun { OnErr result (¬ HasNoTail self.old) }
     {
         if self.is_between_lines() {
             return Ok(());

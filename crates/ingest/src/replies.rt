@@ -1,20 +1,24 @@
 //! Replies to what is asked.
-ghost use Rattle.std.specs.Prelude.{◌≡◌, List, length, IfOk, IfErr};
+ghost use Rattle.std.specs.Prelude.{◌≡◌, ◌<◌, ℕ, List, Option, length, IfOk, IfErr};
 ghost use Rattle.flow_base.specs.declared.limits.Limits.{Limits};
 ghost use Rattle.flow_base.specs.declared.types.Flow.{Flow};
 ghost use Rattle.audit_lex.specs.History.{History};
 ghost use Rattle.record_join.specs.Events.{Joining};
 ghost use Rattle.record_join.specs.declared.event.Event.{Event};
-ghost use Rattle.kept_flows.specs.Answering.{AreAnswers, NeverFail};
-ghost use Rattle.ingest.specs.Replies.{AnswersQuestion, SaysAnswers, SaysCounts};
-ghost use Rattle.ingest.specs.StandsFor.{ReaderStandsFor, JoinedStandsFor};
+ghost use Rattle.kept_flows.specs.Answering.{AreAnswers, NeverFail, ShowsFor};
+ghost use Rattle.ingest.specs.Asking.{FaultsHaveCauses};
+ghost use Rattle.ingest.specs.Replies.{AnswersFind, AnswersQuestion, AnswersShow, AnswersWhy, SaysAnswers, SaysCounts};
+ghost use Rattle.ingest.specs.StandsFor.{ReaderStandsFor, JoinedStandsFor, WhereJoined};
 ghost use Rattle.ingest.specs.Events.{state_of, events_of, flows_in, objects_in};
+ghost use Rattle.reach_model.specs.declared.modes.Mode.{Mode};
 ghost use Rattle.ingest.specs.declared.ask_fault.AskFault.TheVariants as fault;
 
 use crate::ask_fault::{AskFault, fault_of};
 use crate::event_flows::EventFlows;
 use crate::line_reader::LineReader;
-use flow_base::{Bad, EntityId, List, NoMemory};
+use flow_base::{Bad, Bytes, EntityId, List, NoMemory};
+use kept_flows::Way;
+use name_text::key_text;
 use reach_model::Mode;
 use reach_rows::{Keep, Question, Reducer};
 use report_json::{Counts, Reply};
@@ -26,8 +30,9 @@ pub fn answer_question<R: Reducer, K: Keep>(
     question: &Question,
 ) -> Result<Reply, AskFault>
     ensures reply { IfOk result (λ said. (limits : Limits) (s : Joining) (released : List Event) → JoinedStandsFor limits joined.old s released → AnswersQuestion R.mode (length (objects_in limits released)) (flows_in limits released) question.now said) }
+    ensures cause { FaultsHaveCauses K.faults K.spent joined.old joined.new result }
     ensures never { NeverFail K.faults K.spent → IfErr result (λ why. why ≡ fault.NoMemory) }
-    ensures same { joined.new ≡ joined.old }
+    ensures same { joined.new ≡ record joined.old { keep = joined.new.keep } }
 {
     if question.subject().0 >= joined.known() {
         return Ok(Reply::Unknown);
@@ -37,6 +42,92 @@ pub fn answer_question<R: Reducer, K: Keep>(
         Ok(Some(ids)) => Ok(say(joined.mode(), question, ids)),
         Err(fault) => Err(fault_of(fault)),
     }
+}
+
+/// The reply to the question how one object reached another.
+pub fn answer_why<R: Reducer, K: Keep>(
+    joined: &mut EventFlows<R, K>,
+    from: EntityId,
+    to: EntityId,
+    until: Option<u64>,
+) -> Result<Reply, AskFault>
+    ensures reply { IfOk result (λ said. WhereJoined joined.old (λ limits events.
+        AnswersWhy R.mode (length (objects_in limits events)) (flows_in limits events) from to until said)) }
+    ensures cause { FaultsHaveCauses K.faults K.spent joined.old joined.new result }
+    ensures never { NeverFail K.faults K.spent → IfErr result (λ why. why ≡ fault.NoMemory) }
+    ensures same { joined.new ≡ record joined.old { keep = joined.new.keep } }
+{
+    let known = joined.known();
+    if from.0 >= known || to.0 >= known {
+        return Ok(Reply::Unknown);
+    }
+    match joined.path(from, to, until) {
+        Ok(way) => Ok(say_way(from, to, way)),
+        Err(fault) => Err(fault_of(fault)),
+    }
+}
+
+// The reply that has this path.
+fn say_way(from: EntityId, to: EntityId, way: Way) -> Reply
+    ensures { (kind : Mode) (known : ℕ) (flows : List Flow) (until : Option ℕ) → from.0 < known → to.0 < known
+        → ShowsFor kind flows from.0 to.0 until way → AnswersWhy kind known flows from to until result }
+{
+    match way {
+        Way::NotKept => Reply::NotKept,
+        Way::Nowhere => Reply::Why {
+            from,
+            to,
+            path: None,
+        },
+        Way::Along(path) => Reply::Why {
+            from,
+            to,
+            path: Some(path),
+        },
+    }
+}
+
+/// The reply that has the objects with exactly this name.
+pub fn answer_find<R: Reducer, K: Keep>(
+    alloc: Global,
+    joined: &EventFlows<R, K>,
+    text: &[u8],
+) -> Result<Reply, NoMemory>
+    ensures { IfOk result (λ said. WhereJoined joined.now (λ limits events.
+        AnswersFind limits events text.now said)) }
+{
+    let ids = joined.find(text)?;
+    let text = Bytes::from_slice(alloc, text)?;
+    Ok(Reply::Find { text, ids })
+}
+
+/// The reply that says what an object is.
+pub fn answer_show<R: Reducer, K: Keep>(
+    alloc: Global,
+    joined: &EventFlows<R, K>,
+    id: EntityId,
+) -> Result<Reply, NoMemory>
+    ensures { IfOk result (λ said. WhereJoined joined.now (λ limits events.
+        AnswersShow limits events id said)) }
+{
+    if id.0 >= joined.known() {
+        return Ok(Reply::Unknown);
+    }
+    let own = joined.key(id);
+    let key = key_text(alloc, own)?;
+    let names = copy_names(alloc, joined.names(own))?;
+    Ok(Reply::Show { id, key, names })
+}
+
+// A copy of these names.
+fn copy_names(alloc: Global, names: &[Bytes]) -> Result<List<Bytes>, NoMemory>
+    ensures { IfOk result (λ made. made ≡ names.now) }
+{
+    let mut made = List::new(alloc);
+    for name in names {
+        made.push(name.copy()?)?;
+    }
+    Ok(made)
 }
 
 // The reply that has these answers. Backward in source mode they are sources.

@@ -7,7 +7,7 @@ use crate::{Ingest, Stop, StopWhy};
 use flow_base::{EntityId, Full, Limit, Limits, NoMemory};
 use reach_rows::{Plain, Question, Reducer, VecRows};
 use reduce_continuous::Continuous;
-use report_json::{Ask, reply_text};
+use report_json::{Ask, FindText, reply_text};
 use std::alloc::Global;
 use std::test::Fail;
 
@@ -31,6 +31,22 @@ const SEEN: &[u8] =
 const CHANGES: &[u8] =
     b"type=SYSCALL msg=audit(1.000:1): arch=c000003e syscall=90 success=yes exit=0 a0=0 a1=0 a2=0 a3=0 items=0 ppid=1 pid=100 comm=\"p\" exe=\"/p\"\ntype=PATH msg=audit(1.000:1): item=0 name=\"/f7\" inode=7 dev=08:01 nametype=NORMAL\ntype=EOE msg=audit(1.000:1): \ntype=SYSCALL msg=audit(2.000:2): arch=c000003e syscall=90 success=yes exit=0 a0=0 a1=0 a2=0 a3=0 items=0 ppid=1 pid=200 comm=\"p\" exe=\"/p\"\ntype=PATH msg=audit(2.000:2): item=0 name=\"/f7\" inode=7 dev=08:01 nametype=NORMAL\ntype=EOE msg=audit(2.000:2): \ntype=SYSCALL msg=audit(3.000:3): arch=c000003e syscall=90 success=yes exit=0 a0=0 a1=0 a2=0 a3=0 items=0 ppid=1 pid=100 comm=\"p\" exe=\"/p\"\ntype=PATH msg=audit(3.000:3): item=0 name=\"/f7\" inode=7 dev=08:01 nametype=NORMAL\ntype=EOE msg=audit(3.000:3): \n";
 
+/// A change of a file whose name is in hex, and a name with half a byte.
+const HEX_CODED: &[u8] =
+    b"type=SYSCALL msg=audit(1.000:1): arch=c000003e syscall=90 success=yes exit=0 a0=0 a1=0 a2=0 a3=0 items=0 ppid=1 pid=100 comm=\"p\" exe=\"/p\"\ntype=PATH msg=audit(1.000:1): item=0 name=2F746D702F6120622E747874 inode=7 dev=08:01 nametype=NORMAL\ntype=PATH msg=audit(1.000:1): item=1 name=2F7 nametype=NORMAL\ntype=EOE msg=audit(1.000:1): \n";
+
+/// 101 is seen before 100 forks it, ends, and its pid is forked again.
+const USED_AGAIN: &[u8] =
+    b"type=SYSCALL msg=audit(1.000:1): arch=c000003e syscall=90 success=no exit=-13 a0=0 a1=0 a2=0 a3=0 items=0 ppid=1 pid=100 comm=\"p\" exe=\"/p\"\ntype=SYSCALL msg=audit(1.001:2): arch=c000003e syscall=0 success=yes exit=5 a0=3 a1=0 a2=5 a3=0 items=0 ppid=100 pid=101 comm=\"p\" exe=\"/p\"\ntype=SYSCALL msg=audit(1.002:3): arch=c000003e syscall=57 success=yes exit=101 a0=0 a1=0 a2=0 a3=0 items=0 ppid=1 pid=100 comm=\"p\" exe=\"/p\"\ntype=SYSCALL msg=audit(1.003:4): arch=c000003e syscall=231 success=yes exit=0 a0=0 a1=0 a2=0 a3=0 items=0 ppid=100 pid=101 comm=\"p\" exe=\"/p\"\ntype=SYSCALL msg=audit(1.004:5): arch=c000003e syscall=57 success=yes exit=101 a0=0 a1=0 a2=0 a3=0 items=0 ppid=1 pid=100 comm=\"p\" exe=\"/p\"\n";
+
+/// 100 opens file 7, copies its descriptor, runs file 8, reads from both descriptors, connects and writes.
+const DESCRIPTORS: &[u8] =
+    b"type=SYSCALL msg=audit(1.000:1): arch=c000003e syscall=257 success=yes exit=3 a0=ffffff9c a1=0 a2=80000 a3=0 items=0 ppid=1 pid=100 comm=\"p\" exe=\"/p\"\ntype=PATH msg=audit(1.000:1): item=0 name=\"/f7\" inode=7 dev=08:01 nametype=NORMAL\ntype=SYSCALL msg=audit(1.001:2): arch=c000003e syscall=33 success=yes exit=9 a0=3 a1=9 a2=0 a3=0 items=0 ppid=1 pid=100 comm=\"p\" exe=\"/p\"\ntype=SYSCALL msg=audit(1.002:3): arch=c000003e syscall=59 success=yes exit=0 a0=0 a1=0 a2=0 a3=0 items=0 ppid=1 pid=100 comm=\"p\" exe=\"/p\"\ntype=PATH msg=audit(1.002:3): item=0 name=\"/f8\" inode=8 dev=08:01 nametype=NORMAL\ntype=SYSCALL msg=audit(1.003:4): arch=c000003e syscall=0 success=yes exit=1 a0=3 a1=0 a2=1 a3=0 items=0 ppid=1 pid=100 comm=\"p\" exe=\"/p\"\ntype=SYSCALL msg=audit(1.004:5): arch=c000003e syscall=0 success=yes exit=1 a0=9 a1=0 a2=1 a3=0 items=0 ppid=1 pid=100 comm=\"p\" exe=\"/p\"\ntype=SYSCALL msg=audit(1.005:6): arch=c000003e syscall=41 success=yes exit=4 a0=2 a1=1 a2=0 a3=0 items=0 ppid=1 pid=100 comm=\"p\" exe=\"/p\"\ntype=SYSCALL msg=audit(1.006:7): arch=c000003e syscall=42 success=no exit=-115 a0=4 a1=0 a2=10 a3=0 items=0 ppid=1 pid=100 comm=\"p\" exe=\"/p\"\ntype=SOCKADDR msg=audit(1.006:7): saddr=020001BBC00002010000000000000000\ntype=SYSCALL msg=audit(1.007:8): arch=c000003e syscall=1 success=yes exit=1 a0=4 a1=0 a2=1 a3=0 items=0 ppid=1 pid=100 comm=\"p\" exe=\"/p\"\n";
+
+/// A user prints a file of the folder that they are in.
+const NOTES: &[u8] =
+    b"type=SYSCALL msg=audit(1700000000.100:501): arch=c000003e syscall=257 success=yes exit=3 a0=ffffff9c a1=7ffc1a2b a2=0 a3=0 items=1 ppid=2686 pid=3540 auid=1000 uid=1000 tty=pts0 ses=1 comm=\"cat\" exe=\"/usr/bin/cat\" key=(null)\ntype=CWD msg=audit(1700000000.100:501): cwd=\"/home/ann\"\ntype=PATH msg=audit(1700000000.100:501): item=0 name=\"notes.txt\" inode=131 dev=fd:00 mode=0100644 ouid=1000 ogid=1000 rdev=00:00 nametype=NORMAL cap_fp=0 cap_fi=0 cap_fe=0 cap_fver=0\ntype=PROCTITLE msg=audit(1700000000.100:501): proctitle=636174006E6F7465732E747874\ntype=SYSCALL msg=audit(1700000000.100:502): arch=c000003e syscall=0 success=yes exit=12 a0=3 a1=7ffc1a2b a2=0 a3=0 items=1 ppid=2686 pid=3540 auid=1000 uid=1000 tty=pts0 ses=1 comm=\"cat\" exe=\"/usr/bin/cat\" key=(null)\ntype=PROCTITLE msg=audit(1700000000.100:502): proctitle=636174006E6F7465732E747874\ntype=SYSCALL msg=audit(1700000000.100:503): arch=c000003e syscall=1 success=yes exit=12 a0=1 a1=7ffc1a2b a2=0 a3=0 items=1 ppid=2686 pid=3540 auid=1000 uid=1000 tty=pts0 ses=1 comm=\"cat\" exe=\"/usr/bin/cat\" key=(null)\ntype=PROCTITLE msg=audit(1700000000.100:503): proctitle=636174006E6F7465732E747874\n";
+
 /// An engine that keeps each flow.
 type Engine = Ingest<Plain, VecRows>;
 
@@ -38,7 +54,7 @@ type Engine = Ingest<Plain, VecRows>;
 fn answers<R: Reducer>(
     alloc: Global,
     engine: &mut Ingest<R, VecRows>,
-    ask: Ask,
+    ask: Ask<'_>,
     wanted: &[u8],
 ) -> Result<bool, NoMemory>
     requires { IsQuestion ask }
@@ -52,7 +68,7 @@ fn answers<R: Reducer>(
     }
 }
 
-fn back(of: u32) -> Ask
+fn back(of: u32) -> Ask<'static>
     ensures { IsQuestion result }
 {
     Ask::Question(Question::Back {
@@ -61,13 +77,23 @@ fn back(of: u32) -> Ask
     })
 }
 
-fn fore(of: u32, since: u64) -> Ask
+fn fore(of: u32, since: u64) -> Ask<'static>
     ensures { IsQuestion result }
 {
     Ask::Question(Question::Fore {
         of: EntityId(of),
         since: Some(since),
     })
+}
+
+fn why(from: u32, to: u32, until: Option<u64>) -> Ask<'static>
+    ensures { IsQuestion result }
+{
+    Ask::Why {
+        from: EntityId(from),
+        to: EntityId(to),
+        until,
+    }
 }
 
 /// Takes a log in pieces of this size.
@@ -100,6 +126,11 @@ enum Course {
     Owed,
     Settled,
     Bytes,
+    ObjectsOfTwoFlows,
+    HexCodedNames,
+    APidUsedAgain,
+    DescriptorsAndAddresses,
+    NamesInAFolder,
 }
 
 /// Whether a new engine within these limits goes that course as it should.
@@ -117,6 +148,11 @@ fn goes_on(alloc: Global, engine: &mut Engine, course: Course) -> Result<bool, N
         Course::Owed => Ok(owes_a_refused_event(engine)),
         Course::Settled => Ok(closes_what_waits(engine)),
         Course::Bytes => Ok(stops_at_a_byte(engine)),
+        Course::ObjectsOfTwoFlows => objects_of_two_flows(alloc, engine),
+        Course::HexCodedNames => hex_coded_names(alloc, engine),
+        Course::APidUsedAgain => a_pid_used_again(alloc, engine),
+        Course::DescriptorsAndAddresses => descriptors_and_addresses(alloc, engine),
+        Course::NamesInAFolder => names_in_a_folder(alloc, engine),
     }
 }
 
@@ -221,6 +257,157 @@ fn stops_at_a_byte(engine: &mut Engine) -> bool {
             })
 }
 
+fn objects_of_two_flows(alloc: Global, engine: &mut Engine) -> Result<bool, NoMemory> {
+    let mut right = take_in_pieces(engine, TWO_FLOWS, 100);
+    right &= answers(
+        alloc,
+        engine,
+        Ask::Show(EntityId(0)),
+        b"{\"is\":\"process 100 0\",\"names\":[\"/p\"],\"show\":0}\n".as_slice(),
+    )?;
+    right &= answers(
+        alloc,
+        engine,
+        Ask::Show(EntityId(2)),
+        b"{\"is\":\"lost 101 0 1\",\"names\":[],\"show\":2}\n".as_slice(),
+    )?;
+    right &= answers(
+        alloc,
+        engine,
+        Ask::Show(EntityId(3)),
+        b"{\"error\":\"Unknown\"}\n".as_slice(),
+    )?;
+    right &= answers(
+        alloc,
+        engine,
+        why(0, 3, None),
+        b"{\"error\":\"Unknown\"}\n".as_slice(),
+    )?;
+    right &= answers(
+        alloc,
+        engine,
+        why(3, 0, None),
+        b"{\"error\":\"Unknown\"}\n".as_slice(),
+    )?;
+    right &= answers(
+        alloc,
+        engine,
+        why(2, 2, None),
+        b"{\"from\":2,\"path\":[],\"to\":2}\n".as_slice(),
+    )?;
+    right &= answers(
+        alloc,
+        engine,
+        Ask::Find(FindText::new(b"/p".as_slice())),
+        b"{\"find\":\"/p\",\"ids\":[0,1]}\n".as_slice(),
+    )?;
+    right &= answers(
+        alloc,
+        engine,
+        Ask::Find(FindText::new(b"/".as_slice())),
+        b"{\"find\":\"/\",\"ids\":[]}\n".as_slice(),
+    )?;
+    Ok(right)
+}
+
+fn hex_coded_names(alloc: Global, engine: &mut Engine) -> Result<bool, NoMemory> {
+    let mut right = take_in_pieces(engine, HEX_CODED, 100);
+    right &= answers(
+        alloc,
+        engine,
+        Ask::Find(FindText::new(b"/tmp/a b.txt".as_slice())),
+        b"{\"find\":\"/tmp/a b.txt\",\"ids\":[1]}\n".as_slice(),
+    )?;
+    Ok(right)
+}
+
+fn a_pid_used_again(alloc: Global, engine: &mut Engine) -> Result<bool, NoMemory> {
+    let mut right = take_in_pieces(engine, USED_AGAIN, 100);
+    right &= answers(
+        alloc,
+        engine,
+        back(1),
+        b"{\"back\":1,\"ids\":[0,1,2]}\n".as_slice(),
+    )?;
+    right &= answers(
+        alloc,
+        engine,
+        back(3),
+        b"{\"back\":3,\"ids\":[0,3]}\n".as_slice(),
+    )?;
+    right &= answers(
+        alloc,
+        engine,
+        Ask::Show(EntityId(3)),
+        b"{\"is\":\"process 101 1\",\"names\":[],\"show\":3}\n".as_slice(),
+    )?;
+    Ok(right)
+}
+
+fn descriptors_and_addresses(alloc: Global, engine: &mut Engine) -> Result<bool, NoMemory> {
+    let mut right = take_in_pieces(engine, DESCRIPTORS, 100);
+    right &= answers(
+        alloc,
+        engine,
+        back(4),
+        b"{\"back\":4,\"ids\":[0,1,2,3,4]}\n".as_slice(),
+    )?;
+    right &= answers(
+        alloc,
+        engine,
+        Ask::Show(EntityId(2)),
+        b"{\"is\":\"lost 100 0 3\",\"names\":[],\"show\":2}\n".as_slice(),
+    )?;
+    right &= answers(
+        alloc,
+        engine,
+        Ask::Show(EntityId(3)),
+        b"{\"is\":\"file 08:01 7 0\",\"names\":[\"/f7\"],\"show\":3}\n".as_slice(),
+    )?;
+    right &= answers(
+        alloc,
+        engine,
+        Ask::Show(EntityId(4)),
+        b"{\"is\":\"address 192.0.2.1:443\",\"names\":[\"192.0.2.1:443\"],\"show\":4}\n".as_slice(),
+    )?;
+    right &= answers(
+        alloc,
+        engine,
+        why(0, 4, None),
+        b"{\"from\":0,\"path\":[{\"at\":\"1.002\",\"from\":0,\"how\":\"exec\",\"serial\":3,\"to\":1},{\"at\":\"1.007\",\"from\":1,\"how\":\"write\",\"serial\":8,\"to\":4}],\"to\":4}\n".as_slice(),
+    )?;
+    right &= answers(
+        alloc,
+        engine,
+        why(4, 0, None),
+        b"{\"from\":4,\"path\":null,\"to\":0}\n".as_slice(),
+    )?;
+    right &= answers(
+        alloc,
+        engine,
+        why(2, 4, Some(1006)),
+        b"{\"from\":2,\"path\":null,\"to\":4}\n".as_slice(),
+    )?;
+    Ok(right)
+}
+
+fn names_in_a_folder(alloc: Global, engine: &mut Engine) -> Result<bool, NoMemory> {
+    let mut right = take_in_pieces(engine, NOTES, 100);
+    right &= answers(
+        alloc,
+        engine,
+        Ask::Find(FindText::new(b"/home/ann/notes.txt".as_slice())),
+        b"{\"find\":\"/home/ann/notes.txt\",\"ids\":[0]}\n".as_slice(),
+    )?;
+    right &= answers(
+        alloc,
+        engine,
+        Ask::Show(EntityId(0)),
+        b"{\"is\":\"file fd:00 131 0\",\"names\":[\"/home/ann/notes.txt\"],\"show\":0}\n".as_slice(),
+    )?;
+    Ok(right)
+}
+
 /// Whether continuous mode keeps one row of two changes by one process, and answers by its last flow forward.
 fn keeps_less(alloc: Global) -> Result<bool, NoMemory> {
     let mut engine = Ingest::new(
@@ -274,6 +461,18 @@ fn courses_go_as_worked_out(rt: HostRuntime) -> Result<(), Fail> {
     for size in [1, 7, 140, 279] {
         assert!(rt; goes(alloc, &standard, Course::Pieces(size))?, "{size}");
     }
+    Ok(())
+}
+
+#[test]
+fn objects_have_their_names_and_paths(rt: HostRuntime) -> Result<(), Fail> {
+    let alloc = rt.alloc();
+    let standard = Limits::standard();
+    assert!(rt; goes(alloc, &standard, Course::ObjectsOfTwoFlows)?);
+    assert!(rt; goes(alloc, &standard, Course::HexCodedNames)?);
+    assert!(rt; goes(alloc, &standard, Course::APidUsedAgain)?);
+    assert!(rt; goes(alloc, &standard, Course::DescriptorsAndAddresses)?);
+    assert!(rt; goes(alloc, &standard, Course::NamesInAFolder)?);
     Ok(())
 }
 

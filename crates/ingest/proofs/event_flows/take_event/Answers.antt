@@ -13,12 +13,12 @@ pub take-requires : goal.take-requires
 take-requires g c =
     let taken = c.requires.taken.0 in
     let may = c.requires.taken.1 in
-    let next = come_next c.flows_of_acts_are_lawful.ensures c.args.limits.now (event_seen c.args.event.now) c.in-Ok.plan taken may.rise may.no_later (c.in-Ok.ensures.plan taken may.has) (c.in-Ok.ensures.fits taken may.has) in
+    let next = come_next c.flows_of_acts_are_lawful.ensures c.args.tables.now.limits (event_seen c.args.event.now) c.in-Ok.plan taken may.rise may.no_later (c.in-Ok.ensures.plan taken may.has) (c.in-Ok.ensures.fits taken may.has) in
     record { next = (flows taken, may.kept_are, subst (λ (l : List Flow). ComeNext (flows taken) l) (sym c.flows.ensures) next) }
 
 pub returns-in-Ok-take-clause-kept : goal.returns-in-Ok-take-clause-kept
 returns-in-Ok-take-clause-kept g c = λ taken may.
     let plan = c.in-Ok.ensures.plan taken may.has in
-    let next = come_next c.flows_of_acts_are_lawful.ensures c.args.limits.now (event_seen c.args.event.now) c.in-Ok.plan taken may.rise may.no_later plan (c.in-Ok.ensures.fits taken may.has) in
+    let next = come_next c.flows_of_acts_are_lawful.ensures c.args.tables.now.limits (event_seen c.args.event.now) c.in-Ok.plan taken may.rise may.no_later plan (c.in-Ok.ensures.fits taken may.has) in
     let comes = subst (λ (l : List Flow). ComeNext (flows taken) l) (sym c.flows.ensures) next in
-    subst (λ (l : List Flow). KeptStandsFor c.take.new.self l) (ap (λ (l : List Flow). flows taken ++ l) c.flows.ensures ∙ sym plan.flows_are) (c.in-Ok-take.ensures.taken (flows taken) may.kept_are comes)
+    subst (λ (l : List Flow). KeptStandsFor c.take.new.self.kept l) (ap (λ (l : List Flow). flows taken ++ l) c.flows.ensures ∙ sym plan.flows_are) (c.in-Ok-take.ensures.taken (flows taken) may.kept_are comes)

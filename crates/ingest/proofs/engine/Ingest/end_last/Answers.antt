@@ -2,6 +2,7 @@ use Rattle.std.proofs.Common.{◌∙◌, sym, ap, append-nil}
 use Rattle.audit_lex.specs.History.{tail_of}
 use Rattle.ingest.specs.LineRecords.{record_of}
 use Rattle.ingest.proofs.Answered.{on_ok_so}
+use Rattle.ingest.proofs.FewActs.{few_either}
 use Rattle.ingest.proofs.EngineSteps.{engine_own, few_excess, last_came, last_passed, SettlesOther}
 use Rattle.ingest.proofs.engine.Ingest.end_last.Goals as goal
 
@@ -20,3 +21,6 @@ returns-in-None-clause-ok g c =
     let is = sym c.in-None.is ∙ c.in_ok-item.ensures.reads limits h own.reader ∙ ap (record_of limits.line) (append-nil (tail_of h)) in
     last_passed limits _ h is (reads limits h own.reader (sym is)) own.joined)
     c.settle_other.ensures.stands
+
+pub invariant_of-self-in-None : goal.invariant_of-self-in-None
+invariant_of-self-in-None g c = few_either c.settle_other.result _ _ _ c.self.invariant c.settle_other.ensures.lines c.settle_other.ensures.err

@@ -15,6 +15,7 @@ loop-done-preserved g c =
       within = omega (arith, rw (take_rest piece c.loop-done.done, length-drop) at c.in-Ok.ensures.within);
       bytes = omega (arith, c.in-Ok.ensures.bytes, w.bytes);
       limits = c.in-Ok.ensures.limits ∙ w.limits;
+      quiet = c.in-Ok.ensures.quiet;
       taken = λ limits h stands.
           let before = with_bytes h (take c.loop-done.done piece) in
           rw (take_rest piece c.loop-done.done, more_taken h c.loop-done.done c.in-Ok.count piece) at (c.in-Ok.ensures.ok limits before (w.taken limits h stands));

@@ -1,6 +1,7 @@
 use Rattle.std.proofs.Common.{◌≡◌, ◌≤◌, ◌+◌, ◌-◌, length, take}
 use Rattle.flow_base.specs.declared.limits.Limits.{Limits}
 use Rattle.audit_lex.specs.History.{History, with_bytes}
+use Rattle.record_join.specs.StandsFor.{NothingRipe}
 use Rattle.ingest.specs.StandsFor.{StandsFor}
 use Rattle.ingest.proofs.engine.Ingest.feed_within.Given as goal
 
@@ -10,6 +11,7 @@ invariant-loop-done g l = record {
   within : l.done ≤ length l.piece;
   bytes : l.self.reader.bytes ≡ l.initial.self.reader.bytes + l.done;
   limits : l.self.reader.limits ≡ l.initial.self.reader.limits;
+  quiet : NothingRipe l.self.joined.join;
   taken : (limits : Limits) (h : History) → StandsFor limits l.initial.self h → StandsFor limits l.self (with_bytes h (take l.done l.piece));
 }
 

@@ -1,5 +1,6 @@
 use Rattle.std.proofs.Common.{◌∙◌, sym}
 use Rattle.ingest.proofs.Answered.{on_ok_so}
+use Rattle.ingest.proofs.FewActs.{few_either}
 use Rattle.ingest.proofs.EngineSteps.{engine_own, room_so, few_excess, line_came, line_passed, EndsOther}
 use Rattle.ingest.proofs.engine.Ingest.join_line.Goals as goal
 
@@ -18,3 +19,6 @@ returns-in-None-clause-ok g c =
     let is = sym c.in-None.is ∙ c.in_ok-item.ensures.reads limits h own.reader in
     line_passed limits _ h c.args.part.now c.requires.no_feed (room_so limits _ h _ stands.reader c.requires.room) is (reads limits h own.reader (sym is)) own.joined)
     c.end_other.ensures.stands
+
+pub invariant_of-self-in-None : goal.invariant_of-self-in-None
+invariant_of-self-in-None g c = few_either c.end_other.result _ _ _ c.self.invariant c.end_other.ensures.lines c.end_other.ensures.err

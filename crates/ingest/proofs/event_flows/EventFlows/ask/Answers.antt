@@ -6,7 +6,7 @@ use Rattle.ingest.proofs.event_flows.EventFlows.ask.Goals as goal
 
 pub ask-requires : goal.ask-requires
 ask-requires g c =
-    let same = ap (λ (j : Joined). length j.tables.entities.keys) c.self.view_is in
+    let same = ap (λ (j : Joined _). length j.tables.entities.keys) c.self.view_is in
     let known = kept_known c.flows_of_acts_are_lawful.ensures _ _ _ _ c.self.invariant in
     record { known = omega (arith, c.requires.known, known, same) }
 

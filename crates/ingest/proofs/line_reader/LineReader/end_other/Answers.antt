@@ -1,5 +1,5 @@
 use Rattle.std.proofs.Common.{◌+◌, arith, refl, length}
-use Rattle.ingest.proofs.ReaderSteps.{reader_at, fits_so, room_fed, within_fed, stands_fed, own_tally, own_line}
+use Rattle.ingest.proofs.ReaderSteps.{keeps_line, reader_at, fits_so, room_fed, within_fed, stands_fed, own_tally, own_line}
 use Rattle.ingest.proofs.line_reader.LineReader.end_other.Goals as goal
 
 pub count_line-requires-clause-lines : goal.count_line-requires-clause-lines
@@ -26,3 +26,8 @@ returns-clause-stands c = λ limits h stands reads.
     stands_fed limits _ _ h c.args.part.now own c.requires.no_feed refl c.after_line.ensures
     (c.in_ok-count_line.ensures.counted h own.cut (own_line limits _ h own) (own_tally limits _ h own))
     refl
+
+pub returns-clause-lines : goal.returns-clause-lines
+returns-clause-lines c =
+    let room = room_fed _ _ _ _ c.args.part.now c.self.invariant c.requires.no_feed (fits_so _ _ (length c.args.part.now + 1) c.self.view_is c.requires.room) in
+    keeps_line _ _ _ _ c.self.view_is c.after_line.ensures room.lines

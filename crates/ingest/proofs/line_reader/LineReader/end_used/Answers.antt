@@ -1,7 +1,7 @@
 use Rattle.std.proofs.Common.{◌+◌, refl, arith, length, ◌++◌}
 use Rattle.audit_lex.specs.History.{tail_of, lines_of}
 use Rattle.ingest.proofs.Reading.{used_class}
-use Rattle.ingest.proofs.ReaderSteps.{reader_at, fits_so, room_fed, within_fed, stands_fed, own_tally, own_reads}
+use Rattle.ingest.proofs.ReaderSteps.{ends_line, reader_at, fits_so, room_fed, within_fed, stands_fed, own_tally, own_reads}
 use Rattle.ingest.proofs.Tallying.{used_more}
 use Rattle.ingest.proofs.line_reader.LineReader.end_used.Goals as goal
 
@@ -27,3 +27,8 @@ returns-clause-stands c = λ limits h item stands reads.
     stands_fed limits _ _ h c.args.part.now own c.requires.no_feed refl c.after_line.ensures
     (used_more c.self.inside.limits c.self.inside.tally (lines_of h) text item.key used.0 (own_tally limits _ h own) used.1)
     refl
+
+pub returns-clause-lines : goal.returns-clause-lines
+returns-clause-lines c =
+    let room = room_fed _ _ _ _ c.args.part.now c.self.invariant c.requires.no_feed (fits_so _ _ (length c.args.part.now + 1) c.self.view_is c.requires.room) in
+    ends_line _ _ _ _ c.self.view_is c.after_line.ensures room.lines

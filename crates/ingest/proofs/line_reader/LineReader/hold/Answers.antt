@@ -4,7 +4,7 @@ use Rattle.audit_lex.specs.History.{Cuts, with_bytes}
 use Rattle.audit_lex.specs.LineCut.{StandsFor as CutStandsFor}
 use Rattle.audit_lex.proofs.HistoryLemmas.{more_tail}
 use Rattle.ingest.proofs.Bytes.{bytes_more}
-use Rattle.ingest.proofs.ReaderSteps.{reader_at, fits_so, few, within_more, stands_none}
+use Rattle.ingest.proofs.ReaderSteps.{keeps_lines, reader_at, fits_so, few, within_more, stands_none}
 use Rattle.ingest.proofs.line_reader.LineReader.hold.Goals as goal
 
 pub next-requires : goal.next-requires
@@ -26,3 +26,6 @@ returns-clause-stands c = λ limits h stands.
     stands_none limits _ _ h (with_bytes h part) own refl cut c.in_ok-count.ensures.limit refl
     (ap (λ (k : Cuts). k.lines) (more_tail h part c.requires.no_feed))
     (omega (arith, all, own.bytes, bytes_more h part))
+
+pub returns-clause-lines : goal.returns-clause-lines
+returns-clause-lines c = keeps_lines _ _ _ c.self.view_is (invariant_of-self-2 c) (omega (arith, c.in_ok-count.ensures.count))

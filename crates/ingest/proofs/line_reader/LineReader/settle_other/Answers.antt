@@ -1,7 +1,7 @@
 use Rattle.std.proofs.Common.{◌++◌, ◌∷◌, [], ◌∙◌, ap, refl, arith, ℕ, List, append-nil}
 use Rattle.audit_lex.specs.History.{lines_of, tail_of}
 use Rattle.ingest.specs.Counting.{tally_of_lines}
-use Rattle.ingest.proofs.ReaderSteps.{reader_at, begun_so, room_settled, within_settled, stands_settled, own_tally, own_line}
+use Rattle.ingest.proofs.ReaderSteps.{keeps_own, keeps_line, reader_at, begun_so, room_settled, within_settled, stands_settled, own_tally, own_line}
 use Rattle.ingest.proofs.line_reader.LineReader.settle_other.Goals as goal
 
 pub count_line-requires-clause-lines : goal.count_line-requires-clause-lines
@@ -31,3 +31,11 @@ returns-clause-stands c = λ limits h stands reads.
     (c.in_ok-count_line.ensures.counted h own.cut (own_line limits _ h own) (own_tally limits _ h own)
     ∙ ap (λ (text : List ℕ). tally_of_lines c.self.inside.limits (lines_of h ++ text ∷ [])) (append-nil (tail_of h)))
     refl
+
+pub returns-clause-lines : goal.returns-clause-lines
+returns-clause-lines c =
+    let w = c.self.invariant in
+    keeps_line _ _ _ _ c.self.view_is c.after_line.ensures (room_settled _ _ _ _ w (begun_so _ _ w.h c.self.view_is (c.if-is_between_lines.ensures.no refl) w.cut_is)).lines
+
+pub returns-then-is_between_lines-clause-lines : goal.returns-then-is_between_lines-clause-lines
+returns-then-is_between_lines-clause-lines c = keeps_own _ _ c.self.view_is c.self.invariant

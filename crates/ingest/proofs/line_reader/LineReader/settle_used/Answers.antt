@@ -1,7 +1,7 @@
 use Rattle.std.proofs.Common.{refl, arith}
 use Rattle.audit_lex.specs.History.{tail_of, lines_of}
 use Rattle.ingest.proofs.Reading.{used_class}
-use Rattle.ingest.proofs.ReaderSteps.{reader_at, begun_so, room_settled, within_settled, stands_settled, own_tally, own_reads}
+use Rattle.ingest.proofs.ReaderSteps.{ends_line, reader_at, begun_so, room_settled, within_settled, stands_settled, own_tally, own_reads}
 use Rattle.ingest.proofs.Tallying.{used_more}
 use Rattle.ingest.proofs.line_reader.LineReader.settle_used.Goals as goal
 
@@ -27,3 +27,8 @@ returns-clause-stands c = λ limits h item stands reads.
     stands_settled limits _ _ h own (begun_so _ _ h c.self.view_is c.requires.begun own.cut) refl c.after_line.ensures
     (used_more c.self.inside.limits c.self.inside.tally (lines_of h) (tail_of h) item.key used.0 (own_tally limits _ h own) used.1)
     refl
+
+pub returns-clause-lines : goal.returns-clause-lines
+returns-clause-lines c =
+    let w = c.self.invariant in
+    ends_line _ _ _ _ c.self.view_is c.after_line.ensures (room_settled _ _ _ _ w (begun_so _ _ w.h c.self.view_is c.requires.begun w.cut_is)).lines
