@@ -238,73 +238,87 @@ fn ids(alloc: Global, count: u32) -> Result<List<EntityId>, NoMemory> {
     Ok(ids)
 }
 
+// The text of a reply, which is let go.
+fn text_of(alloc: Global, reply: Reply) -> Result<Bytes, NoMemory> {
+    reply_text(alloc, &reply)
+}
+
 #[test]
-fn replies_have_these_texts(rt: HostRuntime) -> Result<(), Fail> {
+fn replies_without_lists_have_these_texts(rt: HostRuntime) -> Result<(), Fail> {
     let alloc = rt.alloc();
-    let mut bads = List::new(alloc);
-    bads.push(Bad { line: 3, fault: 5 })?;
-    bads.push(Bad { line: 10, fault: 1 })?;
     for (reply, want) in [
         (Reply::Take(279), "{\"take\":279}\n"),
         (Reply::Settle(2), "{\"settle\":2}\n"),
-        (
-            Reply::Back {
-                of: EntityId(2),
-                ids: ids(alloc, 3)?,
-            },
-            "{\"back\":2,\"ids\":[0,1,2]}\n",
-        ),
-        (
-            Reply::Back {
-                of: EntityId(4_294_967_295),
-                ids: ids(alloc, 0)?,
-            },
-            "{\"back\":4294967295,\"ids\":[]}\n",
-        ),
-        (
-            Reply::Fore {
-                of: EntityId(2),
-                ids: ids(alloc, 3)?,
-            },
-            "{\"fore\":2,\"ids\":[0,1,2]}\n",
-        ),
-        (
-            Reply::Fore {
-                of: EntityId(4_294_967_295),
-                ids: ids(alloc, 0)?,
-            },
-            "{\"fore\":4294967295,\"ids\":[]}\n",
-        ),
-        (
-            Reply::Sources {
-                of: EntityId(3),
-                ids: ids(alloc, 2)?,
-            },
-            "{\"back\":3,\"sources\":[0,1]}\n",
-        ),
-        (
-            Reply::Sources {
-                of: EntityId(4_294_967_295),
-                ids: ids(alloc, 0)?,
-            },
-            "{\"back\":4294967295,\"sources\":[]}\n",
-        ),
-        (
-            Reply::Stat(no_counts(List::new(alloc))),
-            "{\"blank\":0,\"bytes\":0,\"events\":0,\"excess\":0,\"flows\":0,\"kept\":0,\"known\":0,\"late\":0,\"lines\":0,\"malformed\":0,\"malformed_lines\":[],\"other\":0,\"unmapped\":0,\"used\":0,\"waiting\":0}\n",
-        ),
-        (
-            Reply::Stat(all_counts(bads)),
-            "{\"blank\":1,\"bytes\":2,\"events\":3,\"excess\":4,\"flows\":5,\"kept\":6,\"known\":7,\"late\":8,\"lines\":9,\"malformed\":10,\"malformed_lines\":[[3,5],[10,1]],\"other\":11,\"unmapped\":12,\"used\":13,\"waiting\":18446744073709551615}\n",
-        ),
         (Reply::End, "{\"end\":true}\n"),
         (Reply::BadQuestion, "{\"error\":\"BadQuestion\"}\n"),
         (Reply::Unknown, "{\"error\":\"Unknown\"}\n"),
         (Reply::NotKept, "{\"error\":\"NotKept\"}\n"),
     ] {
-        let text = reply_text(alloc, &reply)?;
+        let text = text_of(alloc, reply)?;
         assert_eq!(rt; text.as_slice(), want.as_bytes());
     }
+    Ok(())
+}
+
+#[test]
+fn answers_have_these_texts(rt: HostRuntime) -> Result<(), Fail> {
+    let alloc = rt.alloc();
+    for (of, count, back, fore, sources) in [
+        (
+            2,
+            3,
+            "{\"back\":2,\"ids\":[0,1,2]}\n",
+            "{\"fore\":2,\"ids\":[0,1,2]}\n",
+            "{\"back\":2,\"sources\":[0,1,2]}\n",
+        ),
+        (
+            4_294_967_295,
+            0,
+            "{\"back\":4294967295,\"ids\":[]}\n",
+            "{\"fore\":4294967295,\"ids\":[]}\n",
+            "{\"back\":4294967295,\"sources\":[]}\n",
+        ),
+    ] {
+        let of = EntityId(of);
+        let text = back_text(alloc, of, count)?;
+        assert_eq!(rt; text.as_slice(), back.as_bytes());
+        let text = fore_text(alloc, of, count)?;
+        assert_eq!(rt; text.as_slice(), fore.as_bytes());
+        let text = sources_text(alloc, of, count)?;
+        assert_eq!(rt; text.as_slice(), sources.as_bytes());
+    }
+    Ok(())
+}
+
+fn back_text(alloc: Global, of: EntityId, count: u32) -> Result<Bytes, NoMemory> {
+    let ids = ids(alloc, count)?;
+    text_of(alloc, Reply::Back { of, ids })
+}
+
+fn fore_text(alloc: Global, of: EntityId, count: u32) -> Result<Bytes, NoMemory> {
+    let ids = ids(alloc, count)?;
+    text_of(alloc, Reply::Fore { of, ids })
+}
+
+fn sources_text(alloc: Global, of: EntityId, count: u32) -> Result<Bytes, NoMemory> {
+    let ids = ids(alloc, count)?;
+    text_of(alloc, Reply::Sources { of, ids })
+}
+
+#[test]
+fn counts_have_these_texts(rt: HostRuntime) -> Result<(), Fail> {
+    let alloc = rt.alloc();
+    let text = text_of(alloc, Reply::Stat(no_counts(List::new(alloc))))?;
+    let want =
+        "{\"blank\":0,\"bytes\":0,\"events\":0,\"excess\":0,\"flows\":0,\"kept\":0,\"known\":0,\"late\":0,\"lines\":0,\"malformed\":0,\"malformed_lines\":[],\"other\":0,\"unmapped\":0,\"used\":0,\"waiting\":0}\n";
+    assert_eq!(rt; text.as_slice(), want.as_bytes());
+    let mut bads = List::new(alloc);
+    bads.push(Bad { line: 3, fault: 5 })?;
+    bads.push(Bad { line: 10, fault: 1 })?;
+    let text = text_of(alloc, Reply::Stat(all_counts(bads)))?;
+    let want =
+        "{\"blank\":1,\"bytes\":2,\"events\":3,\"excess\":4,\"flows\":5,\"kept\":6,\"known\":7,\"late\":8,\"lines\":9,\"malformed\":10,\"malformed_lines\":[[3,5],[10,1]],\"other\":11,\"unmapped\":12,\"used\":13,\"waiting\":18446744073709551615}\n";
+    assert_eq!(rt; text.as_slice(), want.as_bytes());
     Ok(())
 }
 
@@ -390,44 +404,52 @@ fn shown(alloc: Global, id: u32, key: &[u8], names: &[&[u8]]) -> Result<Reply, N
 }
 
 #[test]
-fn bytes_are_shown_as_lossy_texts(rt: HostRuntime) -> Result<(), Fail> {
+fn texts_that_are_found_are_shown_as_lossy_texts(rt: HostRuntime) -> Result<(), Fail> {
     let alloc = rt.alloc();
-    for (reply, want) in [
+    for (text, count, want) in [
         (
-            found(alloc, b"/tmp/a b.txt".as_slice(), 2)?,
+            b"/tmp/a b.txt".as_slice(),
+            2,
             b"{\"find\":\"/tmp/a b.txt\",\"ids\":[0,1]}\n".as_slice(),
         ),
         (
-            found(alloc, b" ".as_slice(), 0)?,
+            b" ".as_slice(),
+            0,
             b"{\"find\":\" \",\"ids\":[]}\n".as_slice(),
         ),
         // Quotes and backslashes are escaped, control bytes by their letter or by four digits, and 7F stays.
         (
-            found(alloc, b"\"\\\t\r\x08\x0c\0\x1f\x7f/".as_slice(), 0)?,
+            b"\"\\\t\r\x08\x0c\0\x1f\x7f/".as_slice(),
+            0,
             b"{\"find\":\"\\\"\\\\\\t\\r\\b\\f\\u0000\\u001f\x7f/\",\"ids\":[]}\n".as_slice(),
         ),
         // One U+FFFD, EF BF BD, for a byte that begins nothing, for a prefix of a character, and for each byte of a
         // longer form than needed.
         (
-            found(alloc, b"\xff\xc3\xa9\xe2\x82A\xc0\x80".as_slice(), 0)?,
+            b"\xff\xc3\xa9\xe2\x82A\xc0\x80".as_slice(),
+            0,
             b"{\"find\":\"\xef\xbf\xbd\xc3\xa9\xef\xbf\xbdA\xef\xbf\xbd\xef\xbf\xbd\",\"ids\":[]}\n".as_slice(),
         ),
-        (
-            shown(alloc, 2, b"lost 100 0 3".as_slice(), &[])?,
-            b"{\"is\":\"lost 100 0 3\",\"names\":[],\"show\":2}\n".as_slice(),
-        ),
-        (
-            shown(
-                alloc,
-                4_294_967_295,
-                b"path /\xfe".as_slice(),
-                &[b"b".as_slice(), b"".as_slice(), b"a\"\n\xff".as_slice()],
-            )?,
-            b"{\"is\":\"path /\xef\xbf\xbd\",\"names\":[\"b\",\"\",\"a\\\"\\n\xef\xbf\xbd\"],\"show\":4294967295}\n".as_slice(),
-        ),
     ] {
-        let text = reply_text(alloc, &reply)?;
-        assert_eq!(rt; text.as_slice(), want);
+        let reply = found(alloc, text, count)?;
+        let said = text_of(alloc, reply)?;
+        assert_eq!(rt; said.as_slice(), want);
     }
+    Ok(())
+}
+
+#[test]
+fn keys_and_names_are_shown_as_lossy_texts(rt: HostRuntime) -> Result<(), Fail> {
+    let alloc = rt.alloc();
+    let reply = shown(alloc, 2, b"lost 100 0 3".as_slice(), &[])?;
+    let said = text_of(alloc, reply)?;
+    let want = b"{\"is\":\"lost 100 0 3\",\"names\":[],\"show\":2}\n".as_slice();
+    assert_eq!(rt; said.as_slice(), want);
+    let names = [b"b".as_slice(), b"".as_slice(), b"a\"\n\xff".as_slice()];
+    let reply = shown(alloc, 4_294_967_295, b"path /\xfe".as_slice(), &names)?;
+    let said = text_of(alloc, reply)?;
+    let want =
+        b"{\"is\":\"path /\xef\xbf\xbd\",\"names\":[\"b\",\"\",\"a\\\"\\n\xef\xbf\xbd\"],\"show\":4294967295}\n".as_slice();
+    assert_eq!(rt; said.as_slice(), want);
     Ok(())
 }
