@@ -61,44 +61,73 @@ fn words_name_jobs(rt: HostRuntime) -> Result<(), Fail> {
 }
 
 #[test]
-fn other_words_are_bad(rt: HostRuntime) -> Result<(), Fail> {
-    for words in [
-        [].as_slice(),
-        [""].as_slice(),
-        ["back"].as_slice(),
-        ["back", ""].as_slice(),
-        ["", "2"].as_slice(),
-        ["Back", "2"].as_slice(),
-        ["back", "x"].as_slice(),
-        ["back", "+2"].as_slice(),
-        ["back", "-2"].as_slice(),
-        ["back", "4294967296"].as_slice(),
-        ["back", "2", "3"].as_slice(),
-        ["2", "back"].as_slice(),
-        ["watch"].as_slice(),
-        ["watch", "plain"].as_slice(),
-        ["watch", "plain", ""].as_slice(),
-        ["watch", "Plain", "log"].as_slice(),
-        ["watch", "sources", "log"].as_slice(),
-        ["watch", "plain", "log", "store"].as_slice(),
-        ["watch", "plain", "-x"].as_slice(),
-        ["watch", "plain", "--", "--", "x"].as_slice(),
-        ["help"].as_slice(),
-        ["--help"].as_slice(),
-        ["-h"].as_slice(),
-        ["--version"].as_slice(),
-        ["-V"].as_slice(),
-        ["watch", "plain", "--help"].as_slice(),
-        ["back", "2", "--resume"].as_slice(),
-        ["--resume", "back", "2"].as_slice(),
-        ["--resume", "back", "2", "--resume"].as_slice(),
-        ["back", "2", "--resum"].as_slice(),
-        ["back", "2", "--resume=x"].as_slice(),
-        ["back", "2", "-r"].as_slice(),
-        ["trial", "1", "1"].as_slice(),
+fn no_words_are_bad(rt: HostRuntime) -> Result<(), Fail> {
+    let text = read(&rt, &[])?;
+    assert_eq!(rt; text.as_str(), "bad words");
+    Ok(())
+}
+
+#[test]
+fn words_of_no_job_are_bad(rt: HostRuntime) -> Result<(), Fail> {
+    for (words, want) in [
+        ([""].as_slice(), "bad words"),
+        (["back"].as_slice(), "bad words"),
+        (["back", ""].as_slice(), "bad words"),
+        (["", "2"].as_slice(), "bad words"),
+        (["Back", "2"].as_slice(), "bad words"),
+        (["back", "x"].as_slice(), "bad words"),
+        (["back", "+2"].as_slice(), "bad words"),
+        (["back", "-2"].as_slice(), "bad words"),
+        (["back", "4294967296"].as_slice(), "bad words"),
+        (["back", "2", "3"].as_slice(), "bad words"),
+        (["2", "back"].as_slice(), "bad words"),
     ] {
         let text = read(&rt, words)?;
-        assert_eq!(rt; text.as_str(), "bad words");
+        assert_eq!(rt; text.as_str(), want);
+    }
+    Ok(())
+}
+
+#[test]
+fn words_of_another_watch_are_bad(rt: HostRuntime) -> Result<(), Fail> {
+    for (words, want) in [
+        (["watch"].as_slice(), "bad words"),
+        (["watch", "plain"].as_slice(), "bad words"),
+        (["watch", "plain", ""].as_slice(), "bad words"),
+        (["watch", "Plain", "log"].as_slice(), "bad words"),
+        (["watch", "sources", "log"].as_slice(), "bad words"),
+        (["watch", "plain", "log", "store"].as_slice(), "bad words"),
+        (["watch", "plain", "-x"].as_slice(), "bad words"),
+        (["watch", "plain", "--", "--", "x"].as_slice(), "bad words"),
+    ] {
+        let text = read(&rt, words)?;
+        assert_eq!(rt; text.as_str(), want);
+    }
+    Ok(())
+}
+
+#[test]
+fn options_are_bad(rt: HostRuntime) -> Result<(), Fail> {
+    for (words, want) in [
+        (["help"].as_slice(), "bad words"),
+        (["--help"].as_slice(), "bad words"),
+        (["-h"].as_slice(), "bad words"),
+        (["--version"].as_slice(), "bad words"),
+        (["-V"].as_slice(), "bad words"),
+        (["watch", "plain", "--help"].as_slice(), "bad words"),
+        (["back", "2", "--resume"].as_slice(), "bad words"),
+        (["--resume", "back", "2"].as_slice(), "bad words"),
+        (
+            ["--resume", "back", "2", "--resume"].as_slice(),
+            "bad words",
+        ),
+        (["back", "2", "--resum"].as_slice(), "bad words"),
+        (["back", "2", "--resume=x"].as_slice(), "bad words"),
+        (["back", "2", "-r"].as_slice(), "bad words"),
+        (["trial", "1", "1"].as_slice(), "bad words"),
+    ] {
+        let text = read(&rt, words)?;
+        assert_eq!(rt; text.as_str(), want);
     }
     Ok(())
 }
