@@ -1,0 +1,596 @@
+#!/usr/bin/env python3
+"""The tests of autrail, over the built program.
+
+    companion/tests/run.py [--program WORDS] [NAME..]
+
+WORDS is the program (./audit_cli at the top, which builds itself if needed). Checks that need graphviz, tmux, auditctl, unshare or
+scdoc are skipped on a machine without them, and say so.
+"""
+from __future__ import annotations
+
+import argparse
+import bz2
+import gzip
+import importlib.machinery
+import importlib.util
+import json
+import lzma
+import os
+import re
+import shlex
+import shutil
+import signal
+import subprocess
+import sys
+import tempfile
+import time
+import unittest
+from datetime import datetime
+from pathlib import Path
+
+HERE = Path(__file__).resolve().parent
+TOP = HERE.parent.parent
+AUTRAIL = HERE.parent / 'autrail'
+EXAMPLE = TOP / 'examples' / 'web1_sample.log'
+PROGRAM = str(TOP / 'audit_cli')
+ADMIN_FOLDERS = os.environ['PATH'] + ':/usr/sbin:/sbin'
+TREES = {'received': 'back /srv/evil/received.tar --tree', 'port4445': 'back 127.0.0.1:4445 --tree', 'customers': 'fore /customers.csv --tree'}
+RAW = re.compile(rb'[\x00-\x09\x0b-\x1f\x7f]|\xc2[\x80-\x9f]')
+
+
+def module():
+    """autrail as a module, for its functions on words alone."""
+    loader = importlib.machinery.SourceFileLoader('autrail', str(AUTRAIL))
+    sys.dont_write_bytecode = True
+    it = importlib.util.module_from_spec(importlib.util.spec_from_loader('autrail', loader))
+    sys.modules['autrail'] = it
+    loader.exec_module(it)
+    return it
+
+
+def environment(**more: str) -> dict[str, str]:
+    return {**os.environ, 'AUDIT_CLI': PROGRAM, 'TZ': 'UTC', 'LC_ALL': 'C.UTF-8', 'PYTHONDONTWRITEBYTECODE': '1', **more}
+
+
+def run(*words: str | bytes | Path, stdin: str | bytes = '', **more: str) -> subprocess.CompletedProcess[bytes]:
+    text = stdin.encode() if isinstance(stdin, str) else stdin
+    return subprocess.run([AUTRAIL, *words], input=text, capture_output=True, env=environment(**more), cwd=TOP, check=False)
+
+
+def asked(log: Path | str, questions: str) -> str:
+    """The answers to lines of the prompt, over a log that is read once."""
+    done = run('-q', '-if', str(log), 'ask', stdin=questions)
+    assert done.returncode == 0, done.stderr.decode()
+    return done.stdout.decode()
+
+
+def call(serial: int, number: int, pid: int = 100, at: int | None = None, arch: str = 'c000003e', exit: int = 5, a0: str = '3', more: str = '', node: str = '') -> str:
+    """The SYSCALL line of an event, one second after the one of the serial number before, if no time is given."""
+    return (f'{node}type=SYSCALL msg=audit({1780992000 + serial if at is None else at}.000:{serial}): arch={arch} syscall={number} success=yes exit={exit} '
+            f'a0={a0} a1=0 a2=0 a3=0 items=1 ppid=1 pid={pid} auid=1000 uid=1001 gid=0 tty=pts0 ses=7 comm="p" exe="/usr/bin/p"{more}\n')
+
+
+def path(serial: int, name: str, inode: int, kind: str = 'NORMAL') -> str:
+    return f'type=PATH msg=audit({1780992000 + serial}.000:{serial}): item=0 name={name} inode={inode} dev=08:01 mode=0100644 nametype={kind}\n'
+
+
+def opened_and(move: int, name: str, inode: int, serial: int, kind: str = 'NORMAL', pid: int = 100) -> str:
+    """A process opens a file as descriptor 3, and reads (0) or writes (1) it."""
+    return call(serial, 257, pid, exit=3) + path(serial, name, inode, kind) + call(serial + 1, move, pid)
+
+
+class Scratch(unittest.TestCase):
+    """Tests with a folder of their own."""
+
+    def setUp(self) -> None:
+        self.folder = Path(tempfile.mkdtemp(prefix='autrail test '))
+        self.addCleanup(shutil.rmtree, self.folder)
+
+    def log(self, text: str | bytes, name: str = 'audit.log') -> Path:
+        file = self.folder / name
+        file.write_bytes(text.encode() if isinstance(text, str) else text)
+        return file
+
+
+class Answers(unittest.TestCase):
+    """The real log of the repository."""
+
+    @classmethod
+    def setUpClass(cls) -> None:
+        cls.lines = EXAMPLE.read_text().splitlines()
+
+    def test_trees_are_those_checked_by_hand(self) -> None:
+        for name, question in TREES.items():
+            with self.subTest(name):
+                self.assertEqual(asked(EXAMPLE, question), (HERE / 'expected' / f'{name}.txt').read_text())
+
+    def test_names_on_a_tree_are_in_the_answer(self) -> None:
+        for question in TREES.values():
+            tree, objects = asked(EXAMPLE, question), asked(EXAMPLE, question.replace('--tree', '--json'))
+            known = {(it['id'], it['label']) for it in map(json.loads, objects.splitlines())}
+            on_tree = {(int(number), label) for label, number in re.findall(r'(?:\d\d:\d+|^)  ?(\S+)  #(\d+)', tree.split('processes (')[0], re.M)}
+            self.assertGreater(len(on_tree), 3)
+            self.assertLessEqual(on_tree, known)
+
+    def test_each_edge_is_a_line_of_the_log_of_that_process(self) -> None:
+        for question in TREES.values():
+            self.check_edges(asked(EXAMPLE, question.replace('--tree', '--dot')))
+
+    def check_edges(self, dot: str) -> None:
+        pids = {int(number): pid for number, pid in re.findall(r'^  n(\d+) \[.*tooltip="process (\d+) 0', dot, re.M)}
+        edges = re.findall(r'^  n(\d+) -> n(\d+) \[label="(\w+)\\n(\S+ \S+)", tooltip="serial (\d+)"(, style=dashed)?\]', dot, re.M)
+        self.assertGreater(len(edges), 3)
+        for source, target, how, _, serial, dashed in edges:
+            ends = {pids[it] for it in (int(source), int(target)) if it in pids}
+            line = next(it for it in self.lines if it.startswith('type=SYSCALL') and f':{serial})' in it)
+            pid = re.search(r' pid=(\d+) ', line)[1]
+            self.assertTrue(dashed or pid in ends or how == 'fork' and pid in ends, f'{source} {target} {serial}')
+
+    def test_lists_show_find_and_why(self) -> None:
+        text = asked(EXAMPLE, 'find *received*\nshow pid:434\nwhy /customers.csv 127.0.0.1:4445 --lines\nfind 4445\nback x.sh\n')
+        for want in ('#15     file     /srv/evil/received.tar   file fe:00 19137 1', 'tar -cf /tmp/.loot.tar -C /home/alice/secret customers.csv',
+                     'type=SYSCALL msg=audit(1780992115.824:1052): arch=c000003e syscall=0', '/tmp/x.sh  #25  can have come from:',
+                     '13 common objects hidden; -a shows them', 'first taken in 2026-06-09 08:01:55.644'):
+            self.assertIn(want, text)
+
+    def test_no_path_says_what_the_log_cannot_show(self) -> None:
+        done = run('-if', EXAMPLE, 'why', '/customers.csv', '/srv/evil/received.tar')
+        self.assertEqual((done.returncode, done.stdout), (1, b''))
+        self.assertIn(b'no path in this log from #47 /customers.csv', done.stderr)
+        self.assertIn(b"can't show what came before or after", done.stderr)
+        self.assertNotRegex(done.stderr, rb'\b(safe|clean)\b')
+
+    def test_all_hides_nothing_and_the_rest_is_counted(self) -> None:
+        few, all_, hidden = (asked(EXAMPLE, f'back x.sh {it}') for it in ('', '-a', '--hide /tmp/* --hide *:4444'))
+        count = lambda text: len(re.findall(r'^  #\d+', text, re.M))
+        self.assertEqual(count(all_), 20)
+        self.assertEqual((count(few), few.splitlines()[-1]), (7, '13 common objects hidden; -a shows them'))
+        self.assertEqual((count(hidden), hidden.splitlines()[-1]), (6, '14 common objects hidden; -a shows them'))
+
+    def test_other_modes_answer_or_say_that_they_do_not(self) -> None:
+        for mode in ('continuous', 'full', 'source'):
+            done = run('-q', '-m', mode, '-if', EXAMPLE, 'back', '/tmp/x.sh', '--json')
+            self.assertIn('/tmp/x.sh' if mode != 'source' else '127.0.0.1:4444', done.stdout.decode(), mode)
+        done = run('-q', '-m', 'source', '-if', EXAMPLE, 'fore', '/tmp/x.sh')
+        self.assertEqual((done.returncode, done.stderr), (2, b"autrail: mode source doesn't answer this; ask in the mode plain or continuous\n"))
+
+    def test_a_time_cuts_the_answer(self) -> None:
+        done = run('-q', '-if', EXAMPLE, 'back', '/tmp/x.sh', '--json', '--at', '2026-06-09T08:01:55.440')
+        early = {json.loads(it)['id'] for it in done.stdout.splitlines()}
+        self.assertIn(26, early)
+        self.assertNotIn(36, early)
+        self.assertEqual(done.stderr, b'autrail: flows up to 2026-06-09 08:01:55.440 UTC+0000\n')
+
+    def test_sessions_of_the_documents_are_as_printed(self) -> None:
+        text = (TOP / 'docs' / 'INVESTIGATING.md').read_text()
+        sessions = re.findall(r'^    \$ (autrail .*)\n((?:    (?!\$ ).*\n|\n(?=    (?!\$ )))*)', text, re.M)
+        self.assertGreater(len(sessions), 5)
+        for command, printed in sessions:
+            with self.subTest(command):
+                done = subprocess.run(['bash', '-c', f'{shlex.quote(str(AUTRAIL))} {command[8:]} 2>&1'], capture_output=True, env=environment(), cwd=TOP, check=False)
+                want = ''.join(it[4:] + '\n' for it in printed.rstrip('\n').split('\n'))
+                self.assertEqual(done.stdout.decode(), want)
+
+
+HOSTILE = {'quote': b'/tmp/a"b', 'feed': b'/tmp/line\nfeed', 'escape': b'/tmp/\x1b[31mred\x1b]0;title\x07', 'c1': b'/tmp/\xc2\x9b1m', 'bytes': b'/tmp/\xff\xfe',
+           'turned': '/tmp/\u202etxt.exe'.encode(), 'slash': b'/tmp/back\\slash', 'blank': b'/tmp/a b', 'angle': b'/tmp/<b>&', 'dollar': b'/tmp/#15'}
+
+
+class Names(Scratch):
+    """Names that nobody should send to a terminal."""
+
+    def setUp(self) -> None:
+        super().setUp()
+        text = call(1, 59, exit=0, a0='0') + f'type=EXECVE msg=audit(1780992001.000:1): argc=2 a0="p" a1={HOSTILE["escape"].hex()}\n'
+        for place, name in enumerate(HOSTILE.values()):
+            text += opened_and(0, name.hex().upper(), 50 + place, 10 + 10 * place) + call(15 + 10 * place, 3, exit=0)
+        text += opened_and(1, '"/tmp/out"', 90, 200, 'CREATE')
+        self.file = self.log(text)
+
+    def test_nothing_raw_reaches_the_output(self) -> None:
+        questions = ['back /tmp/out', 'back /tmp/out --tree', 'back /tmp/out --json', 'back /tmp/out --dot', 'find *', 'show *a* --each', 'show pid:100', 'stat',
+                     'find nosuch', 'back *']
+        done = run('-if', self.file, 'ask', stdin='\n'.join(questions))
+        for text in (done.stdout, done.stderr):
+            self.assertIsNone(RAW.search(text), RAW.search(text))
+            self.assertNotIn('\u202e'.encode(), text)
+        for want in ('/tmp/line\\nfeed', '/tmp/\\x1b[31mred\\x1b]0;title\\x07', '/tmp/\\x9b1m', '/tmp/\\u202etxt.exe', '/tmp/back\\\\slash', '/tmp/a"b', '/tmp/<b>&'):
+            self.assertIn(want.encode(), done.stdout)
+
+    def test_each_is_found_by_its_bytes(self) -> None:
+        for name in (HOSTILE['feed'], HOSTILE['bytes'], HOSTILE['quote']):
+            done = run('-q', '-if', self.file, 'find', name)
+            self.assertEqual((done.returncode, done.stdout.count(b'\n')), (0, 1), name)
+
+    def test_a_name_is_said_apart_from_a_number(self) -> None:
+        done = run('-q', '-if', self.file, 'find', b'name:' + HOSTILE['dollar'])
+        self.assertIn(b'/tmp/#15', done.stdout)
+
+    def test_two_objects_of_one_name_are_told(self) -> None:
+        text = opened_and(1, '"/tmp/x"', 7, 10, 'CREATE') + opened_and(1, '"/tmp/x"', 7, 20, 'CREATE', pid=200) + opened_and(1, '"/srv/x"', 8, 30, 'CREATE')
+        log = self.log(text, 'two.log')
+        done = run('-q', '-if', log, 'back', '/tmp/x')
+        self.assertIn(b'/tmp/x was 2 objects, one after the other', done.stderr)
+        self.assertIn(b'[200]', done.stdout)
+        both = run('-q', '-if', log, 'back', '/tmp/x', '--each')
+        self.assertEqual(both.stdout.count(b'can have come from'), 2)
+        done = run('-q', '-if', log, 'back', '*/x')
+        self.assertEqual(done.returncode, 2)
+        self.assertIn(b'may mean 3 objects', done.stderr)
+        self.assertEqual(done.stdout, b'')
+
+    def test_what_was_written_is_never_common(self) -> None:
+        text = opened_and(1, '"/usr/lib/libc.so"', 7, 10) + call(15, 3, exit=0) + opened_and(0, '"/usr/lib/libc.so"', 7, 20, pid=200) + opened_and(0, '"/usr/lib/libm.so"', 8, 30, pid=200)
+        text += opened_and(1, '"/tmp/o"', 9, 40, 'CREATE', pid=200)
+        done = run('-q', '-if', self.log(text, 'lib.log'), 'back', '/tmp/o')
+        self.assertIn(b'/usr/lib/libc.so', done.stdout)
+        self.assertNotIn(b'/usr/lib/libm.so', done.stdout)
+        self.assertIn(b'1 common object hidden; -a shows it', done.stdout)
+
+    def test_what_comes_by_way_of_hidden_objects_stays(self) -> None:
+        text = (opened_and(0, '"/tmp/in"', 7, 10) + opened_and(1, '"/opt/between"', 8, 20, 'CREATE')
+                + opened_and(0, '"/opt/between"', 8, 30, pid=200) + opened_and(1, '"/tmp/out"', 9, 40, 'CREATE', pid=200))
+        done = run('-q', '-if', self.log(text, 'way.log'), 'back', '/tmp/out', '--tree', '--hide', '/opt/*')
+        self.assertIn('read  2026-06-09 08:00:31.000:31  p[100]  #1  (by way of 1 hidden object)', done.stdout.decode())
+        self.assertIn(b'/tmp/in', done.stdout)
+
+
+class Rotated(Scratch):
+    """A log in parts, packed in several ways, in a folder with a blank in its name."""
+
+    def parts(self, count: int) -> list[bytes]:
+        lines = EXAMPLE.read_bytes().splitlines(keepends=True)
+        return [b''.join(lines[len(lines) * it // count:len(lines) * (it + 1) // count]) for it in range(count)]
+
+    def rotate(self, numbers: dict[int, str]) -> None:
+        pack = {'': lambda it: it, '.gz': gzip.compress, '.xz': lzma.compress, '.bz2': bz2.compress}
+        for part, (number, suffix) in zip(self.parts(7), sorted(numbers.items(), reverse=True)):
+            (self.folder / f'audit.log{f".{number}" if number else ""}{suffix}').write_bytes(pack[suffix](part))
+
+    def test_the_answers_are_those_over_one_file(self) -> None:
+        self.rotate({12: '.xz', 11: '.gz', 10: '.bz2', 9: '.gz', 8: '', 7: '.xz', 0: ''})
+        for number in (12, 11, 10, 9, 8, 7):
+            file = next(self.folder.glob(f'audit.log.{number}*'))
+            file.rename(str(file).replace(f'.log.{number}', f'.log.{number - 6}'))
+        want = asked(EXAMPLE, 'back 127.0.0.1:4445 --json\nfore /customers.csv --tree\nstat --json\n')
+        for word in (self.folder, self.folder / 'audit.log'):
+            got = asked(word, 'back 127.0.0.1:4445 --json\nfore /customers.csv --tree\nstat --json\n')
+            self.assertEqual(got.splitlines()[:-1], want.splitlines()[:-1])
+            counts, wanted = (json.loads(it.splitlines()[-1]) for it in (got, want))
+            self.assertEqual([Path(it).name for it in counts.pop('files')],
+                             ['audit.log.6.xz', 'audit.log.5.gz', 'audit.log.4.bz2', 'audit.log.3.gz', 'audit.log.2', 'audit.log.1.xz', 'audit.log'])
+            wanted.pop('files')
+            self.assertEqual(counts, wanted)
+
+    def test_files_named_apart_are_put_in_order(self) -> None:
+        self.rotate({2: '', 1: '.gz', 0: ''})
+        words = [it for name in ('audit.log.1.gz', 'audit.log', 'audit.log.2', 'audit.log.1.gz') for it in ('-if', self.folder / name)]
+        files = json.loads(run('-q', *words, 'stat', '--json').stdout)['files']
+        self.assertEqual([Path(it).name for it in files], ['audit.log.2', 'audit.log.1.gz', 'audit.log'])
+
+    def test_missing_files_are_told(self) -> None:
+        self.rotate({5: '.gz', 3: '', 1: '.xz', 0: ''})
+        warnings = json.loads(run('-if', self.folder, 'stat', '--json').stdout)['warnings']
+        self.assertTrue(any('missing between' in it and it.endswith('number 2, 4') for it in warnings), warnings)
+        warnings = json.loads(run('-if', self.folder / 'audit.log.3', 'stat', '--json').stdout)['warnings']
+        self.assertTrue(any('1 older rotated file' in it for it in warnings), warnings)
+
+    def test_a_damaged_file_is_a_read_fault(self) -> None:
+        (self.folder / 'audit.log.1.gz').write_bytes(gzip.compress(self.parts(7)[0])[:-20])
+        (self.folder / 'audit.log').write_bytes(self.parts(7)[1])
+        done = run('-if', self.folder, 'stat')
+        self.assertEqual((done.returncode, done.stdout), (4, b''))
+        self.assertIn(b'audit.log.1.gz', done.stderr)
+
+    def test_standard_input_is_a_log(self) -> None:
+        done = run('-q', '-if', '-', 'find', '/customers.csv', stdin=gzip.compress(EXAMPLE.read_bytes()))
+        self.assertEqual((done.returncode, done.stdout), (0, b'#47     file     /customers.csv   file fe:00 19130 0\n'))
+        self.assertFalse(list(Path(tempfile.gettempdir()).glob('autrail-*')))
+
+
+class Fitness(Scratch):
+    """What a log isn't fit for is told before the answer."""
+
+    def test_each_fault_is_told(self) -> None:
+        good = opened_and(0, '"/a"', 7, 1) + opened_and(1, '"/b"', 8, 3, 'CREATE') + call(5, 57, exit=101) + call(6, 59, exit=0)
+        logs = {
+            'interpreted': ('type=SYSCALL msg=audit(06/09/2026 08:01:53.180:655) : arch=x86_64 syscall=read\n' * 3, 'ausearch --raw'),
+            'journal': ('Jun 09 08:01:53 web1 audit[423]: SYSCALL arch=c000003e syscall=0\n' * 3, 'journal or syslog'),
+            'packed': (b'\x28\xb5\x2f\xfd\x04\x00\n\x00\n', 'packed by zstd'),
+            'empty': ('', 'the log is empty'),
+            'no reads': (good.replace('syscall=0 ', 'syscall=4 ').replace('syscall=1 ', 'syscall=4 '), 'no reads and no writes'),
+            'hosts': (good.replace('type=', 'node=web1 type=') + call(9, 0, node='node=web2 '), 'lines of 2 hosts'),
+            'machines': (good + call(9, 63, arch='c00000b7') + call(10, 3, arch='40000003'), '1 call of AArch64 isn\'t followed'),
+            'gate': (good + call(10, 3, arch='40000003'), '1 call of the 32-bit gate (i386) isn\'t followed'),
+            'far': (call(9, 0, at=2000000000) + good, 'the log goes back in time'),
+            'future': (good + call(9, 0, at=33000000000), "more than a day ahead of this machine's clock"),
+            'late': (call(9, 0) + 'type=EOE msg=audit(1780992009.000:9): \n' + good, 'came late'),
+        }
+        for name, (text, want) in logs.items():
+            with self.subTest(name):
+                done = run('-if', self.log(text, f'{name}.log'), 'find', '*')
+                self.assertIn(want, done.stderr.decode())
+                self.assertTrue(done.stderr.startswith(b'autrail: mistrust: '))
+        self.assertEqual(json.loads(run('-if', self.log(good, 'good.log'), 'stat', '--json').stdout)['warnings'], [])
+
+    def test_users_and_arguments_are_read_from_the_lines(self) -> None:
+        text = call(1, 59, exit=0) + 'type=EXECVE msg=audit(1780992001.000:1): argc=3 a0="p" a1_len=4 a1[0]=6162 a1[1]=6364 a2="x"\n' + opened_and(1, '"/tmp/o"', 9, 10, 'CREATE')
+        text += call(12, 231, exit=0) + opened_and(1, '"/tmp/o2"', 10, 20, 'CREATE')
+        text = text.replace('exe="/usr/bin/p"', 'exe="/usr/bin/p"\x1dARCH=x86_64 SYSCALL=x AUID="alice" UID="bob" GID="bob"')
+        said = [json.loads(it) for it in asked(self.log(text), 'show pid:100 --each --json').splitlines()]
+        self.assertEqual([it['key'] for it in said], ['process 100 0', 'process 100 1'])
+        first = said[0]['read_from_log']
+        self.assertEqual((first['arguments'], first['auid'], first['uid'], first['session'], first['terminal']), ('p abcd x', '1000 (alice)', '1001 (bob)', '7', 'pts0'))
+        self.assertNotIn('arguments', said[1]['read_from_log'])
+
+
+ZONES = {
+    # 2026-06-09 08:01:00 in each zone, and words that are read on that day at 12:30:45.
+    'UTC': {'06/09/2026 08:01:00': 1780992060, 'now': 1781008245, 'recent': 1781007645, 'today': 1780963200, 'yesterday': 1780876800, 'this-week': 1780790400,
+            'week-ago': 1780358400, 'this-month': 1780272000, 'this-year': 1767225600, 'this-hour': 1781006400, 'yesterday 14:00': 1780927200, '14:00': 1781013600,
+            '10 min ago': 1781007645, '2 days ago': 1780835445, '3 hours ago': 1780997445, '2026-06-09T08:01': 1780992060, '2026-06-09 08:01:00': 1780992060,
+            '2026-06-09T08:01:00Z': 1780992060, '2026-06-09T08:01+02:00': 1780984860, '2026-06-09': 1780963200, '1780992060': 1780992060},
+    'America/New_York': {'06/09/2026 08:01:00': 1781006460, 'today': 1780977600, 'this-month': 1780286400, 'this-year': 1767243600, 'this-week': 1780804800, '2026-06-09T08:01:00Z': 1780992060,
+                         # the clocks went forward on 8 March at 2:00 and go back on 1 November at 2:00
+                         '03/08/2026': 1772946000, '03/09/2026': 1773028800, '03/08/2026 03:00': 1772953200, '11/01/2026': 1793505600, '11/02/2026': 1793595600},
+    'Europe/Berlin': {'06/09/2026 08:01:00': 1780984860, 'today': 1780956000, 'this-year': 1767222000, '03/29/2026': 1774738800, '03/30/2026': 1774821600,
+                      '2026-03-29 03:00': 1774746000, '10/26/2026': 1792969200, '10/25/2026 03:00': 1792893600, '2026-10-25T02:30+01:00': 1792891800},
+}
+NO_TIMES = ('next tuesday', '06/31/2026', '25:00', '2026-13-01', '12', 'today today', '', '5 moons ago', '-1', '99999999999999999', '08:60', '2026-06-09T08:01:99')
+
+
+class Words(Scratch):
+    """TIME words, and what isn't understood."""
+
+    @classmethod
+    def setUpClass(cls) -> None:
+        cls.autrail = module()
+
+    def in_zone(self, zone: str) -> None:
+        before = os.environ.get('TZ')
+        self.addCleanup(lambda: (os.environ.update(TZ=before) if before else os.environ.pop('TZ', None), time.tzset()))
+        os.environ['TZ'] = zone
+        time.tzset()
+
+    def test_time_words_in_three_zones(self) -> None:
+        if not Path('/usr/share/zoneinfo/Europe/Berlin').exists():
+            self.skipTest('no time zones (tzdata) on this machine')
+        for zone, table in ZONES.items():
+            self.in_zone(zone)
+            for words, seconds in table.items():
+                with self.subTest(zone=zone, words=words):
+                    self.assertEqual(self.autrail.moment(words, datetime(2026, 6, 9, 12, 30, 45)), seconds * 1000)
+
+    def test_parts_of_a_second(self) -> None:
+        self.in_zone('UTC')
+        for words, at in {'1780992064.4': 1780992064400, '1.000': 1000, '1780992064.4567': 1780992064456, '2026-06-09 08:01:04.25': 1780992064250}.items():
+            self.assertEqual(self.autrail.moment(words), at, words)
+        self.assertEqual(self.autrail.spelled(1001), '1.001')
+        self.assertEqual(self.autrail.spelled(1780992064400), '1780992064.400')
+
+    def test_days_are_on_the_clock_and_spans_are_not(self) -> None:
+        if not Path('/usr/share/zoneinfo/Europe/Berlin').exists():
+            self.skipTest('no time zones (tzdata) on this machine')
+        self.in_zone('Europe/Berlin')
+        after = datetime(2026, 3, 29, 12, 0)
+        self.assertEqual(self.autrail.moment('yesterday 12:00', after), 1774695600000)
+        self.assertEqual(self.autrail.moment('1 day ago', after), 1774692000000)
+
+    def test_a_time_that_the_clock_skips_or_shows_twice_is_refused(self) -> None:
+        if not Path('/usr/share/zoneinfo/Europe/Berlin').exists():
+            self.skipTest('no time zones (tzdata) on this machine')
+        self.in_zone('Europe/Berlin')
+        for words, want in (('03/29/2026 02:30', 'is passed over'), ('2026-10-25T02:30', 'comes twice'), ('10/25/2026 02:30:00', '2026-10-25T02:30:00+01:00')):
+            with self.assertRaises(self.autrail.Refused) as refused:
+                self.autrail.moment(words)
+            self.assertIn(want, str(refused.exception))
+
+    def test_what_is_no_time_is_refused(self) -> None:
+        for words in NO_TIMES:
+            with self.subTest(words), self.assertRaises(self.autrail.Refused):
+                self.autrail.spelled(self.autrail.moment(words))
+
+    def test_wrong_words_give_one_line(self) -> None:
+        wrong = ['', 'frob', 'back', 'fore', 'why a', 'find', 'show', 'stat x', 'ask x', 'rules x', 'back x y', 'back x --at', 'back x --at soon', 'fore x --since 25:00',
+                 'back x --since today', 'back x --tree --dot', 'back x --svg x.png', 'back x --png x.svg', '-m fast stat', '--no-such stat', '-if', 'why a b --at never',
+                 '-if - ask', 'show x --frob', 'find x --tree', 'rules --json']
+        for words in wrong:
+            with self.subTest(words), self.assertRaises(self.autrail.Refused) as refused:
+                self.autrail.run(shlex.split(words))
+            self.assertEqual(refused.exception.status, 2)
+            self.assertRegex(str(refused.exception), r'^[^\n]{10,}$')
+        done = run('back', 'x', 'y')
+        self.assertEqual((done.returncode, done.stdout, done.stderr), (2, b'', b'autrail: unrecognized arguments: y; "autrail --help" says more\n'))
+
+    def test_faults_of_the_log_and_the_program(self) -> None:
+        empty = self.log('')
+        cases = [(['-if', self.folder / 'none', 'stat'], {}, 4, 'no such log'), (['-if', empty, 'stat'], {'AUDIT_CLI': '/no/such'}, 2, "doesn't start"),
+                 (['-if', empty, 'stat'], {'AUDIT_CLI': "sh -c 'echo full >&2; exit 9'"}, 9, 'the program says: full'),
+                 (['-if', EXAMPLE, 'find', 'nosuch.c'], {}, 1, 'nothing in the log is called nosuch.c'), (['-if', EXAMPLE, 'show', '#99'], {}, 1, 'no object'),
+                 (['-if', EXAMPLE, 'find', 'customers'], {}, 1, 'there is /customers.csv')]
+        for words, more, status, want in cases:
+            with self.subTest(words=words, more=more):
+                done = run('-q', *words, **more)
+                self.assertEqual((done.returncode, done.stdout), (status, b''))
+                self.assertIn(want, done.stderr.decode())
+
+    def test_help_and_version(self) -> None:
+        self.assertEqual(run('--version').stdout, b'autrail 0.2.0\n')
+        for command in ([], ['back'], ['fore'], ['why'], ['find'], ['show'], ['stat'], ['ask'], ['rules']):
+            self.assertEqual(run(*command, '--help').returncode, 0)
+
+    def test_a_full_device_and_a_closed_pipe(self) -> None:
+        with open('/dev/full', 'wb') as full:
+            done = subprocess.run([AUTRAIL, '-q', '-if', EXAMPLE, 'stat'], stdout=full, stderr=subprocess.PIPE, env=environment(), check=False)
+        self.assertEqual((done.returncode, done.stderr.count(b'\n')), (5, 1))
+        words = ' '.join(shlex.quote(str(it)) for it in (AUTRAIL, '-q', '-if', EXAMPLE, 'back', '/tmp/x.sh', '-a'))
+        done = subprocess.run(['bash', '-c', f'{words} | true; echo ${{PIPESTATUS[0]}}'], capture_output=True, env=environment(), check=False)
+        self.assertIn(done.stdout, (b'141\n', b'0\n'))
+        self.assertEqual(done.stderr, b'')
+
+    def test_an_interrupt_ends_the_program_too(self) -> None:
+        fifo = self.folder / 'pid'
+        slow = self.log(f'#!/bin/sh\necho $$ >{shlex.quote(str(fifo))}\nexec sleep 60\n', 'slow')
+        slow.chmod(0o755)
+        child = subprocess.Popen([AUTRAIL, '-if', EXAMPLE, 'stat'], stderr=subprocess.PIPE, env=environment(AUDIT_CLI=shlex.quote(str(slow))))
+        for _ in range(200):
+            if fifo.exists() and fifo.read_text().strip():
+                break
+            time.sleep(0.05)
+        time.sleep(0.5)
+        child.send_signal(signal.SIGINT)
+        self.assertEqual(child.wait(10), 130)
+        child.stderr.close()
+        with self.assertRaises(ProcessLookupError):
+            os.kill(int(fifo.read_text()), 0)
+
+
+class Pictures(Scratch):
+    def test_graphs_are_drawn_where_graphviz_is(self) -> None:
+        if not shutil.which('dot'):
+            self.skipTest('graphviz (dot) is not on this machine')
+        text = opened_and(0, HOSTILE['feed'].hex(), 50, 10) + opened_and(0, '"/tmp/<b>&amp;"', 51, 20) + opened_and(0, HOSTILE['quote'].hex(), 52, 30)
+        text += opened_and(1, HOSTILE['slash'].hex(), 53, 40, 'CREATE')
+        hostile = self.log(text)
+        for log, what, shapes in ((EXAMPLE, '127.0.0.1:4445', 15), (hostile, 'inode:08:01:53', 5)):
+            svg, png = self.folder / 'a b.svg', self.folder / 'a b.png'
+            for option, file in (('--svg', svg), ('--png', png)):
+                done = run('-q', '-if', log, 'back', what, option, file)
+                self.assertEqual(done.returncode, 0, done.stderr)
+            self.assertEqual(svg.read_text().count('class="node"'), shapes)
+            self.assertTrue(png.read_bytes().startswith(b'\x89PNG'))
+
+    def test_without_graphviz_it_says_what_to_install(self) -> None:
+        done = run('-q', '-if', EXAMPLE, 'back', '/tmp/x.sh', '--svg', self.folder / 'x.svg', PATH=str(self.python_alone()), AUDIT_CLI=f'{shutil.which("bash")} {PROGRAM}'
+                   if PROGRAM == str(TOP / 'audit_cli') else PROGRAM)
+        self.assertEqual(done.returncode, 2)
+        self.assertIn(b'graphviz', done.stderr)
+
+    def python_alone(self) -> Path:
+        """A folder of commands with all that this machine has but dot."""
+        folder = self.folder / 'bin'
+        folder.mkdir()
+        for place in reversed(os.environ['PATH'].split(':')):
+            for file in Path(place).glob('*') if place else []:
+                link = folder / file.name
+                if file.name != 'dot':
+                    link.unlink(missing_ok=True)
+                    link.symlink_to(file)
+        return folder
+
+    def test_each_object_that_is_shown_is_a_node(self) -> None:
+        dot = asked(EXAMPLE, 'back 127.0.0.1:4445 --dot')
+        objects = map(json.loads, asked(EXAMPLE, 'back 127.0.0.1:4445 --json').splitlines())
+        self.assertEqual({int(it) for it in re.findall(r'^  n(\d+) \[', dot, re.M)}, {it['id'] for it in objects if not it['hidden']})
+
+
+class Terminal(Scratch):
+    def test_a_session_at_a_terminal(self) -> None:
+        if not shutil.which('tmux'):
+            self.skipTest('tmux is not on this machine')
+        tmux = ['tmux', '-L', f'autrail-{os.getpid()}', '-f', '/dev/null']
+        start = ' '.join(shlex.quote(it) for it in ('env', f'AUDIT_CLI={PROGRAM}', 'TZ=UTC', 'LC_ALL=C.UTF-8', str(AUTRAIL), '-if', str(EXAMPLE), 'ask'))
+        subprocess.run([*tmux, '-u', 'new-session', '-d', '-x', '110', '-y', '40', start + '; echo status $?; sleep 60'], check=True, cwd=TOP)
+        self.addCleanup(subprocess.run, [*tmux, 'kill-server'], check=False)
+
+        def keys(*words: str) -> None:
+            subprocess.run([*tmux, 'send-keys', *words], check=True)
+
+        def wait_for(want: str) -> str:
+            for _ in range(300):
+                screen = subprocess.run([*tmux, 'capture-pane', '-p'], capture_output=True, check=True).stdout.decode()
+                if want in screen:
+                    return screen
+                time.sleep(0.1)
+            self.fail(f'{want!r} did not come:\n{screen}')
+
+        wait_for('autrail>')
+        keys('fore /cust', 'Tab', ' --tree', 'Enter')
+        wait_for('└─ write 2026-06-09 08:01:56.184:1148  127.0.0.1:4445  #49')
+        keys('frob', 'Enter')
+        wait_for("invalid choice: 'frob'")
+        keys('C-d')
+        wait_for('status 0')
+
+
+class Rules(unittest.TestCase):
+    def test_the_command_prints_the_file(self) -> None:
+        self.assertEqual(run('rules').stdout, (HERE.parent / 'kitrevasu.rules').read_bytes())
+
+    def test_auditctl_takes_each_rule(self) -> None:
+        """Within a user namespace of its own the kernel takes no rule, so that none is loaded; auditctl parses them all the same."""
+        auditctl = shutil.which('auditctl', path=ADMIN_FOLDERS)
+        alone = ['unshare', '--user', '--map-root-user']
+        if not auditctl or subprocess.run([*alone, 'true'], capture_output=True, check=False).returncode:
+            self.skipTest('auditctl (package auditd) or unshare is not on this machine')
+
+        def said(rule: str) -> str:
+            return subprocess.run([*alone, auditctl, *shlex.split(rule)], capture_output=True, text=True, check=False).stderr.strip()
+
+        said_of_a_good_rule = said('-a always,exit -F arch=b64 -S read -k x')
+        self.assertIn('unknown', said('-a always,exit -F arch=b64 -S nosuchcall -k x'))
+        rules = [it for it in run('rules').stdout.decode().splitlines() if it.startswith('-a ')]
+        self.assertGreater(len(rules), 15)
+        for rule in rules:
+            self.assertEqual(said(rule), said_of_a_good_rule, rule)
+
+
+class Installed(Scratch):
+    def test_make_install(self) -> None:
+        if not shutil.which('make'):
+            self.skipTest('make is not on this machine')
+        program = self.log('#!/bin/sh\nexit 7\n', 'program')
+        program.chmod(0o755)
+        done = subprocess.run(['make', '-s', 'install', f'PREFIX={self.folder}/usr', f'PROGRAM={program}'], cwd=TOP, capture_output=True, check=False)
+        self.assertEqual(done.returncode, 0, done.stderr)
+        there = sorted(str(it.relative_to(self.folder / 'usr')) for it in (self.folder / 'usr').rglob('*') if it.is_file())
+        self.assertEqual(there, ['bin/audit_cli', 'bin/autrail', 'lib/kitrevasu/audit_cli', 'share/autrail/kitrevasu.rules', 'share/bash-completion/completions/autrail',
+                                 'share/man/man1/autrail.1', 'share/zsh/site-functions/_autrail'])
+        installed = self.folder / 'usr' / 'bin' / 'autrail'
+        self.assertEqual(subprocess.run([installed, 'rules'], capture_output=True, check=False).stdout, (HERE.parent / 'kitrevasu.rules').read_bytes())
+        self.assertEqual(subprocess.run([self.folder / 'usr' / 'bin' / 'audit_cli'], check=False).returncode, 7)
+
+    def test_the_man_page_is_built_of_its_source(self) -> None:
+        if not shutil.which('scdoc'):
+            self.skipTest('scdoc is not on this machine')
+        source = (HERE.parent / 'autrail.1.scd').read_bytes()
+        strip = lambda text: [it for it in text.decode().splitlines() if not it.startswith(('.\\"', '.TH'))]
+        built = subprocess.run(['scdoc'], input=source, capture_output=True, check=True).stdout
+        self.assertEqual(strip(built), strip((HERE.parent / 'man' / 'autrail.1').read_bytes()))
+
+    def test_the_man_page_and_completions_name_each_command_and_option(self) -> None:
+        helps = ''.join(run(*it, '--help').stdout.decode() for it in ([], ['back'], ['fore'], ['why']))
+        options = set(re.findall(r'--[a-z]+', helps)) - {'--input', '--help', '--version', '--mode', '--quiet', '--all'}
+        for name in ('autrail.1.scd', 'autrail.bash', '_autrail'):
+            text = (HERE.parent / name).read_text().replace('\\-', '-')
+            for word in sorted(options) + ['back', 'fore', 'why', 'find', 'show', 'stat', 'ask', 'rules']:
+                self.assertIn(word, text, name)
+
+    def test_bash_completes(self) -> None:
+        if not shutil.which('bash'):
+            self.skipTest('bash is not on this machine')
+        script = 'source companion/autrail.bash; COMP_WORDS=(autrail "$@"); COMP_CWORD=$#; _autrail; printf "%s\\n" "${COMPREPLY[@]}"'
+        for words, want in ((['ba'], ['back']), (['back', 'x', '--tr'], ['--tree']), (['-m', 'con'], ['continuous']), (['back', 'x', '--at', 'yes'], ['yesterday'])):
+            done = subprocess.run(['bash', '-c', script, 'bash', *words], capture_output=True, text=True, cwd=TOP, check=False)
+            self.assertEqual(done.stdout.split(), want, words)
+
+
+def main() -> int:
+    global PROGRAM
+    words = argparse.ArgumentParser(description=__doc__.splitlines()[0])
+    words.add_argument('--program', default=PROGRAM)
+    words.add_argument('names', nargs='*')
+    options = words.parse_args()
+    PROGRAM = options.program
+    subprocess.run([*shlex.split(PROGRAM), 'back', '0'], stdin=subprocess.DEVNULL, stdout=subprocess.DEVNULL, check=True)
+    start = time.monotonic()
+    result = unittest.main(argv=['run.py', *options.names], exit=False, verbosity=1).result
+    for test, why in result.skipped:
+        print(f'skipped: {test.id().split(".", 1)[1]}: {why}')
+    print(f'the companion: {result.testsRun - len(result.skipped)} tests run, {len(result.skipped)} skipped, '
+          f'{len(result.failures) + len(result.errors)} failed, {time.monotonic() - start:.0f} seconds')
+    return 0 if result.wasSuccessful() else 1
+
+
+if __name__ == '__main__':
+    sys.exit(main())
