@@ -3,8 +3,9 @@
     .ci/sessions.py DOCUMENT..
 
 A session is an indented line that begins with `$ `, a command, and the indented lines after it, which are its output.
-Each command is run by bash at the top of the repository. Prints each session that differs, and ends with status 1 if there is one.
+Each command is run by bash at the top of the repository, with the clock of UTC. Prints each session that differs, and ends with status 1 if there is one.
 """
+import os
 import subprocess
 import sys
 from pathlib import Path
@@ -30,7 +31,7 @@ def main(documents):
     faults = count = 0
     for document in documents:
         for command, shown in sessions_of(Path(document).read_text(encoding='utf-8')):
-            ran = subprocess.run(['bash', '-c', command], stdin=subprocess.DEVNULL, stdout=subprocess.PIPE, text=True, errors='replace')
+            ran = subprocess.run(['bash', '-c', command], env={**os.environ, 'TZ': 'UTC'}, stdin=subprocess.DEVNULL, stdout=subprocess.PIPE, text=True, errors='replace')
             count += 1
             if ran.stdout.splitlines() != shown:
                 faults += 1
