@@ -145,7 +145,7 @@ class Answers(unittest.TestCase):
         count = lambda text: len(re.findall(r'^  #\d+', text, re.M))
         self.assertEqual(count(all_), 20)
         self.assertEqual((count(few), few.splitlines()[-1]), (7, '13 common objects hidden; -a shows them'))
-        self.assertEqual((count(hidden), hidden.splitlines()[-1]), (6, '14 common objects hidden; -a shows them'))
+        self.assertEqual((count(hidden), hidden.splitlines()[-2:]), (6, ['13 common objects hidden; -a shows them', '1 object hidden by --hide']))
 
     def test_other_modes_answer_or_say_that_they_do_not(self) -> None:
         for mode in ('continuous', 'full', 'source'):
@@ -271,9 +271,16 @@ class Rotated(Scratch):
     def test_missing_files_are_told(self) -> None:
         self.rotate({5: '.gz', 3: '', 1: '.xz', 0: ''})
         warnings = json.loads(run('-if', self.folder, 'stat', '--json').stdout)['warnings']
-        self.assertTrue(any('missing between' in it and it.endswith('number 2, 4') for it in warnings), warnings)
+        self.assertTrue(any('are missing' in it and it.endswith('number 2, 4') for it in warnings), warnings)
         warnings = json.loads(run('-if', self.folder / 'audit.log.3', 'stat', '--json').stdout)['warnings']
-        self.assertTrue(any('1 older rotated file' in it for it in warnings), warnings)
+        self.assertTrue(any('were not named: number 0, 1, 5' in it for it in warnings), warnings)
+
+    def test_a_file_that_is_there_twice_is_read_once(self) -> None:
+        self.rotate({1: '.gz', 0: ''})
+        (self.folder / 'audit.log.1').write_bytes(self.parts(7)[0])
+        told = json.loads(run('-if', self.folder, 'stat', '--json').stdout)
+        self.assertEqual([Path(it).name for it in told['files']], ['audit.log.1', 'audit.log'])
+        self.assertTrue(any("audit.log.1.gz isn't" in it for it in told['warnings']), told['warnings'])
 
     def test_a_damaged_file_is_a_read_fault(self) -> None:
         (self.folder / 'audit.log.1.gz').write_bytes(gzip.compress(self.parts(7)[0])[:-20])
