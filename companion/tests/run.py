@@ -3,7 +3,7 @@
 
     companion/tests/run.py [--program WORDS] [NAME..]
 
-WORDS is the program (./audit_cli at the top, which builds itself if needed). Checks that need graphviz, tmux, auditctl, unshare or
+WORDS is the program (what ./audit_cli at the top has built, which is run first for it). Checks that need graphviz, tmux, auditctl, unshare or
 scdoc are skipped on a machine without them, and say so.
 """
 from __future__ import annotations
@@ -32,7 +32,9 @@ HERE = Path(__file__).resolve().parent
 TOP = HERE.parent.parent
 AUTRAIL = HERE.parent / 'autrail'
 EXAMPLE = TOP / 'examples' / 'web1_sample.log'
-PROGRAM = str(TOP / 'audit_cli')
+SCRIPT = TOP / 'audit_cli'
+BUILT = TOP / 'crates' / 'audit_cli' / 'out' / 'audit_cli'
+PROGRAM = str(SCRIPT)
 ADMIN_FOLDERS = os.environ['PATH'] + ':/usr/sbin:/sbin'
 TREES = {'received': 'back /srv/evil/received.tar --tree', 'port4445': 'back 127.0.0.1:4445 --tree', 'customers': 'fore /customers.csv --tree'}
 RAW = re.compile(rb'[\x00-\x09\x0b-\x1f\x7f]|\xc2[\x80-\x9f]')
@@ -145,7 +147,7 @@ class Answers(unittest.TestCase):
         count = lambda text: len(re.findall(r'^  #\d+', text, re.M))
         self.assertEqual(count(all_), 20)
         self.assertEqual((count(few), few.splitlines()[-1]), (7, '13 common objects hidden; -a shows them'))
-        self.assertEqual((count(hidden), hidden.splitlines()[-1]), (6, '14 common objects hidden; -a shows them'))
+        self.assertEqual((count(hidden), hidden.splitlines()[-2:]), (6, ['13 common objects hidden; -a shows them', '1 object hidden by --hide']))
 
     def test_other_modes_answer_or_say_that_they_do_not(self) -> None:
         for mode in ('continuous', 'full', 'source'):
@@ -210,7 +212,7 @@ class Names(Scratch):
         text = opened_and(1, '"/tmp/x"', 7, 10, 'CREATE') + opened_and(1, '"/tmp/x"', 7, 20, 'CREATE', pid=200) + opened_and(1, '"/srv/x"', 8, 30, 'CREATE')
         log = self.log(text, 'two.log')
         done = run('-q', '-if', log, 'back', '/tmp/x')
-        self.assertIn(b'/tmp/x was 2 objects, one after the other', done.stderr)
+        self.assertIn(b'/tmp/x is the name of 2 objects: ', done.stderr)
         self.assertIn(b'[200]', done.stdout)
         both = run('-q', '-if', log, 'back', '/tmp/x', '--each')
         self.assertEqual(both.stdout.count(b'can have come from'), 2)
@@ -233,6 +235,22 @@ class Names(Scratch):
         done = run('-q', '-if', self.log(text, 'way.log'), 'back', '/tmp/out', '--tree', '--hide', '/opt/*')
         self.assertIn('read  2026-06-09 08:00:31.000:31  p[100]  #1  (by way of 1 hidden object)', done.stdout.decode())
         self.assertIn(b'/tmp/in', done.stdout)
+
+
+class Trees(Scratch):
+    def test_a_long_chain_is_a_tree(self) -> None:
+        text = ''.join(call(it, 57, pid=1000 + it, exit=1001 + it) for it in range(1, 1501))
+        lines = asked(self.log(text), 'back pid:2501 --tree').splitlines()
+        self.assertEqual(len([it for it in lines if ' fork  ' in it]), 1500)
+        self.assertIn('p[1001]  #', lines[1500])
+
+    def test_times_along_each_branch_go_one_way(self) -> None:
+        """Two objects reach the target over one process, which wrote it after each of them was read."""
+        text = opened_and(0, '"/a"', 7, 10) + opened_and(1, '"/out"', 9, 20, 'CREATE') + call(22, 3, exit=0) + opened_and(0, '"/b"', 8, 30)
+        text += call(35, 257, exit=4) + path(35, '"/out"', 9) + call(36, 1, a0='4')
+        lines = asked(self.log(text), 'back /out --tree').splitlines()
+        self.assertEqual(lines[1:4], ['└─ write 2026-06-09 08:00:36.000:36  p[100]  #1', '   ├─ read  2026-06-09 08:00:31.000:31  /b  #3',
+                                      '   └─ read  2026-06-09 08:00:11.000:11  /a  #0'])
 
 
 class Rotated(Scratch):
@@ -271,9 +289,16 @@ class Rotated(Scratch):
     def test_missing_files_are_told(self) -> None:
         self.rotate({5: '.gz', 3: '', 1: '.xz', 0: ''})
         warnings = json.loads(run('-if', self.folder, 'stat', '--json').stdout)['warnings']
-        self.assertTrue(any('missing between' in it and it.endswith('number 2, 4') for it in warnings), warnings)
+        self.assertTrue(any('are missing' in it and it.endswith('number 2, 4') for it in warnings), warnings)
         warnings = json.loads(run('-if', self.folder / 'audit.log.3', 'stat', '--json').stdout)['warnings']
-        self.assertTrue(any('1 older rotated file' in it for it in warnings), warnings)
+        self.assertTrue(any('were not named: number 0, 1, 5' in it for it in warnings), warnings)
+
+    def test_a_file_that_is_there_twice_is_read_once(self) -> None:
+        self.rotate({1: '.gz', 0: ''})
+        (self.folder / 'audit.log.1').write_bytes(self.parts(7)[0])
+        told = json.loads(run('-if', self.folder, 'stat', '--json').stdout)
+        self.assertEqual([Path(it).name for it in told['files']], ['audit.log.1', 'audit.log'])
+        self.assertTrue(any("audit.log.1.gz isn't" in it for it in told['warnings']), told['warnings'])
 
     def test_a_damaged_file_is_a_read_fault(self) -> None:
         (self.folder / 'audit.log.1.gz').write_bytes(gzip.compress(self.parts(7)[0])[:-20])
@@ -461,22 +486,12 @@ class Pictures(Scratch):
             self.assertTrue(png.read_bytes().startswith(b'\x89PNG'))
 
     def test_without_graphviz_it_says_what_to_install(self) -> None:
-        done = run('-q', '-if', EXAMPLE, 'back', '/tmp/x.sh', '--svg', self.folder / 'x.svg', PATH=str(self.python_alone()), AUDIT_CLI=f'{shutil.which("bash")} {PROGRAM}'
-                   if PROGRAM == str(TOP / 'audit_cli') else PROGRAM)
-        self.assertEqual(done.returncode, 2)
-        self.assertIn(b'graphviz', done.stderr)
-
-    def python_alone(self) -> Path:
-        """A folder of commands with all that this machine has but dot."""
-        folder = self.folder / 'bin'
-        folder.mkdir()
-        for place in reversed(os.environ['PATH'].split(':')):
-            for file in Path(place).glob('*') if place else []:
-                link = folder / file.name
-                if file.name != 'dot':
-                    link.unlink(missing_ok=True)
-                    link.symlink_to(file)
-        return folder
+        for name, file in {'python3': sys.executable, 'sh': shutil.which('sh'), 'bash': shutil.which('bash')}.items():
+            if file:
+                (self.folder / name).symlink_to(file)
+        done = run('-q', '-if', EXAMPLE, 'back', '/tmp/x.sh', '--svg', self.folder / 'x.svg', PATH=str(self.folder))
+        self.assertEqual((done.returncode, done.stdout), (2, b''))
+        self.assertIn(b'apt install graphviz', done.stderr)
 
     def test_each_object_that_is_shown_is_a_node(self) -> None:
         dot = asked(EXAMPLE, 'back 127.0.0.1:4445 --dot')
@@ -583,6 +598,8 @@ def main() -> int:
     options = words.parse_args()
     PROGRAM = options.program
     subprocess.run([*shlex.split(PROGRAM), 'back', '0'], stdin=subprocess.DEVNULL, stdout=subprocess.DEVNULL, check=True)
+    if PROGRAM == str(SCRIPT):
+        PROGRAM = str(BUILT)
     start = time.monotonic()
     result = unittest.main(argv=['run.py', *options.names], exit=False, verbosity=1).result
     for test, why in result.skipped:
