@@ -25,6 +25,7 @@ import sys
 import tempfile
 import time
 import unittest
+import unittest.mock
 from datetime import datetime
 from pathlib import Path
 
@@ -161,6 +162,7 @@ class Answers(unittest.TestCase):
         early = {json.loads(it)['id'] for it in done.stdout.splitlines()}
         self.assertIn(26, early)
         self.assertNotIn(36, early)
+        # No progress either, since this is no terminal.
         self.assertEqual(done.stderr, b'autrail: flows up to 2026-06-09 08:01:55.440 UTC+0000\n')
 
     def test_sessions_of_the_documents_are_as_printed(self) -> None:
@@ -430,6 +432,7 @@ class Words(Scratch):
     def test_faults_of_the_log_and_the_program(self) -> None:
         empty = self.log('')
         cases = [(['-if', self.folder / 'none', 'stat'], {}, 4, 'no such log'), (['-if', empty, 'stat'], {'AUDIT_CLI': '/no/such'}, 2, "doesn't start"),
+                 (['-if', empty, 'stat'], {'AUDIT_CLI': "'"}, 2, "can't be parted"),
                  (['-if', empty, 'stat'], {'AUDIT_CLI': "sh -c 'echo full >&2; exit 9'"}, 9, 'the program says: full'),
                  (['-if', EXAMPLE, 'find', 'nosuch.c'], {}, 1, 'nothing in the log is called nosuch.c'), (['-if', EXAMPLE, 'show', '#99'], {}, 1, 'no object'),
                  (['-if', EXAMPLE, 'find', 'customers'], {}, 1, 'there is /customers.csv')]
@@ -438,6 +441,12 @@ class Words(Scratch):
                 done = run('-q', *words, **more)
                 self.assertEqual((done.returncode, done.stdout), (status, b''))
                 self.assertIn(want, done.stderr.decode())
+
+    def test_a_folder_that_may_not_be_read(self) -> None:
+        with unittest.mock.patch('os.listdir', side_effect=PermissionError), self.assertRaises(self.autrail.Refused) as refused:
+            self.autrail.logs_of([str(self.folder / 'audit.log')], [])
+        self.assertEqual(refused.exception.status, 4)
+        self.assertIn('run autrail by sudo', str(refused.exception))
 
     def test_help_and_version(self) -> None:
         self.assertEqual(run('--version').stdout, b'autrail 0.2.0\n')
