@@ -7,10 +7,10 @@ use Rattle.audit_lex.specs.History.{History}
 use Rattle.audit_lex.specs.declared.header.EventKey.{EventKey}
 use Rattle.audit_record.specs.declared.types.Record.{Record}
 use Rattle.record_join.specs.Events.{Joining, enter, greater_key, ripe_key, without, event_of, event_at, left_at, next_event, next_left}
-use Rattle.record_join.specs.History.{Step as Told, Came, Settle as Settles, start, told, state, left, left_after, greatest_time}
+use Rattle.record_join.specs.History.{Step as Told, Came, Settle as Settles, start, told, state, left, left_after}
 use Rattle.record_join.specs.declared.clock.JoinClock.{JoinClock}
 use Rattle.record_join.specs.declared.event.Event.{Event}
-use Rattle.ingest.specs.Clocks.{seen_then, greatest_key, HasReleased, IsClockOf}
+use Rattle.ingest.specs.Clocks.{seen_then, HasReleased, IsClockOf}
 use Rattle.ingest.specs.Events.{told_of, state_of}
 use Rattle.ingest.specs.Parts.{Joined}
 use Rattle.ingest.specs.StandsFor.{JoinedStandsFor}

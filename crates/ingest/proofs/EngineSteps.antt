@@ -1,5 +1,5 @@
 -- The engine after a line, after a release and after a settle, and where it stops.
-use Rattle.std.proofs.Common.{◌≡◌, ◌≤◌, ◌<◌, ◌+◌, ◌-◌, ◌^◌, ◌++◌, ◌∙◌, ◌⊎◌, inl, inr, sym, refl, ap, subst, ℕ, Bool, true, false, List, [], ◌∷◌, length, map, arith, append_assoc, append-nil, length-append, Option, None, Some, if◌then◌else◌}
+use Rattle.std.proofs.Common.{◌≡◌, ◌≤◌, ◌<◌, ◌+◌, ◌^◌, ◌++◌, ◌∙◌, ◌⊎◌, inl, inr, sym, refl, ap, subst, ℕ, Bool, true, false, List, [], ◌∷◌, length, map, arith, append_assoc, append-nil, length-append, Option, None, Some, if◌then◌else◌}
 use Rattle.std.specs.Option.{option_to_list}
 use Rattle.std.specs.List.{position_or_len}
 use Rattle.memchr.specs.Find.{is_byte}

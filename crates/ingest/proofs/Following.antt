@@ -1,5 +1,5 @@
 -- One more event is followed.
-use Rattle.std.proofs.Common.{◌≡◌, ◌≤◌, ◌<◌, ◌+◌, ◌*◌, ◌-◌, ◌^◌, ◌++◌, ◌∙◌, sym, refl, ap, subst, ℕ, suc, true, List, [], ◌∷◌, length, map, arith, append-nil, Option, None, Some}
+use Rattle.std.proofs.Common.{◌≡◌, ◌≤◌, ◌+◌, ◌*◌, ◌^◌, ◌++◌, ◌∙◌, sym, refl, ap, subst, ℕ, suc, true, List, [], ◌∷◌, length, map, arith, append-nil, Option, None, Some}
 use Rattle.std.specs.Prelude.{is_some, reverse, OnSome, Result, Err}
 use Rattle.std.specs.List.{flat_map}
 use Rattle.std.proofs.lemmas.List.{map-append}

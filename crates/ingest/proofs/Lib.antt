@@ -7,7 +7,6 @@ pub mod Tallying
 pub mod ReaderSteps
 pub mod Answered
 pub mod Asked
-pub mod Causes
 pub mod Fewer
 pub mod Counted
 pub mod Clocking

@@ -1,5 +1,5 @@
 -- What objects are called, by the tables.
-use Rattle.std.proofs.Common.{◌≡◌, ◌+◌, ◌++◌, ◌∙◌, sym, refl, ap, ℕ, Bool, List, [], ◌∷◌, take, if◌then◌else◌}
+use Rattle.std.proofs.Common.{◌≡◌, ◌+◌, ◌++◌, ◌∙◌, refl, ap, ℕ, Bool, List, [], ◌∷◌, take, if◌then◌else◌}
 use Rattle.std.specs.Prelude.{nat_eq}
 use Rattle.std.specs.List.{list_any}
 use Rattle.std.specs.Cmp.Lexicographic.{pointwise}
@@ -8,13 +8,12 @@ use Rattle.flow_base.specs.declared.types.EntityId.{EntityId}
 use Rattle.flow_base.specs.declared.types.Key.{Key}
 use Rattle.acts.specs.Flows.{acts_of}
 use Rattle.acts.specs.Keys.{all_given, names_of}
-use Rattle.entity_names.specs.Known.{Known, NamesAs, ids_where, names_at}
-use Rattle.flow_events.specs.declared.tables.Tables.{Tables}
+use Rattle.entity_names.specs.Known.{Known, ids_where, names_at}
 use Rattle.flow_events.specs.Standing.{HasLimits}
 use Rattle.name_text.specs.Addresses.{text_of}
 use Rattle.record_join.specs.Events.{Joining}
 use Rattle.record_join.specs.declared.event.Event.{Event}
-use Rattle.ingest.specs.Events.{taken_in, objects_in}
+use Rattle.ingest.specs.Events.{taken_in}
 use Rattle.ingest.specs.Naming.{names_in, has_name, named_in}
 use Rattle.ingest.specs.Parts.{Joined}
 use Rattle.ingest.specs.StandsFor.{JoinedStandsFor}

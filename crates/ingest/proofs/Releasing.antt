@@ -12,7 +12,7 @@ use Rattle.record_join.specs.contracts.event.TakenPartialEq.TheImpl.{ghosts}
 use Rattle.record_join.specs.declared.event.Taken.{Taken}
 use Rattle.record_join.specs.declared.event.Taken.TheVariants.{Held, Closed, Excess}
 use Rattle.record_join.specs.Events.{Joining, enter, saw, close, put, waits, group_of, is_excess, taken_as, ripe_key, event_of, event_at, next_event, next_left}
-use Rattle.record_join.specs.History.{released, left, released_after, left_after}
+use Rattle.record_join.specs.History.{released, released_after, left_after}
 use Rattle.record_join.specs.StandsFor.{Joiner, StandsFor as JoinStandsFor}
 use Rattle.record_join.specs.declared.clock.JoinClock.{JoinClock}
 use Rattle.record_join.specs.declared.event.Event.{Event}

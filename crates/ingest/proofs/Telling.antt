@@ -1,5 +1,5 @@
 -- What joining is told as a history goes on, and the events of it.
-use Rattle.std.proofs.Common.{◌≡◌, ◌+◌, ◌++◌, ◌∙◌, sym, refl, ap, ℕ, List, [], ◌∷◌, length, drop, map, append_assoc, append-nil}
+use Rattle.std.proofs.Common.{◌≡◌, ◌++◌, ◌∙◌, sym, refl, ap, ℕ, List, [], ◌∷◌, length, drop, map, append_assoc, append-nil}
 use Rattle.std.proofs.Math.Seq.{drop-append_seam}
 use Rattle.std.proofs.lemmas.Grind.{flat_map-append}
 use Rattle.flow_base.specs.declared.limits.Limits.{Limits}

@@ -9,6 +9,9 @@ pub mod Stops
 pub mod Following
 pub mod StandsFor
 pub mod Owing
+pub mod GoingOn
+pub mod EngineSteps
+pub mod LineSteps
 pub mod Ending
 pub mod Naming
 pub mod Replies

@@ -1,5 +1,5 @@
 -- What objects are called after some events.
-use Rattle.std.specs.Prelude.{◌≡◌, ℕ, Bool, List, length, take, nat_eq, Some, slice_get}
+use Rattle.std.specs.Prelude.{◌≡◌, ℕ, Bool, List, take, nat_eq, Some, slice_get}
 use Rattle.std.specs.List.{list_any}
 use Rattle.std.specs.Cmp.Lexicographic.{pointwise}
 use Rattle.flow_base.specs.declared.limits.Limits.{Limits}

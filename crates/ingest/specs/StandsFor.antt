@@ -75,7 +75,18 @@ pub record JoinedStandsFor {K : Type 0} (limits : Limits) (joined : Joined K) (s
 
 -- whatever limits and released events the joined parts stand for, this holds of them
 abbrev pub WhereJoined : {K : Type 0} → Joined K → (Limits → List Event → Type 0) → Type 0
-WhereJoined joined P = (limits : Limits) (s : Joining) (released : List Event) → JoinedStandsFor limits joined s released → P limits released
+WhereJoined joined P = (limits : Limits) (s : Joining) (released : List Event)
+    → JoinedStandsFor limits joined s released → P limits released
+
+-- the same of what waits too
+abbrev pub WhereWaiting : {K : Type 0} → Joined K → (Limits → Joining → List Event → Type 0) → Type 0
+WhereWaiting joined P = (limits : Limits) (s : Joining) (released : List Event)
+    → JoinedStandsFor limits joined s released → P limits s released
+
+-- whatever history the reader and the joined parts stand for, this holds of it
+abbrev pub WhereRead : {K : Type 0} → Reader → Joined K → (Limits → History → Type 0) → Type 0
+WhereRead reader joined P = (limits : Limits) (h : History) → ReaderStandsFor limits reader h
+    → JoinedStandsFor limits joined (state_of limits h) (events_of limits h) → P limits h
 
 -- the engine has read the history, joined its records and followed its events, and no limit is passed
 pub record StandsFor {K : Type 0} (limits : Limits) (engine : Engine K) (h : History) : Type 0 where

@@ -1,20 +1,23 @@
 //! The engine.
-ghost use Rattle.std.specs.Prelude.{◌≡◌, ◌≤◌, ◌<◌, ◌+◌, ◌^◌, ◌++◌, ◌⊎◌, ◌∷◌, [], Some, Err, false, length, take, is_some, OnOk, OnErr, IfOk, IfErr};
+ghost use Rattle.std.specs.Prelude.{◌≡◌, ◌≤◌, ◌<◌, ◌+◌, ◌^◌, ◌++◌, ◌⊎◌, ◌∷◌, [], Some, Err, false};
+ghost use Rattle.std.specs.Prelude.{length, take, is_some, OnOk, OnErr, IfOk, IfErr};
 ghost use Rattle.std.specs.List.{position_or_len};
 ghost use Rattle.memchr.specs.Find.{is_byte};
 ghost use Rattle.flow_base.specs.declared.limits.Full.{Full};
 ghost use Rattle.flow_base.specs.declared.limits.Limits.{Limits};
-ghost use Rattle.audit_lex.specs.History.{History, Settle, with_bytes};
+ghost use Rattle.audit_lex.specs.History.{History, Settle};
 ghost use Rattle.record_join.specs.Events.{next_event};
 ghost use Rattle.record_join.specs.StandsFor.{NothingRipe};
 ghost use Rattle.kept_flows.specs.Answering.{NeverFail};
 ghost use Rattle.ingest.specs.Ending.{EndsLast};
 ghost use Rattle.ingest.specs.Events.{events_of};
 ghost use Rattle.ingest.specs.Asking.{AskHasCauses, SameButRows, StandsStill};
-ghost use Rattle.ingest.specs.Owing.{MayOwe, Halts, SettleHalts};
+ghost use Rattle.ingest.specs.EngineSteps.{Takes, CatchesUp, OwesAfter, SettlesTo, SettlesUp};
+ghost use Rattle.ingest.specs.EngineSteps.{StopsIn, HaltsIn, HaltsOwing};
+ghost use Rattle.ingest.specs.Owing.{MayOwe, SettleHalts};
 ghost use Rattle.ingest.specs.Replies.{IsQuestion, IsReply};
 ghost use Rattle.ingest.specs.StandsFor.{StandsFor, HasNoTail};
-ghost use Rattle.ingest.specs.Stops.{Fits, Stops, StopsFor};
+ghost use Rattle.ingest.specs.Stops.{Fits, Stops};
 ghost use Rattle.ingest.specs.declared.ask_fault.AskFault.TheVariants as fault;
 ghost use Rattle.ingest.specs.declared.stop.StopWhy.TheVariants as why;
 
@@ -72,11 +75,12 @@ impl<R: Reducer, K: Keep> Ingest<R, K> {
     /// Releases what is owed, and then takes a piece of the log. It stops at the first event that passes a limit, and at
     /// a byte past the limit of bytes once those before it are taken.
     pub fn feed(&mut self, piece: &[u8]) -> Result<(), Stop>
-        ensures ok { OnOk result ((limits : Limits) (h : History) → StandsFor limits self.old h → StandsFor limits self.new (with_bytes h piece.now)) }
-        ensures again { OnOk result ((limits : Limits) (h : History) → MayOwe limits self.old h → StandsFor limits self.new (with_bytes h piece.now)) }
-        ensures stop { IfErr result (λ stop. (limits : Limits) (h : History) → StandsFor limits self.old h → StopsFor limits h piece.now stop) }
-        ensures halts { IfErr result (λ stop. (limits : Limits) (h : History) → MayOwe limits self.old h → Halts limits self.new h piece.now stop) }
-        ensures owed_first { IfErr result (λ stop. (limits : Limits) (h : History) → MayOwe limits self.old h → 0 < stop.done → Fits limits h) }
+        ensures ok { OnOk result (Takes piece.now self.old self.new) }
+        ensures again { OnOk result (CatchesUp piece.now self.old self.new) }
+        ensures stop { IfErr result (StopsIn piece.now self.old) }
+        ensures halts { IfErr result (HaltsOwing piece.now self.old self.new) }
+        ensures owed_first { IfErr result (λ stop. (limits : Limits) (h : History)
+            → MayOwe limits self.old h → 0 < stop.done → Fits limits h) }
     {
         match self.joined.release() {
             Ok(()) => self.feed_bounded(piece),
@@ -86,9 +90,11 @@ impl<R: Reducer, K: Keep> Ingest<R, K> {
 
     /// Releases what is owed, then ends the last line, where it has a byte, and releases all that waits.
     pub fn settle(&mut self) -> Result<(), StopWhy>
-        ensures ok { OnOk result ((limits : Limits) (h : History) → StandsFor limits self.old h → StandsFor limits self.new (h ++ Settle ∷ [])) }
-        ensures again { OnOk result ((limits : Limits) (h : History) → MayOwe limits self.old h → StandsFor limits self.new (h ++ Settle ∷ [])) }
-        ensures full { (full : Full) → result ≡ Err (why.Full full) → (limits : Limits) (h : History) → StandsFor limits self.old h → Stops limits (h ++ Settle ∷ []) full }
+        ensures ok { OnOk result (SettlesTo self.old self.new) }
+        ensures again { OnOk result (SettlesUp self.old self.new) }
+        ensures full { (full : Full) → result ≡ Err (why.Full full)
+            → (limits : Limits) (h : History) → StandsFor limits self.old h
+            → Stops limits (h ++ Settle ∷ []) full }
         ensures halts { IfErr result (SettleHalts self.old self.new) }
     {
         match self.joined.release() {
@@ -105,8 +111,10 @@ impl<R: Reducer, K: Keep> Ingest<R, K> {
 
     /// How many events were released and followed so far.
     pub fn events(&self) -> u64
-        ensures all { (limits : Limits) (h : History) → StandsFor limits self.now h → result ≡ length (events_of limits h) }
-        ensures done { (limits : Limits) (h : History) (w : MayOwe limits self.now h) → result ≡ length w.done }
+        ensures all { (limits : Limits) (h : History) → StandsFor limits self.now h
+            → result ≡ length (events_of limits h) }
+        ensures done { (limits : Limits) (h : History) (w : MayOwe limits self.now h)
+            → result ≡ length w.done }
     {
         let _ = &self.reader;
         self.joined.counts().events
@@ -114,8 +122,10 @@ impl<R: Reducer, K: Keep> Ingest<R, K> {
 
     /// Whether an event that is ripe was left for a later call.
     pub fn owed(&self) -> bool
-        ensures ripe { (limits : Limits) (h : History) (w : MayOwe limits self.now h) → result ≡ is_some (next_event limits w.rest) }
-        ensures nothing { result ≡ false → (limits : Limits) (h : History) → MayOwe limits self.now h → StandsFor limits self.now h }
+        ensures ripe { (limits : Limits) (h : History) (w : MayOwe limits self.now h)
+            → result ≡ is_some (next_event limits w.rest) }
+        ensures nothing { result ≡ false → (limits : Limits) (h : History)
+            → MayOwe limits self.now h → StandsFor limits self.now h }
     {
         let _ = &self.reader;
         self.joined.ripe()
@@ -128,7 +138,8 @@ impl<R: Reducer, K: Keep> Ingest<R, K> {
     /// is returned, the engine stands for the same history as before.
     pub fn ask(&mut self, ask: &Ask) -> Result<Reply, AskFault>
         requires asks { IsQuestion ask.now }
-        ensures reply { IfOk result (λ reply. (limits : Limits) (h : History) → StandsFor limits self.old h → IsReply R.mode limits h ask.now reply) }
+        ensures reply { IfOk result (λ reply. (limits : Limits) (h : History)
+            → StandsFor limits self.old h → IsReply R.mode limits h ask.now reply) }
         ensures cause { AskHasCauses K.faults K.spent self.old self.new result }
         ensures never { NeverFail K.faults K.spent → IfErr result (λ why. why ≡ fault.NoMemory) }
         ensures stands { StandsStill self.old self.new }
@@ -147,9 +158,9 @@ impl<R: Reducer, K: Keep> Ingest<R, K> {
     // Takes a piece, of which some bytes may be too many.
     fn feed_bounded(&mut self, piece: &[u8]) -> Result<(), Stop>
         requires quiet { NothingRipe self.old.joined.join }
-        ensures ok { OnOk result ((limits : Limits) (h : History) → StandsFor limits self.old h → StandsFor limits self.new (with_bytes h piece.now)) }
-        ensures stop { IfErr result (λ stop. (limits : Limits) (h : History) → StandsFor limits self.old h → StopsFor limits h piece.now stop) }
-        ensures halts { IfErr result (λ stop. (limits : Limits) (h : History) → StandsFor limits self.old h → Halts limits self.new h piece.now stop) }
+        ensures ok { OnOk result (Takes piece.now self.old self.new) }
+        ensures stop { IfErr result (StopsIn piece.now self.old) }
+        ensures halts { IfErr result (HaltsIn piece.now self.old self.new) }
     {
         let room = self.reader.most() - self.reader.bytes();
         if piece.len() as u64 <= room {
@@ -173,9 +184,9 @@ impl<R: Reducer, K: Keep> Ingest<R, K> {
         requires quiet { NothingRipe self.old.joined.join }
         requires room { self.old.reader.bytes + length piece.now ≤ self.old.reader.limits.input }
         ensures limits { OnOk result (self.new.reader.limits ≡ self.old.reader.limits) }
-        ensures ok { OnOk result ((limits : Limits) (h : History) → StandsFor limits self.old h → StandsFor limits self.new (with_bytes h piece.now)) }
-        ensures stop { IfErr result (λ stop. (limits : Limits) (h : History) → StandsFor limits self.old h → StopsFor limits h piece.now stop) }
-        ensures halts { IfErr result (λ stop. (limits : Limits) (h : History) → StandsFor limits self.old h → Halts limits self.new h piece.now stop) }
+        ensures ok { OnOk result (Takes piece.now self.old self.new) }
+        ensures stop { IfErr result (StopsIn piece.now self.old) }
+        ensures halts { IfErr result (HaltsIn piece.now self.old self.new) }
     {
         let mut done = 0;
         while done < piece.len() {
@@ -199,9 +210,9 @@ impl<R: Reducer, K: Keep> Ingest<R, K> {
         ensures short { IfErr result (λ stop. stop.done ≤ length piece.now) }
         ensures bytes { IfOk result (λ n. self.new.reader.bytes ≡ self.old.reader.bytes + n) }
         ensures limits { self.new.reader.limits ≡ self.old.reader.limits }
-        ensures ok { IfOk result (λ n. (limits : Limits) (h : History) → StandsFor limits self.old h → StandsFor limits self.new (with_bytes h (take n piece.now))) }
-        ensures stop { IfErr result (λ stop. (limits : Limits) (h : History) → StandsFor limits self.old h → StopsFor limits h piece.now stop) }
-        ensures halts { IfErr result (λ stop. (limits : Limits) (h : History) → StandsFor limits self.old h → Halts limits self.new h piece.now stop) }
+        ensures ok { IfOk result (λ n. Takes (take n piece.now) self.old self.new) }
+        ensures stop { IfErr result (StopsIn piece.now self.old) }
+        ensures halts { IfErr result (HaltsIn piece.now self.old self.new) }
     {
         let end = end_of_line(piece);
         if end == piece.len() || !self.reader.is_between_lines() {
@@ -224,8 +235,9 @@ impl<R: Reducer, K: Keep> Ingest<R, K> {
         requires no_feed { position_or_len (is_byte 10) part.now ≡ length part.now }
         ensures joined { self.new.joined ≡ self.old.joined }
         ensures limits { self.new.reader.limits ≡ self.old.reader.limits }
-        ensures bytes { OnOk result (self.new.reader.bytes ≡ self.old.reader.bytes + length part.now) }
-        ensures ok { OnOk result ((limits : Limits) (h : History) → StandsFor limits self.old h → StandsFor limits self.new (with_bytes h part.now)) }
+        ensures bytes { OnOk result
+            (self.new.reader.bytes ≡ self.old.reader.bytes + length part.now) }
+        ensures ok { OnOk result (Takes part.now self.old self.new) }
         ensures none { IfErr result (λ stop. stop ≡ record { done = 0; why = why.NoMemory }) }
         ensures err { OnErr result (self.new ≡ self.old) }
     {
@@ -241,16 +253,18 @@ impl<R: Reducer, K: Keep> Ingest<R, K> {
     // Ends a line with these bytes and a line feed, and releases what is ripe then.
     fn end_line(&mut self, part: &[u8]) -> Result<(), Stop>
         requires quiet { NothingRipe self.old.joined.join }
-        requires room { self.old.reader.bytes + (length part.now + 1) ≤ self.old.reader.limits.input }
+        requires room { self.old.reader.bytes + (length part.now + 1)
+            ≤ self.old.reader.limits.input }
         requires no_feed { position_or_len (is_byte 10) part.now ≡ length part.now }
         requires whole { HasNoTail self.old.reader ⊎ (part.now ≡ []) }
         ensures quiet { OnOk result (NothingRipe self.new.joined.join) }
         ensures limits { self.new.reader.limits ≡ self.old.reader.limits }
         ensures short { IfErr result (λ stop. stop.done ≤ length part.now + 1) }
-        ensures bytes { OnOk result (self.new.reader.bytes ≡ self.old.reader.bytes + (length part.now + 1)) }
-        ensures ok { OnOk result ((limits : Limits) (h : History) → StandsFor limits self.old h → StandsFor limits self.new (with_bytes h (part.now ++ 10 ∷ []))) }
-        ensures stop { IfErr result (λ stop. (limits : Limits) (h : History) → StandsFor limits self.old h → StopsFor limits h (part.now ++ 10 ∷ []) stop) }
-        ensures halts { IfErr result (λ stop. (limits : Limits) (h : History) → StandsFor limits self.old h → Halts limits self.new h (part.now ++ 10 ∷ []) stop) }
+        ensures bytes { OnOk result
+            (self.new.reader.bytes ≡ self.old.reader.bytes + (length part.now + 1)) }
+        ensures ok { OnOk result (Takes (part.now ++ 10 ∷ []) self.old self.new) }
+        ensures stop { IfErr result (StopsIn (part.now ++ 10 ∷ []) self.old) }
+        ensures halts { IfErr result (HaltsIn (part.now ++ 10 ∷ []) self.old self.new) }
     {
         match self.join_line(part) {
             Ok(()) => {}
@@ -274,12 +288,14 @@ impl<R: Reducer, K: Keep> Ingest<R, K> {
     // has changed.
     fn join_line(&mut self, part: &[u8]) -> Result<(), NoMemory>
         requires quiet { NothingRipe self.old.joined.join }
-        requires room { self.old.reader.bytes + (length part.now + 1) ≤ self.old.reader.limits.input }
+        requires room { self.old.reader.bytes + (length part.now + 1)
+            ≤ self.old.reader.limits.input }
         requires no_feed { position_or_len (is_byte 10) part.now ≡ length part.now }
         requires whole { HasNoTail self.old.reader ⊎ (part.now ≡ []) }
         ensures limits { self.new.reader.limits ≡ self.old.reader.limits }
-        ensures bytes { OnOk result (self.new.reader.bytes ≡ self.old.reader.bytes + (length part.now + 1)) }
-        ensures ok { OnOk result ((limits : Limits) (h : History) → StandsFor limits self.old h → MayOwe limits self.new (with_bytes h (part.now ++ 10 ∷ []))) }
+        ensures bytes { OnOk result
+            (self.new.reader.bytes ≡ self.old.reader.bytes + (length part.now + 1)) }
+        ensures ok { OnOk result (OwesAfter (part.now ++ 10 ∷ []) self.old self.new) }
         ensures err { OnErr result (self.new ≡ self.old) }
     {
         match self.reader.read(part)? {
@@ -296,7 +312,8 @@ impl<R: Reducer, K: Keep> Ingest<R, K> {
     // changed.
     fn end_last(&mut self) -> Result<(), NoMemory>
         requires quiet { NothingRipe self.old.joined.join }
-        ensures ok { OnOk result ((limits : Limits) (h : History) → StandsFor limits self.old h → EndsLast limits self.new h) }
+        ensures ok { OnOk result ((limits : Limits) (h : History)
+            → StandsFor limits self.old h → EndsLast limits self.new h) }
         ensures err { OnErr result (self.new ≡ self.old) }
         ensures begun { OnErr result (¬ HasNoTail self.old.reader) }
     {

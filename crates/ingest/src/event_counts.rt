@@ -26,7 +26,8 @@ impl EventCounts {
 
     /// Counts one more event.
     pub fn count(&mut self, late: bool, unmapped: bool)
-        ensures { (released : List Event) (event : Event) → self.old ≡ counts_in released → length released < 2 ^ 62 → late ≡ event.late → unmapped ≡ is_unmapped event
+        ensures { (released : List Event) (event : Event) → self.old ≡ counts_in released
+            → length released < 2 ^ 62 → late ≡ event.late → unmapped ≡ is_unmapped event
             → self.new ≡ counts_in (released ++ event ∷ []) }
     {
         // No log has so many events that a sum would end here.

@@ -2,31 +2,29 @@
 //!
 //! An event that is ripe is prepared by the tables, with all the memory for it. Then its flows are taken in, and last the
 //! tables follow it, which can't fail: so an event that is refused has changed nothing, and stays in the joiner.
-ghost use Rattle.std.specs.Prelude.{◌≡◌, ◌≤◌, ◌<◌, ◌+◌, ◌*◌, ◌^◌, ◌++◌, ◌∷◌, [], suc, List, None, Some, Err, true, length, is_some, OnOk, IfOk, OnErr, IfErr, slice_get};
+ghost use Rattle.std.specs.Prelude.{◌≡◌, ◌≤◌, ◌<◌, ◌+◌, ◌*◌, ◌^◌, [], suc, List, None, Some, Err, true};
+ghost use Rattle.std.specs.Prelude.{length, is_some, OnOk, IfOk, OnErr, IfErr, slice_get};
 ghost use Rattle.flow_base.specs.declared.limits.Full.{Full};
-ghost use Rattle.flow_base.specs.declared.limits.Limits.{Limits};
-ghost use Rattle.record_join.specs.Events.{Joining, enter, settled, count_keys, ripe_key, next_event, next_left};
-ghost use Rattle.record_join.specs.History.{start, released_after, left_after};
+ghost use Rattle.record_join.specs.Events.{count_keys, ripe_key, next_event};
+ghost use Rattle.record_join.specs.History.{start};
 ghost use Rattle.record_join.specs.StandsFor.{NothingRipe, WhereStands, event_seen};
-ghost use Rattle.record_join.specs.declared.event.Event.{Event as TheEvent};
 ghost use Rattle.reach_rows.specs.Asked.{subject};
 ghost use Rattle.acts.specs.declared.act.Taken.{Taken};
-ghost use Rattle.acts.specs.Flows.{flows as flows_by};
-ghost use Rattle.acts.specs.LookBack.{full_at};
-ghost use Rattle.name_text.specs.Addresses.{text_of};
-ghost use Rattle.flow_events.specs.Standing.{HasLimits, IsReady, IsPlanOf};
+ghost use Rattle.flow_events.specs.Standing.{HasLimits, IsReady};
 ghost use Rattle.query_walk.specs.declared.fault.WalkFault.TheVariants as walk;
 ghost use Rattle.kept_flows.specs.Answering.{AnswersFor, NeverFail, ShowsFor};
-ghost use Rattle.kept_flows.specs.KeptFlows.{StandsFor as KeptStandsFor};
 ghost use Rattle.ingest.specs.Asking.{WalkHasCauses};
 ghost use Rattle.ingest.specs.Bounds.{IsFew, IsBounded, StaysFew, OneMore};
 ghost use Rattle.ingest.specs.EventActs.{is_unmapped};
 ghost use Rattle.ingest.specs.Events.{flows_in, objects_in};
-ghost use Rattle.ingest.specs.Following.{HasTaken, MayComeAt, turned_by};
+ghost use Rattle.ingest.specs.Following.{HasTaken, MayComeAt, KeepTaken, KeptWith};
+ghost use Rattle.ingest.specs.Following.{IsPlanFor, IsFullWith};
+ghost use Rattle.ingest.specs.GoingOn.{EntersOne, ClosesAll, ReleasesAll, ReleasesNext};
+ghost use Rattle.ingest.specs.GoingOn.{OwesRest, StaysJoined};
 ghost use Rattle.ingest.specs.Naming.{named_in, names_in};
-ghost use Rattle.ingest.specs.Owing.{IsOwed, NextPasses};
+ghost use Rattle.ingest.specs.Owing.{NextPasses};
 ghost use Rattle.ingest.specs.Replies.{KeepsSoMany};
-ghost use Rattle.ingest.specs.StandsFor.{JoinedStandsFor, WhereJoined};
+ghost use Rattle.ingest.specs.StandsFor.{JoinedStandsFor, WhereJoined, WhereWaiting};
 ghost use Rattle.ingest.specs.declared.stop.StopWhy.TheVariants as why;
 ghost use Rattle.flow_events.specs.declared.fault.PrepareFault.TheVariants as fault;
 
@@ -63,7 +61,15 @@ impl<R: Reducer, K: Keep> Model for EventFlows<R, K> {
 
     ghost Value = { Joined K };
 
-    ghost view = { λ a. record { limits = a.tables.limits; join = a.join; tables = a.tables; kept = a.kept.kept; keep = a.kept.keep; counts = a.counts; excess = a.excess } };
+    ghost view = { λ a. record {
+      limits = a.tables.limits;
+      join = a.join;
+      tables = a.tables;
+      kept = a.kept.kept;
+      keep = a.kept.keep;
+      counts = a.counts;
+      excess = a.excess;
+    } };
 
     ghost invariant = { λ a. IsInTime a.tables.limits a.join a.tables a.kept.kept };
 }
@@ -92,8 +98,7 @@ impl<R: Reducer, K: Keep> EventFlows<R, K> {
     /// Gives a record to the joiner. Where no memory is found nothing has changed.
     pub fn enter(&mut self, item: Record) -> Result<(), NoMemory>
         requires quiet { NothingRipe self.old.join }
-        ensures ok { OnOk result ((limits : Limits) (s : Joining) (released : List TheEvent) → JoinedStandsFor limits self.old s released → s.excess < 2 ^ 61
-            → JoinedStandsFor limits self.new (enter limits s item) released) }
+        ensures ok { OnOk result (EntersOne item self.old self.new) }
         ensures few { OnOk result (OneMore self.old self.new) }
         ensures err { OnErr result (self.new ≡ self.old) }
     {
@@ -106,7 +111,7 @@ impl<R: Reducer, K: Keep> EventFlows<R, K> {
 
     /// Closes all that waits.
     pub fn close(&mut self)
-        ensures closed { (limits : Limits) (s : Joining) (released : List TheEvent) → JoinedStandsFor limits self.old s released → JoinedStandsFor limits self.new (settled s) released }
+        ensures closed { ClosesAll self.old self.new }
         ensures few { StaysFew self.old self.new }
     {
         self.join.settle();
@@ -118,10 +123,8 @@ impl<R: Reducer, K: Keep> EventFlows<R, K> {
         requires few { IsBounded self.old }
         ensures quiet { OnOk result (NothingRipe self.new.join) }
         ensures few { StaysFew self.old self.new }
-        ensures ok { OnOk result ((limits : Limits) (s : Joining) (released : List TheEvent) → JoinedStandsFor limits self.old s released → length released + length s.waiting ≤ 2 ^ 61
-            → JoinedStandsFor limits self.new (left_after limits s) (released ++ released_after limits s)) }
-        ensures owed { IfErr result (λ cause. (limits : Limits) (s : Joining) (released : List TheEvent) → JoinedStandsFor limits self.old s released → length released + length s.waiting ≤ 2 ^ 61
-            → IsOwed limits self.new s released cause) }
+        ensures ok { OnOk result (ReleasesAll self.old self.new) }
+        ensures owed { IfErr result (OwesRest self.old self.new) }
     {
         while self.join.ripe() {
             match self.follow() {
@@ -134,7 +137,8 @@ impl<R: Reducer, K: Keep> EventFlows<R, K> {
 
     /// Whether an event is ripe.
     pub fn ripe(&self) -> bool
-        ensures { (limits : Limits) (s : Joining) (released : List TheEvent) → JoinedStandsFor limits self.now s released → result ≡ is_some (next_event limits s) }
+        ensures { WhereWaiting self.now (λ limits s released.
+            result ≡ is_some (next_event limits s)) }
     {
         let _ = &self.tables;
         self.join.ripe()
@@ -156,7 +160,7 @@ impl<R: Reducer, K: Keep> EventFlows<R, K> {
 
     /// How many events wait.
     pub fn waiting(&self) -> u64
-        ensures { (limits : Limits) (s : Joining) (released : List TheEvent) → JoinedStandsFor limits self.now s released → result ≡ count_keys s.waiting }
+        ensures { WhereWaiting self.now (λ limits s released. result ≡ count_keys s.waiting) }
     {
         let _ = &self.tables;
         self.join.waiting() as u64
@@ -172,7 +176,7 @@ impl<R: Reducer, K: Keep> EventFlows<R, K> {
 
     /// How many flows there were.
     pub fn flows(&self) -> u64
-        ensures { (limits : Limits) (s : Joining) (released : List TheEvent) → JoinedStandsFor limits self.now s released → result ≡ length (flows_in limits released) }
+        ensures { WhereJoined self.now (λ limits events. result ≡ length (flows_in limits events)) }
     {
         let _ = &self.join;
         self.tables.flows()
@@ -188,7 +192,8 @@ impl<R: Reducer, K: Keep> EventFlows<R, K> {
 
     /// How many rows are kept of the flows.
     pub fn kept(&self) -> u64
-        ensures { (limits : Limits) (s : Joining) (released : List TheEvent) → JoinedStandsFor limits self.now s released → KeepsSoMany R.mode (flows_in limits released) result }
+        ensures { WhereJoined self.now (λ limits events.
+            KeepsSoMany R.mode (flows_in limits events) result) }
     {
         let _ = self.kept.mode();
         self.kept.count()
@@ -198,7 +203,8 @@ impl<R: Reducer, K: Keep> EventFlows<R, K> {
     /// the rows, which stay those of the same flows.
     pub fn ask(&mut self, question: &Question) -> Result<Option<List<EntityId>>, WalkFault>
         requires known { subject question.now < length self.old.tables.entities.keys }
-        ensures exact { IfOk result (λ found. (limits : Limits) (s : Joining) (released : List TheEvent) → JoinedStandsFor limits self.old s released → AnswersFor R.mode (flows_in limits released) question.now found) }
+        ensures exact { IfOk result (λ found. WhereJoined self.old (λ limits events.
+            AnswersFor R.mode (flows_in limits events) question.now found)) }
         ensures cause { WalkHasCauses K.faults K.spent self.old self.new result }
         ensures never { NeverFail K.faults K.spent → IfErr result (λ why. why ≡ walk.NoMemory) }
         ensures same { self.new ≡ record self.old { keep = self.new.keep } }
@@ -248,7 +254,8 @@ impl<R: Reducer, K: Keep> EventFlows<R, K> {
 
     /// The names of a key, in the order in which they were first given.
     pub fn names(&self, key: &Key) -> &[Bytes]
-        ensures { WhereJoined self.now (λ limits events. result.now ≡ names_in limits events key.now) }
+        ensures { WhereJoined self.now (λ limits events.
+            result.now ≡ names_in limits events key.now) }
     {
         let _ = &self.join;
         match self.tables.entities().names(key) {
@@ -260,13 +267,14 @@ impl<R: Reducer, K: Keep> EventFlows<R, K> {
     // Follows the event that is released next. Where it is refused nothing has changed.
     fn follow(&mut self) -> Result<(), StopWhy>
         requires few { IsBounded self.old }
-        requires ripe { WhereStands self.old.join (λ limits s. is_some (ripe_key limits s) ≡ true) }
-        ensures next { OnOk result ((limits : Limits) (s : Joining) (released : List TheEvent) (event : TheEvent) → JoinedStandsFor limits self.old s released → length released < 2 ^ 62 → next_event limits s ≡ Some event
-            → JoinedStandsFor limits self.new (next_left limits s) (released ++ event ∷ [])) }
+        requires ripe { WhereStands self.old.join (λ limits s.
+            is_some (ripe_key limits s) ≡ true) }
+        ensures next { OnOk result (ReleasesNext self.old self.new) }
         ensures less { OnOk result (length self.old.join.groups ≡ suc (length self.new.join.groups)) }
         ensures few { StaysFew self.old self.new }
-        ensures refused { OnErr result ((limits : Limits) (s : Joining) (released : List TheEvent) → JoinedStandsFor limits self.old s released → JoinedStandsFor limits self.new s released) }
-        ensures full { (full : Full) → result ≡ Err (why.Full full) → (limits : Limits) (s : Joining) (released : List TheEvent) → JoinedStandsFor limits self.old s released → NextPasses limits s released full }
+        ensures refused { OnErr result (StaysJoined self.old self.new) }
+        ensures full { (full : Full) → result ≡ Err (why.Full full)
+            → WhereWaiting self.old (λ limits s released. NextPasses limits s released full) }
     {
         acts_are_few();
         event_acts_are_admitted();
@@ -296,15 +304,17 @@ fn take_event<R: Reducer, K: Keep>(
     requires taken { (taken : List Taken) × MayComeAt event.now.ms tables.old kept.old.kept taken }
     requires limits { HasLimits tables.old.limits tables.old }
     requires few { tables.old.acts + 2 * length event.now.records.now ≤ 6 * 2 ^ 60 }
-    ensures same { (taken : List Taken) → HasTaken tables.old taken → HasTaken tables.new taken }
+    ensures same { KeepTaken tables.old tables.new }
     ensures limits { HasLimits tables.old.limits tables.new }
-    ensures kept { IfOk result (λ plan. (taken : List Taken) → MayComeAt event.now.ms tables.old kept.old.kept taken → KeptStandsFor kept.new.kept (flows_by (turned_by tables.old.limits (event_seen event.now) ++ taken))) }
+    ensures kept { IfOk result (λ plan.
+        KeptWith tables.old (event_seen event.now) kept.old.kept kept.new.kept) }
     ensures refused { OnErr result (kept.new.kept ≡ kept.old.kept) }
     ensures ready { IfOk result (λ plan. IsReady tables.new plan) }
     ensures unmapped { IfOk result (λ plan. plan.unmapped ≡ is_unmapped (event_seen event.now)) }
-    ensures plan { IfOk result (λ plan. (taken : List Taken) → HasTaken tables.old taken → IsPlanOf text_of plan taken (turned_by tables.old.limits (event_seen event.now))) }
-    ensures fits { IfOk result (λ plan. (taken : List Taken) → HasTaken tables.old taken → full_at tables.old.limits.entities tables.old.limits.flows (turned_by tables.old.limits (event_seen event.now) ++ taken) ≡ None) }
-    ensures full { (full : Full) → result ≡ Err (why.Full full) → (taken : List Taken) → HasTaken tables.old taken → full_at tables.old.limits.entities tables.old.limits.flows (turned_by tables.old.limits (event_seen event.now) ++ taken) ≡ Some full }
+    ensures plan { IfOk result (IsPlanFor tables.old (event_seen event.now)) }
+    ensures fits { IfOk result (λ plan. IsFullWith tables.old (event_seen event.now) None) }
+    ensures full { (full : Full) → result ≡ Err (why.Full full)
+        → IsFullWith tables.old (event_seen event.now) (Some full) }
 {
     flows_of_acts_are_lawful();
     let plan = match plan_event(alloc, tables, event) {
@@ -322,13 +332,14 @@ fn plan_event(alloc: Global, tables: &mut Tables, event: &EventView<'_>) -> Resu
     requires taken { (taken : List Taken) × HasTaken tables.old taken }
     requires limits { HasLimits tables.old.limits tables.old }
     requires few { tables.old.acts + 2 * length event.now.records.now ≤ 6 * 2 ^ 60 }
-    ensures same { (taken : List Taken) → HasTaken tables.old taken → HasTaken tables.new taken }
+    ensures same { KeepTaken tables.old tables.new }
     ensures limits { HasLimits tables.old.limits tables.new }
     ensures ready { IfOk result (λ plan. IsReady tables.new plan) }
     ensures unmapped { IfOk result (λ plan. plan.unmapped ≡ is_unmapped (event_seen event.now)) }
-    ensures plan { IfOk result (λ plan. (taken : List Taken) → HasTaken tables.old taken → IsPlanOf text_of plan taken (turned_by tables.old.limits (event_seen event.now))) }
-    ensures fits { IfOk result (λ plan. (taken : List Taken) → HasTaken tables.old taken → full_at tables.old.limits.entities tables.old.limits.flows (turned_by tables.old.limits (event_seen event.now) ++ taken) ≡ None) }
-    ensures full { (full : Full) → result ≡ Err (why.Full full) → (taken : List Taken) → HasTaken tables.old taken → full_at tables.old.limits.entities tables.old.limits.flows (turned_by tables.old.limits (event_seen event.now) ++ taken) ≡ Some full }
+    ensures plan { IfOk result (IsPlanFor tables.old (event_seen event.now)) }
+    ensures fits { IfOk result (λ plan. IsFullWith tables.old (event_seen event.now) None) }
+    ensures full { (full : Full) → result ≡ Err (why.Full full)
+        → IsFullWith tables.old (event_seen event.now) (Some full) }
 {
     acts_are_few();
     match tables.prepare(alloc, event) {

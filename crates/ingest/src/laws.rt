@@ -16,30 +16,36 @@ use reach_rows::Keep;
 
 /// What has stopped stays stopped at that limit, whatever comes later.
 pub fn stops_stay()
-    ensures { (limits : Limits) (h more : History) (full : Full) → Stops limits h full → Stops limits (h ++ more) full }
+    ensures { (limits : Limits) (h more : History) (full : Full)
+        → Stops limits h full → Stops limits (h ++ more) full }
 {}
 
 /// No limit stops a history that passes none.
 pub fn what_fits_never_stops()
-    ensures { (limits : Limits) (h : History) (full : Full) → Fits limits h → Stops limits h full → ⊥ }
+    ensures { (limits : Limits) (h : History) (full : Full)
+        → Fits limits h → Stops limits h full → ⊥ }
 {}
 
 /// A history that passes no limit passed none before.
 pub fn fronts_fit()
-    ensures { (limits : Limits) (front back : History) → Fits limits (front ++ back) → Fits limits front }
+    ensures { (limits : Limits) (front back : History)
+        → Fits limits (front ++ back) → Fits limits front }
 {}
 
 /// The record of a line is the one that it spells, where it isn't too long.
 pub fn lines_spell_records()
-    ensures { (limit : ℕ) (line : List ℕ) (made : Record) → (record_of limit line ≡ Some made) ↔ ((length line ≤ limit) × Spells line made) }
+    ensures { (limit : ℕ) (line : List ℕ) (made : Record)
+        → (record_of limit line ≡ Some made) ↔ ((length line ≤ limit) × Spells line made) }
 {}
 
 /// An engine that stands for a history owes nothing of it.
 pub fn what_stands_owes_nothing<K: Keep>()
-    ensures { (limits : Limits) (engine : Engine K) (h : History) → StandsFor limits engine h → (w : MayOwe limits engine h) × (next_event limits w.rest ≡ None) }
+    ensures { (limits : Limits) (engine : Engine K) (h : History) → StandsFor limits engine h
+        → (w : MayOwe limits engine h) × (next_event limits w.rest ≡ None) }
 {}
 
 /// An engine that owes nothing of a history stands for it.
 pub fn what_owes_nothing_stands<K: Keep>()
-    ensures { (limits : Limits) (engine : Engine K) (h : History) (w : MayOwe limits engine h) → next_event limits w.rest ≡ None → StandsFor limits engine h }
+    ensures { (limits : Limits) (engine : Engine K) (h : History) (w : MayOwe limits engine h)
+        → next_event limits w.rest ≡ None → StandsFor limits engine h }
 {}

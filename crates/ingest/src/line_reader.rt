@@ -1,18 +1,20 @@
 //! The lines of a log: cut, counted and read.
 //!
 //! A line that came whole is read where it stands. Only a line that began in an earlier piece is held.
-ghost use Rattle.std.specs.Prelude.{◌≡◌, ◌≤◌, ◌<◌, ◌+◌, ◌⊎◌, ◌^◌, ◌++◌, ◌∷◌, [], None, Some, Ok, true, false, length, IfOk, OnOk, OnErr};
+ghost use Rattle.std.specs.Prelude.{◌≡◌, ◌≤◌, ◌<◌, ◌+◌, ◌⊎◌, ◌^◌, ◌++◌, [], None, Ok, true, false};
+ghost use Rattle.std.specs.Prelude.{length, IfOk, OnOk, OnErr};
 ghost use Rattle.std.specs.List.{position_or_len};
 ghost use Rattle.memchr.specs.Find.{is_byte};
 ghost use Rattle.flow_base.specs.declared.limits.Limits.{Limits};
-ghost use Rattle.audit_record.specs.declared.types.Record.{Record as TheRecord};
-ghost use Rattle.audit_lex.specs.History.{History, Settle, with_bytes, lines_of, tail_of};
+ghost use Rattle.audit_lex.specs.History.{History, tail_of};
 ghost use Rattle.audit_lex.specs.Lexing.{class_seen};
 ghost use Rattle.audit_lex.specs.LineClass.{class_of};
 ghost use Rattle.audit_lex.specs.LineCut.{StandsFor as CutStandsFor};
 ghost use Rattle.ingest.specs.Bounds.{EndsLine, KeepsLines};
-ghost use Rattle.ingest.specs.Counting.{tally_of_lines, total};
+ghost use Rattle.ingest.specs.Counting.{total};
 ghost use Rattle.ingest.specs.LineRecords.{record_of};
+ghost use Rattle.ingest.specs.LineSteps.{HoldsMore, EndsUsed, EndsOther, SettlesUsed, SettlesOther};
+ghost use Rattle.ingest.specs.LineSteps.{CountsOne};
 ghost use Rattle.ingest.specs.StandsFor.{ReaderStandsFor, HasNoTail};
 
 use audit_lex::{Lexed, LineCut, LineFault, Tally, lex};
@@ -38,7 +40,12 @@ impl Model for LineReader {
 
     ghost Value = { Reader };
 
-    ghost view = { λ a. record { limits = a.limits; cut = a.cut; tally = a.tally; bytes = a.bytes } };
+    ghost view = { λ a. record {
+      limits = a.limits;
+      cut = a.cut;
+      tally = a.tally;
+      bytes = a.bytes;
+    } };
 
     ghost invariant = { λ a. IsWithin a.limits a.cut a.tally a.bytes };
 }
@@ -102,7 +109,7 @@ impl LineReader {
         ensures limits { self.new.limits ≡ self.old.limits }
         ensures bytes { OnOk result (self.new.bytes ≡ self.old.bytes + length part.now) }
         ensures lines { OnOk result (KeepsLines self.old self.new) }
-        ensures stands { OnOk result ((limits : Limits) (h : History) → ReaderStandsFor limits self.old h → ReaderStandsFor limits self.new (with_bytes h part.now)) }
+        ensures stands { OnOk result (HoldsMore part.now self.old self.new) }
         ensures err { OnErr result (self.new ≡ self.old) }
     {
         let (count, _) = self.cut.next(part)?;
@@ -114,7 +121,9 @@ impl LineReader {
     pub fn read(&self, part: &[u8]) -> Result<Option<Record>, NoMemory>
         requires no_feed { position_or_len (is_byte 10) part.now ≡ length part.now }
         requires whole { HasNoTail self.now ⊎ (part.now ≡ []) }
-        ensures reads { IfOk result (λ r. (limits : Limits) (h : History) → ReaderStandsFor limits self.now h → r ≡ record_of limits.line (tail_of h ++ part.now)) }
+        ensures reads { IfOk result (λ r. (limits : Limits) (h : History)
+            → ReaderStandsFor limits self.now h
+            → r ≡ record_of limits.line (tail_of h ++ part.now)) }
         ensures nothing { HasNoTail self.now → part.now ≡ [] → result ≡ Ok None }
     {
         if self.cut.long() {
@@ -136,8 +145,7 @@ impl LineReader {
         ensures limits { self.new.limits ≡ self.old.limits }
         ensures bytes { self.new.bytes ≡ self.old.bytes + (length part.now + 1) }
         ensures lines { EndsLine self.old self.new }
-        ensures stands { (limits : Limits) (h : History) (item : TheRecord) → ReaderStandsFor limits self.old h → record_of limits.line (tail_of h ++ part.now) ≡ Some item
-            → ReaderStandsFor limits self.new (with_bytes h (part.now ++ 10 ∷ [])) }
+        ensures stands { EndsUsed part.now self.old self.new }
     {
         self.tally.used += 1;
         self.bytes += part.len() as u64 + 1;
@@ -152,8 +160,7 @@ impl LineReader {
         ensures limits { self.new.limits ≡ self.old.limits }
         ensures bytes { OnOk result (self.new.bytes ≡ self.old.bytes + (length part.now + 1)) }
         ensures lines { OnOk result (KeepsLines self.old self.new) }
-        ensures stands { OnOk result ((limits : Limits) (h : History) → ReaderStandsFor limits self.old h → record_of limits.line (tail_of h ++ part.now) ≡ None
-            → ReaderStandsFor limits self.new (with_bytes h (part.now ++ 10 ∷ []))) }
+        ensures stands { OnOk result (EndsOther part.now self.old self.new) }
         ensures err { OnErr result (self.new ≡ self.old) }
     {
         count_line(&self.limits, &self.cut, part, &mut self.tally)?;
@@ -168,8 +175,7 @@ impl LineReader {
         ensures limits { self.new.limits ≡ self.old.limits }
         ensures bytes { self.new.bytes ≡ self.old.bytes }
         ensures lines { EndsLine self.old self.new }
-        ensures stands { (limits : Limits) (h : History) (item : TheRecord) → ReaderStandsFor limits self.old h → record_of limits.line (tail_of h) ≡ Some item
-            → ReaderStandsFor limits self.new (h ++ Settle ∷ []) }
+        ensures stands { SettlesUsed self.old self.new }
     {
         self.tally.used += 1;
         self.cut = after_line(self.alloc, &self.cut, self.limits.line);
@@ -180,8 +186,7 @@ impl LineReader {
         ensures limits { self.new.limits ≡ self.old.limits }
         ensures bytes { self.new.bytes ≡ self.old.bytes }
         ensures lines { OnOk result (KeepsLines self.old self.new) }
-        ensures stands { OnOk result ((limits : Limits) (h : History) → ReaderStandsFor limits self.old h → record_of limits.line (tail_of h) ≡ None
-            → ReaderStandsFor limits self.new (h ++ Settle ∷ [])) }
+        ensures stands { OnOk result (SettlesOther self.old self.new) }
         ensures err { OnErr result (self.new ≡ self.old) }
         ensures begun { OnErr result (¬ HasNoTail self.old) }
     {
@@ -213,8 +218,7 @@ fn count_line(
     requires lines { cut.now.lines < 2 ^ 60 }
     requires room { total tally.old < 2 ^ 60 }
     ensures one { OnOk result (total tally.new ≡ total tally.old + 1) }
-    ensures counted { OnOk result ((h : History) → CutStandsFor cut.now h → cut.now.limit ≡ limits.now.line → tally.old ≡ tally_of_lines limits.now (lines_of h)
-        → tally.new ≡ tally_of_lines limits.now (lines_of h ++ (tail_of h ++ part.now) ∷ [])) }
+    ensures counted { OnOk result (CountsOne limits.now cut.now part.now tally.old tally.new) }
     ensures err { OnErr result (tally.new ≡ tally.old) }
 {
     let class = class_of_line(cut, part, limits.line);
@@ -224,7 +228,8 @@ fn count_line(
 // The class of the line that ends with these bytes. One that is too long is held without its text.
 fn class_of_line<'a>(cut: &'a LineCut, part: &'a [u8], limit: usize) -> Lexed<'a>
     requires whole { ((cut.now.tail ≡ []) × (cut.now.long ≡ false)) ⊎ (part.now ≡ []) }
-    ensures { (h : History) → CutStandsFor cut.now h → cut.now.limit ≡ limit → class_seen result ≡ class_of limit (tail_of h ++ part.now) }
+    ensures { (h : History) → CutStandsFor cut.now h → cut.now.limit ≡ limit
+        → class_seen result ≡ class_of limit (tail_of h ++ part.now) }
 {
     if cut.long() {
         return Lexed::Malformed(LineFault::TooLong);

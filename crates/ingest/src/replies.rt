@@ -1,15 +1,12 @@
 //! Replies to what is asked.
 ghost use Rattle.std.specs.Prelude.{◌≡◌, ◌<◌, ℕ, List, Option, length, IfOk, IfErr};
-ghost use Rattle.flow_base.specs.declared.limits.Limits.{Limits};
 ghost use Rattle.flow_base.specs.declared.types.Flow.{Flow};
-ghost use Rattle.audit_lex.specs.History.{History};
-ghost use Rattle.record_join.specs.Events.{Joining};
-ghost use Rattle.record_join.specs.declared.event.Event.{Event};
 ghost use Rattle.kept_flows.specs.Answering.{AreAnswers, NeverFail, ShowsFor};
 ghost use Rattle.ingest.specs.Asking.{FaultsHaveCauses};
-ghost use Rattle.ingest.specs.Replies.{AnswersFind, AnswersQuestion, AnswersShow, AnswersWhy, SaysAnswers, SaysCounts};
-ghost use Rattle.ingest.specs.StandsFor.{ReaderStandsFor, JoinedStandsFor, WhereJoined};
-ghost use Rattle.ingest.specs.Events.{state_of, events_of, flows_in, objects_in};
+ghost use Rattle.ingest.specs.Replies.{AnswersFind, AnswersQuestion, AnswersShow};
+ghost use Rattle.ingest.specs.Replies.{AnswersWhy, SaysAnswers, SaysCounts};
+ghost use Rattle.ingest.specs.StandsFor.{WhereJoined, WhereRead};
+ghost use Rattle.ingest.specs.Events.{flows_in, objects_in};
 ghost use Rattle.reach_model.specs.declared.modes.Mode.{Mode};
 ghost use Rattle.ingest.specs.declared.ask_fault.AskFault.TheVariants as fault;
 
@@ -29,7 +26,9 @@ pub fn answer_question<R: Reducer, K: Keep>(
     joined: &mut EventFlows<R, K>,
     question: &Question,
 ) -> Result<Reply, AskFault>
-    ensures reply { IfOk result (λ said. (limits : Limits) (s : Joining) (released : List Event) → JoinedStandsFor limits joined.old s released → AnswersQuestion R.mode (length (objects_in limits released)) (flows_in limits released) question.now said) }
+    ensures reply { IfOk result (λ said. WhereJoined joined.old (λ limits events.
+        AnswersQuestion R.mode (length (objects_in limits events)) (flows_in limits events)
+        question.now said)) }
     ensures cause { FaultsHaveCauses K.faults K.spent joined.old joined.new result }
     ensures never { NeverFail K.faults K.spent → IfErr result (λ why. why ≡ fault.NoMemory) }
     ensures same { joined.new ≡ record joined.old { keep = joined.new.keep } }
@@ -52,7 +51,8 @@ pub fn answer_why<R: Reducer, K: Keep>(
     until: Option<u64>,
 ) -> Result<Reply, AskFault>
     ensures reply { IfOk result (λ said. WhereJoined joined.old (λ limits events.
-        AnswersWhy R.mode (length (objects_in limits events)) (flows_in limits events) from to until said)) }
+        AnswersWhy R.mode (length (objects_in limits events)) (flows_in limits events)
+        from to until said)) }
     ensures cause { FaultsHaveCauses K.faults K.spent joined.old joined.new result }
     ensures never { NeverFail K.faults K.spent → IfErr result (λ why. why ≡ fault.NoMemory) }
     ensures same { joined.new ≡ record joined.old { keep = joined.new.keep } }
@@ -69,8 +69,9 @@ pub fn answer_why<R: Reducer, K: Keep>(
 
 // The reply that has this path.
 fn say_way(from: EntityId, to: EntityId, way: Way) -> Reply
-    ensures { (kind : Mode) (known : ℕ) (flows : List Flow) (until : Option ℕ) → from.0 < known → to.0 < known
-        → ShowsFor kind flows from.0 to.0 until way → AnswersWhy kind known flows from to until result }
+    ensures { (kind : Mode) (known : ℕ) (flows : List Flow) (until : Option ℕ) → from.0 < known
+        → to.0 < known → ShowsFor kind flows from.0 to.0 until way
+        → AnswersWhy kind known flows from to until result }
 {
     match way {
         Way::NotKept => Reply::NotKept,
@@ -132,7 +133,8 @@ fn copy_names(alloc: Global, names: &[Bytes]) -> Result<List<Bytes>, NoMemory>
 
 // The reply that has these answers. Backward in source mode they are sources.
 fn say(mode: Mode, question: &Question, ids: List<EntityId>) -> Reply
-    ensures { (flows : List Flow) → AreAnswers mode flows question.now ids → SaysAnswers mode flows question.now result }
+    ensures { (flows : List Flow) → AreAnswers mode flows question.now ids
+        → SaysAnswers mode flows question.now result }
 {
     match (*question, mode) {
         (Question::Back { of, until: _ }, Mode::Source) => Reply::Sources { of, ids },
@@ -147,7 +149,8 @@ pub fn answer_stat<R: Reducer, K: Keep>(
     reader: &LineReader,
     joined: &EventFlows<R, K>,
 ) -> Result<Reply, NoMemory>
-    ensures { IfOk result (λ said. (limits : Limits) (h : History) → ReaderStandsFor limits reader.now h → JoinedStandsFor limits joined.now (state_of limits h) (events_of limits h) → SaysCounts R.mode limits h said) }
+    ensures { IfOk result (λ said. WhereRead reader.now joined.now (λ limits h.
+        SaysCounts R.mode limits h said)) }
 {
     let tally = reader.tally();
     let counts = joined.counts();

@@ -1,5 +1,5 @@
 -- What is answered to a question about the flows that were taken.
-use Rattle.std.specs.Prelude.{◌≡◌, ◌↔◌, ℕ, List, [], Option, None, Some, Bool, true, false, ⊤}
+use Rattle.std.specs.Prelude.{◌≡◌, ◌↔◌, ℕ, List, [], ◌∷◌, ◌++◌, Option, None, Some, Bool, true, false, ⊤}
 use Rattle.std.specs.List.{Contains}
 use Rattle.flow_base.specs.declared.types.EntityId.{EntityId}
 use Rattle.flow_base.specs.declared.types.Flow.{Flow}
@@ -32,6 +32,11 @@ AnswersFor mode F question (Some ids) = IsAnswerable mode F question × AreAnswe
 abbrev pub AnswersBy : Mode → KeptFlows → Question → Option (List EntityId) → Type 0
 AnswersBy mode kept question found = (F : List Flow) → StandsFor kept F → AnswersFor mode F question found
 
+-- the same by whatever flows the observable rows are kept of
+abbrev pub AnswersOver : Mode → Option (List Row) → Question → Option (List EntityId) → Type 0
+AnswersOver mode told question found = (F : List Flow) (R : List Row) → told ≡ Some R → IsLawful F
+    → Keeps mode F R → AnswersFor mode F question found
+
 -- of which objects a mode answers by which path they reach others: source mode of sources alone, and every other mode of all
 abbrev pub IsPathKept : Mode → List Flow → ℕ → Type 0
 IsPathKept Plain F from = ⊤
@@ -63,6 +68,15 @@ ShowsBy mode kept from to until way = (F : List Flow) → StandsFor kept F → S
 pub record AreThose (P : ℕ → Type 0) (xs those : List ℕ) : Type 0 where
   pub ascend : IsAscending xs → IsAscending those
   pub exact : (x : ℕ) → Contains those x ↔ (P x × Contains xs x)
+
+-- whichever numbers xs gave those, with x they give the others
+abbrev pub ChoosesNext : (P : ℕ → Type 0) → ℕ → (old new : List ℕ) → Type 0
+ChoosesNext P x old new = (xs : List ℕ) → AreThose P xs old → AreThose P (xs ++ x ∷ []) new
+
+-- the ids are all answers by the rows R, also of objects for which the mode doesn't answer
+abbrev pub AreAllFound : List Row → Question → List EntityId → Type 0
+AreAllFound R question ids =
+    (x : ℕ) → Contains (numbers ids) x ↔ IsAnswer question (counted question R) x
 
 -- the ids ascend, and are the answers by the rows R, of the objects for which the mode answers
 pub record AreFound (mode : Mode) (R : List Row) (question : Question) (ids : List EntityId) : Type 0 where

@@ -22,7 +22,13 @@ pub record OverRows (K : Type 0) : Type 0 where
 
 -- a mode with the rows that it keeps, as a value
 abbrev pub kept_by : Mode → Option (List Row) → (count objects : ℕ) → KeptFlows
-kept_by mode told count objects = record { mode = mode; told = told; count = count; objects = objects }
+kept_by mode told count objects =
+    record { mode = mode; told = told; count = count; objects = objects }
+
+-- the rows of a keep, with the mode that keeps them
+abbrev pub kept_of : {K : Type 0} → Mode → (rows : K → Option (List Row)) → (count known : K → ℕ)
+    → K → KeptFlows
+kept_of mode rows count objects keep = kept_by mode (rows keep) (count keep) (objects keep)
 
 -- the rows are told, and they are those that the mode keeps of the flows F
 pub record StandsFor (kept : KeptFlows) (F : List Flow) : Type 0 where
@@ -63,3 +69,9 @@ pub record AreTold (told : Option (List Row)) (count objects : ℕ) (R : List Ro
 -- where rows are told, the tables of the mode are theirs
 abbrev pub AreTied : (stands holds : List Row → Type 0) → Option (List Row) → (count objects : ℕ) → Type 0
 AreTied stands holds told count objects = IfSome told (λ R. AreTold told count objects R × stands R × holds R)
+
+-- the same of the tables of a reducer and the rows of a keep
+abbrev pub AreTiedTo : {M K : Type 0} → (stands holds : M → List Row → Type 0)
+    → (rows : K → Option (List Row)) → (count known : K → ℕ) → M → K → Type 0
+AreTiedTo stands holds rows count objects reducer keep =
+    AreTied (stands reducer) (holds reducer) (rows keep) (count keep) (objects keep)

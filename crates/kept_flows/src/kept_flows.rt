@@ -4,7 +4,8 @@ ghost use Rattle.flow_base.specs.declared.types.Flow.{Flow as AFlow};
 ghost use Rattle.reach_model.specs.Numbers.{known};
 ghost use Rattle.reach_rows.specs.Asked.{subject};
 ghost use Rattle.query_walk.specs.declared.fault.WalkFault.TheVariants as fault;
-ghost use Rattle.kept_flows.specs.KeptFlows.{StandsFor, ComeNext, TakesIn, SameFaults, HasCauses};
+ghost use Rattle.kept_flows.specs.KeptFlows.{StandsFor, TakesIn, SameFaults, HasCauses};
+ghost use Rattle.kept_flows.specs.Taking.{MayTakeIn};
 ghost use Rattle.kept_flows.specs.Answering.{AnswersBy, NeverFail, ShowsBy};
 
 use crate::one_flow::take_all;
@@ -25,16 +26,16 @@ pub struct KeptFlows<R: Reducer, K: Keep> {
 }
 
 impl<R: Reducer, K: Keep> Model for KeptFlows<R, K> {
-    ghost use Rattle.kept_flows.specs.KeptFlows.{OverRows, AreTied, kept_by};
+    ghost use Rattle.kept_flows.specs.KeptFlows.{OverRows, AreTiedTo, kept_of};
 
     ghost Value = { OverRows K };
 
     ghost view = { λ a. record {
-      kept = kept_by R.mode (K.rows a.rows) (K.count a.rows) (K.known a.rows);
+      kept = kept_of R.mode K.rows K.count K.known a.rows;
       keep = a.rows;
     } };
 
-    ghost invariant = { λ a. AreTied (R.stands_for a.reducer) (R.holds a.reducer) (K.rows a.rows) (K.count a.rows) (K.known a.rows) };
+    ghost invariant = { λ a. AreTiedTo R.stands_for R.holds K.rows K.count K.known a.reducer a.rows };
 }
 
 impl<R: Reducer, K: Keep> KeptFlows<R, K> {
@@ -82,7 +83,7 @@ impl<R: Reducer, K: Keep> KeptFlows<R, K> {
     /// Takes in the flows that come next. The only error is that allocation fails, and then the kept flows are as before.
     /// Taking flows in reads no rows, so no read of them can fail.
     pub fn take(&mut self, flows: &[Flow]) -> Result<(), NoMemory>
-        requires next { (F : List AFlow) × StandsFor self.old.kept F × ComeNext F flows.now }
+        requires next { MayTakeIn self.old.kept flows.now }
         ensures taken { OnOk result (TakesIn self.old.kept flows.now self.new.kept) }
         ensures same { OnErr result (self.new.kept ≡ self.old.kept) }
         ensures faults { SameFaults K.faults K.spent self.old.keep self.new.keep }

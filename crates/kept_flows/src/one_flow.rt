@@ -1,29 +1,31 @@
 //! Flows on their way from the verdict to the rows and the tables.
-ghost use Rattle.std.specs.Prelude.{◌≡◌, ◌<◌, ◌≤◌, ◌+◌, ◌^◌, ◌∷◌, ◌++◌, [], ℕ, List, length, OnErr, OnOk};
+ghost use Rattle.std.specs.Prelude.{◌<◌, ◌≤◌, ◌+◌, ◌^◌, ◌∷◌, List, length, OnErr, OnOk};
 ghost use Rattle.flow_base.specs.declared.types.Flow.{Flow as AFlow};
-ghost use Rattle.reach_model.specs.Rows.{Row as ARow, rows_after};
-ghost use Rattle.reach_rows.specs.Kept.{ComesAfter, GoesOn};
-ghost use Rattle.reach_rows.specs.Verdicts.{FitsRows};
-ghost use Rattle.kept_flows.specs.KeptFlows.{AreTied, AreTold, ComeNext, SameFaults, StandsFor, kept_by};
-ghost use Rattle.kept_flows.specs.Taking.{HasRoomFor, IsNextOf};
+ghost use Rattle.reach_model.specs.Rows.{Row as ARow};
+ghost use Rattle.reach_rows.specs.Kept.{GoesOn};
+ghost use Rattle.query_walk.specs.Walks.{SameRows};
+ghost use Rattle.kept_flows.specs.KeptFlows.{AreTiedTo, SameFaults, TakesIn, kept_of};
+ghost use Rattle.kept_flows.specs.Taking.{
+    HasRoomFor, UsesRoom, MayTakeIn, MayTake, Takes, MayPut, Puts
+};
 
 use flow_base::{Flow, NoMemory};
 use reach_model::{Verdict, first_flows_are_kept};
 use reach_rows::{Keep, Reducer, verdicts_make_the_rows};
 
-/// Takes in the flows that come next. If allocation fails the tables and the rows are as before: room for all of the flows
-/// is made first, and from there on nothing fails.
+/// Takes in the flows that come next. If allocation fails the tables and the rows are as before: room for
+/// all of the flows is made first, and from there on nothing fails.
 pub fn take_all<M: Reducer, K: Keep>(
     reducer: &mut M,
     rows: &mut K,
     flows: &[Flow],
 ) -> Result<(), NoMemory>
-    requires tied { AreTied (M.stands_for reducer.old) (M.holds reducer.old) (K.rows rows.old) (K.count rows.old) (K.known rows.old) }
-    requires next { (F : List AFlow) × StandsFor (kept_by M.mode (K.rows rows.old) (K.count rows.old) (K.known rows.old)) F × ComeNext F flows.now }
-    ensures tied { AreTied (M.stands_for reducer.new) (M.holds reducer.new) (K.rows rows.new) (K.count rows.new) (K.known rows.new) }
-    ensures taken { OnOk result ((F : List AFlow) → StandsFor (kept_by M.mode (K.rows rows.old) (K.count rows.old) (K.known rows.old)) F → ComeNext F flows.now
-        → StandsFor (kept_by M.mode (K.rows rows.new) (K.count rows.new) (K.known rows.new)) (F ++ flows.now)) }
-    ensures same { OnErr result ((K.rows rows.new ≡ K.rows rows.old) × (K.count rows.new ≡ K.count rows.old) × (K.known rows.new ≡ K.known rows.old)) }
+    requires tied { AreTiedTo M.stands_for M.holds K.rows K.count K.known reducer.old rows.old }
+    requires next { MayTakeIn (kept_of M.mode K.rows K.count K.known rows.old) flows.now }
+    ensures tied { AreTiedTo M.stands_for M.holds K.rows K.count K.known reducer.new rows.new }
+    ensures taken { OnOk result (TakesIn (kept_of M.mode K.rows K.count K.known rows.old) flows.now
+        (kept_of M.mode K.rows K.count K.known rows.new)) }
+    ensures same { OnErr result (SameRows K.rows K.count K.known rows.old rows.new) }
     ensures faults { SameFaults K.faults K.spent rows.old rows.new }
 {
     // Most events make no flow.
@@ -46,7 +48,7 @@ fn make_room<M: Reducer, K: Keep>(
     ensures room { OnOk result (K.has_room rows.new (length flows.now)) }
     ensures stands { (R : List ARow) → M.stands_for reducer.old R → M.stands_for reducer.new R }
     ensures holds { (R : List ARow) → M.holds reducer.old R → M.holds reducer.new R }
-    ensures same { (K.rows rows.new ≡ K.rows rows.old) × (K.count rows.new ≡ K.count rows.old) × (K.known rows.new ≡ K.known rows.old) }
+    ensures same { SameRows K.rows K.count K.known rows.old rows.new }
     ensures faults { SameFaults K.faults K.spent rows.old rows.new }
 {
     reducer.reserve(flows)?;
@@ -55,14 +57,14 @@ fn make_room<M: Reducer, K: Keep>(
 
 /// Puts each of these flows, for which there is room.
 fn put_all<M: Reducer, K: Keep>(reducer: &mut M, rows: &mut K, flows: &[Flow])
-    requires tied { AreTied (M.stands_for reducer.old) (M.holds reducer.old) (K.rows rows.old) (K.count rows.old) (K.known rows.old) }
-    requires next { (F : List AFlow) × StandsFor (kept_by M.mode (K.rows rows.old) (K.count rows.old) (K.known rows.old)) F × ComeNext F flows.now }
+    requires tied { AreTiedTo M.stands_for M.holds K.rows K.count K.known reducer.old rows.old }
+    requires next { MayTakeIn (kept_of M.mode K.rows K.count K.known rows.old) flows.now }
     requires few { K.count rows.old + length flows.now < 2 ^ 63 }
     requires covers { M.covers reducer.old flows.now }
     requires room { K.has_room rows.old (length flows.now) }
-    ensures tied { AreTied (M.stands_for reducer.new) (M.holds reducer.new) (K.rows rows.new) (K.count rows.new) (K.known rows.new) }
-    ensures taken { (F : List AFlow) → StandsFor (kept_by M.mode (K.rows rows.old) (K.count rows.old) (K.known rows.old)) F → ComeNext F flows.now
-        → StandsFor (kept_by M.mode (K.rows rows.new) (K.count rows.new) (K.known rows.new)) (F ++ flows.now) }
+    ensures tied { AreTiedTo M.stands_for M.holds K.rows K.count K.known reducer.new rows.new }
+    ensures taken { TakesIn (kept_of M.mode K.rows K.count K.known rows.old) flows.now
+        (kept_of M.mode K.rows K.count K.known rows.new) }
     ensures faults { SameFaults K.faults K.spent rows.old rows.new }
 {
     for flow in flows {
@@ -72,17 +74,18 @@ fn put_all<M: Reducer, K: Keep>(reducer: &mut M, rows: &mut K, flows: &[Flow])
 
 /// Puts the flow that comes next, by the verdict on it.
 fn put<M: Reducer, K: Keep>(reducer: &mut M, rows: &mut K, flow: &Flow)
-    requires tied { AreTied (M.stands_for reducer.old) (M.holds reducer.old) (K.rows rows.old) (K.count rows.old) (K.known rows.old) }
-    requires next { (F : List AFlow) × StandsFor (kept_by M.mode (K.rows rows.old) (K.count rows.old) (K.known rows.old)) F × IsNextOf F flow.now }
+    requires tied { AreTiedTo M.stands_for M.holds K.rows K.count K.known reducer.old rows.old }
+    requires next { MayTake (kept_of M.mode K.rows K.count K.known rows.old) flow.now }
     requires few { K.count rows.old < 2 ^ 63 }
     requires covers { (rest : List AFlow) × M.covers reducer.old (flow.now ∷ rest) }
     requires room { HasRoomFor (K.has_room rows.old) 1 }
-    ensures tied { AreTied (M.stands_for reducer.new) (M.holds reducer.new) (K.rows rows.new) (K.count rows.new) (K.known rows.new) }
-    ensures taken { (F : List AFlow) → StandsFor (kept_by M.mode (K.rows rows.old) (K.count rows.old) (K.known rows.old)) F → IsNextOf F flow.now
-        → StandsFor (kept_by M.mode (K.rows rows.new) (K.count rows.new) (K.known rows.new)) (F ++ flow.now ∷ []) }
+    ensures tied { AreTiedTo M.stands_for M.holds K.rows K.count K.known reducer.new rows.new }
+    ensures taken { Takes (kept_of M.mode K.rows K.count K.known rows.old) flow.now
+        (kept_of M.mode K.rows K.count K.known rows.new) }
     ensures count { K.count rows.new ≤ K.count rows.old + 1 }
-    ensures covers { (rest : List AFlow) → M.covers reducer.old (flow.now ∷ rest) → M.covers reducer.new rest }
-    ensures room { (n : ℕ) → HasRoomFor (K.has_room rows.old) (n + 1) → HasRoomFor (K.has_room rows.new) n }
+    ensures covers { (rest : List AFlow) → M.covers reducer.old (flow.now ∷ rest)
+        → M.covers reducer.new rest }
+    ensures room { UsesRoom (K.has_room rows.old) (K.has_room rows.new) }
     ensures faults { SameFaults K.faults K.spent rows.old rows.new }
 {
     first_flows_are_kept();
@@ -96,10 +99,10 @@ fn put<M: Reducer, K: Keep>(reducer: &mut M, rows: &mut K, flow: &Flow)
 fn put_row<K: Keep>(rows: &mut K, flow: &Flow, verdict: Verdict)
     requires room { HasRoomFor (K.has_room rows.old) 1 }
     requires goes_on { GoesOn (K.known rows.old) flow.now }
-    requires rows { (R : List ARow) × AreTold (K.rows rows.old) (K.count rows.old) (K.known rows.old) R × ComesAfter R flow.now × FitsRows R flow.now verdict }
-    ensures rows { (R : List ARow) → AreTold (K.rows rows.old) (K.count rows.old) (K.known rows.old) R → AreTold (K.rows rows.new) (K.count rows.new) (K.known rows.new) (rows_after R flow.now verdict) }
+    requires rows { MayPut K.rows K.count K.known rows.old flow.now verdict }
+    ensures rows { Puts K.rows K.count K.known rows.old flow.now verdict rows.new }
     ensures count { K.count rows.new ≤ K.count rows.old + 1 }
-    ensures room { (n : ℕ) → HasRoomFor (K.has_room rows.old) (n + 1) → HasRoomFor (K.has_room rows.new) n }
+    ensures room { UsesRoom (K.has_room rows.old) (K.has_room rows.new) }
     ensures faults { SameFaults K.faults K.spent rows.old rows.new }
 {
     match verdict {

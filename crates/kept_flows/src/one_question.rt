@@ -1,14 +1,14 @@
 //! One question, from the mode's leave to the ids.
-ghost use Rattle.std.specs.Prelude.{◌≡◌, ◌↔◌, ◌<◌, ◌∷◌, ◌++◌, [], ℕ, List, Some, IfOk, IfSome, IsTrue, OnOk};
-ghost use Rattle.std.specs.List.{Contains};
-ghost use Rattle.flow_base.specs.declared.types.Flow.{Flow as AFlow};
-ghost use Rattle.reach_model.specs.Flows.{IsLawful};
+ghost use Rattle.std.specs.Prelude.{◌≡◌, ◌↔◌, ◌<◌, IfOk, IfSome, IsTrue, OnOk};
 ghost use Rattle.reach_model.specs.Ids.{IsAscending, numbers};
-ghost use Rattle.reach_model.specs.Rows.{Row as ARow, Keeps, firsts};
+ghost use Rattle.reach_model.specs.Rows.{firsts};
 ghost use Rattle.reach_model.specs.Sources.{IsSource};
-ghost use Rattle.reach_rows.specs.Asked.{IsAnswer, IsAnsweredFor, counted, subject};
-ghost use Rattle.query_walk.specs.Fault.{IsWalk};
-ghost use Rattle.kept_flows.specs.Answering.{AnswersFor, AreFound, AreThose, is_for_sources};
+ghost use Rattle.reach_rows.specs.Asked.{IsAnsweredFor, subject};
+ghost use Rattle.query_walk.specs.Fault.{IsWalkOver};
+ghost use Rattle.query_walk.specs.Walks.{SameRows};
+ghost use Rattle.kept_flows.specs.Answering.{
+    AnswersOver, AreAllFound, AreFound, AreThose, ChoosesNext, is_for_sources
+};
 
 use flow_base::{EntityId, List, NoMemory};
 use query_walk::{WalkFault, backward, forward};
@@ -27,9 +27,9 @@ pub fn answer<M: Reducer, W: Rows>(
     question: &Question,
 ) -> Result<Option<List<EntityId>>, WalkFault>
     requires known { subject question.now < W.known rows.old }
-    ensures exact { IfOk result (λ found. (F : List AFlow) (R : List ARow) → W.rows rows.old ≡ Some R → IsLawful F → Keeps M.mode F R → AnswersFor M.mode F question.now found) }
-    ensures cause { IsWalk (W.rows rows.old) (W.faults rows.old) (W.faults rows.new) (W.spent rows.old) (W.spent rows.new) result }
-    ensures same { (W.rows rows.new ≡ W.rows rows.old) × (W.count rows.new ≡ W.count rows.old) × (W.known rows.new ≡ W.known rows.old) }
+    ensures exact { IfOk result (λ found. AnswersOver M.mode (W.rows rows.old) question.now found) }
+    ensures cause { IsWalkOver W.rows W.faults W.spent rows.old rows.new result }
+    ensures same { SameRows W.rows W.count W.known rows.old rows.new }
 {
     first_flows_are_kept();
     first_flows_are_told();
@@ -52,9 +52,10 @@ fn found<W: Rows>(
     question: &Question,
 ) -> Result<List<EntityId>, WalkFault>
     requires known { subject question.now < W.known rows.old }
-    ensures exact { IfOk result (λ ids. IfSome (W.rows rows.old) (λ R. AreFound mode R question.now ids)) }
-    ensures cause { IsWalk (W.rows rows.old) (W.faults rows.old) (W.faults rows.new) (W.spent rows.old) (W.spent rows.new) result }
-    ensures same { (W.rows rows.new ≡ W.rows rows.old) × (W.count rows.new ≡ W.count rows.old) × (W.known rows.new ≡ W.known rows.old) }
+    ensures exact { IfOk result (λ ids. IfSome (W.rows rows.old) (λ R.
+        AreFound mode R question.now ids)) }
+    ensures cause { IsWalkOver W.rows W.faults W.spent rows.old rows.new result }
+    ensures same { SameRows W.rows W.count W.known rows.old rows.new }
 {
     let ids = walk(alloc, rows, question)?;
     let those = chosen(alloc, mode, rows, question, ids)?;
@@ -69,9 +70,10 @@ fn walk<W: Rows>(
 ) -> Result<List<EntityId>, WalkFault>
     requires known { subject question.now < W.known rows.old }
     ensures ascending { IfOk result (λ ids. IsAscending (numbers ids)) }
-    ensures exact { IfOk result (λ ids. IfSome (W.rows rows.old) (λ R. (x : ℕ) → Contains (numbers ids) x ↔ IsAnswer question.now (counted question.now R) x)) }
-    ensures cause { IsWalk (W.rows rows.old) (W.faults rows.old) (W.faults rows.new) (W.spent rows.old) (W.spent rows.new) result }
-    ensures same { (W.rows rows.new ≡ W.rows rows.old) × (W.count rows.new ≡ W.count rows.old) × (W.known rows.new ≡ W.known rows.old) }
+    ensures exact { IfOk result (λ ids. IfSome (W.rows rows.old) (λ R.
+        AreAllFound R question.now ids)) }
+    ensures cause { IsWalkOver W.rows W.faults W.spent rows.old rows.new result }
+    ensures same { SameRows W.rows W.count W.known rows.old rows.new }
 {
     match *question {
         Question::Back { of, until } => backward(alloc, rows, of, until),
@@ -87,7 +89,8 @@ fn chosen<W: Rows>(
     question: &Question,
     ids: List<EntityId>,
 ) -> Result<List<EntityId>, NoMemory>
-    ensures { IfOk result (λ those. IfSome (W.rows rows.now) (λ R. AreThose (IsAnsweredFor mode (firsts R) question.now) (numbers ids) (numbers those))) }
+    ensures { IfOk result (λ those. IfSome (W.rows rows.now) (λ R.
+        AreThose (IsAnsweredFor mode (firsts R) question.now) (numbers ids) (numbers those))) }
 {
     if asks_for_sources(mode, question) {
         sources(alloc, rows, &ids)
@@ -115,7 +118,8 @@ fn sources<W: Rows>(
     rows: &W,
     ids: &List<EntityId>,
 ) -> Result<List<EntityId>, NoMemory>
-    ensures { IfOk result (λ those. IfSome (W.rows rows.now) (λ R. AreThose (IsSource (firsts R)) (numbers ids.now) (numbers those))) }
+    ensures { IfOk result (λ those. IfSome (W.rows rows.now) (λ R.
+        AreThose (IsSource (firsts R)) (numbers ids.now) (numbers those))) }
 {
     let mut those = List::new(alloc);
     for id in ids.as_slice() {
@@ -126,7 +130,8 @@ fn sources<W: Rows>(
 
 /// Puts an id last if it is one of a source.
 fn push_source<W: Rows>(those: &mut List<EntityId>, rows: &W, id: EntityId) -> Result<(), NoMemory>
-    ensures { OnOk result (IfSome (W.rows rows.now) (λ R. (xs : List ℕ) → AreThose (IsSource (firsts R)) xs (numbers those.old) → AreThose (IsSource (firsts R)) (xs ++ id.0 ∷ []) (numbers those.new))) }
+    ensures { OnOk result (IfSome (W.rows rows.now) (λ R.
+        ChoosesNext (IsSource (firsts R)) id.0 (numbers those.old) (numbers those.new))) }
 {
     if is_source(rows, id) {
         those.push(id)

@@ -1,4 +1,4 @@
-use Rattle.std.proofs.Common.{refl, ap, Err}
+use Rattle.std.proofs.Common.{ap, Err}
 use Rattle.name_text.specs.Addresses.{text_of}
 use Rattle.ingest.proofs.Following.{may_come_after, same_err}
 use Rattle.ingest.proofs.event_flows.plan_event.Goals as goal

@@ -1,4 +1,4 @@
-use Rattle.std.proofs.Common.{sym, subst, arith, ℕ}
+use Rattle.std.proofs.Common.{sym, subst, arith}
 use Rattle.ingest.specs.Bounds.{IsFew}
 use Rattle.ingest.proofs.engine.Ingest.new.Goals as goal
 
