@@ -10,6 +10,7 @@ from __future__ import annotations
 
 import argparse
 import bz2
+import contextlib
 import gzip
 import importlib.machinery
 import importlib.util
@@ -337,7 +338,7 @@ class Fitness(Scratch):
             with self.subTest(name):
                 done = run('-if', self.log(text, f'{name}.log'), 'find', '*')
                 self.assertIn(want, done.stderr.decode())
-                self.assertTrue(done.stderr.startswith(b'autrail: mistrust: '))
+                self.assertTrue(done.stderr.startswith(b'autrail: warning: '))
         self.assertEqual(json.loads(run('-if', self.log(good, 'good.log'), 'stat', '--json').stdout)['warnings'], [])
 
     def test_users_and_arguments_are_read_from_the_lines(self) -> None:
@@ -444,7 +445,7 @@ class Words(Scratch):
 
     def test_a_folder_that_may_not_be_read(self) -> None:
         with unittest.mock.patch('os.listdir', side_effect=PermissionError), self.assertRaises(self.autrail.Refused) as refused:
-            self.autrail.logs_of([str(self.folder / 'audit.log')], [])
+            self.autrail.logs_of([str(self.folder / 'audit.log')], contextlib.ExitStack())
         self.assertEqual(refused.exception.status, 4)
         self.assertIn('run autrail by sudo', str(refused.exception))
 
@@ -473,7 +474,7 @@ class Words(Scratch):
             time.sleep(0.05)
         time.sleep(0.5)
         child.send_signal(signal.SIGINT)
-        self.assertEqual(child.wait(10), 130)
+        self.assertEqual(child.wait(30), 130)
         child.stderr.close()
         with self.assertRaises(ProcessLookupError):
             os.kill(int(fifo.read_text()), 0)
