@@ -1,4 +1,4 @@
-//! Small lists of acts with what is held after them, each worked out by hand from the rules of descriptors.
+//! Lists of acts with what is held after them, worked out by hand from the rules of descriptors.
 use crate::*;
 use acts::{Held, Object};
 use flow_base::Bytes;
@@ -32,24 +32,33 @@ fn sets(fds: &mut Fds, pid: u32, fd: u32, act: u64, cloexec: bool) -> bool {
 }
 
 fn forks(fds: &mut Fds, pid: u32, child: u32) -> bool {
-    let entries = match fds.copies(pid) {
-        Ok(entries) => entries,
-        Err(_) => return false,
-    };
-    if fds.reserve(entries.as_slice().len(), 0).is_err() {
+    if fds.reserve(1, 0).is_err() {
         return false;
     }
-    fds.give(child, entries);
+    fds.share(child, pid);
+    true
+}
+
+fn closes(fds: &mut Fds, pid: u32, fd: u32) -> bool {
+    if fds.reserve(1, 0).is_err() {
+        return false;
+    }
+    fds.close(pid, fd);
+    true
+}
+
+fn marks(fds: &mut Fds, pid: u32, fd: u32, cloexec: bool) -> bool {
+    if fds.reserve(1, 0).is_err() {
+        return false;
+    }
+    fds.mark(pid, fd, cloexec);
     true
 }
 
 fn holds(fds: &Fds, pid: u32, fd: u32, act: u64, cloexec: bool) -> bool {
     match fds.held(pid, fd) {
-        Some(held) => match &held.object {
-            Object::Sock(made) => *made == act && held.cloexec == cloexec,
-            _ => false,
-        },
-        None => false,
+        Some(Object::Sock(made)) => *made == act && fds.is_marked(pid, fd) == cloexec,
+        _ => false,
     }
 }
 
@@ -57,13 +66,13 @@ fn holds(fds: &Fds, pid: u32, fd: u32, act: u64, cloexec: bool) -> bool {
 fn answers(fds: &mut Fds, step: Step) -> bool {
     match step {
         Step::Sets(pid, fd, act, cloexec) => return sets(fds, pid, fd, act, cloexec),
-        Step::Closes(pid, fd) => fds.close(pid, fd),
-        Step::Marks(pid, fd, cloexec) => fds.mark(pid, fd, cloexec),
+        Step::Closes(pid, fd) => return closes(fds, pid, fd),
+        Step::Marks(pid, fd, cloexec) => return marks(fds, pid, fd, cloexec),
         Step::Execs(pid) => fds.on_exec(pid),
         Step::Ends(pid) => fds.clear(pid),
         Step::Forks(pid, child) => return forks(fds, pid, child),
         Step::Holds(pid, fd, act, cloexec) => return holds(fds, pid, fd, act, cloexec),
-        Step::Lacks(pid, fd) => return fds.held(pid, fd).is_none(),
+        Step::Lacks(pid, fd) => return fds.held(pid, fd).is_none() && !fds.is_marked(pid, fd),
     }
     true
 }
@@ -71,23 +80,6 @@ fn answers(fds: &mut Fds, step: Step) -> bool {
 fn all_answer(fds: &mut Fds, steps: &[Step]) -> bool {
     for step in steps {
         if !answers(fds, *step) {
-            return false;
-        }
-    }
-    true
-}
-
-fn lists(fds: &Fds, pid: u32, wanted: &[u32]) -> bool {
-    let entries = match fds.copies(pid) {
-        Ok(entries) => entries,
-        Err(_) => return false,
-    };
-    let entries = entries.as_slice();
-    if entries.len() != wanted.len() {
-        return false;
-    }
-    for i in 0..wanted.len() {
-        if entries[i].fd != wanted[i] {
             return false;
         }
     }
@@ -125,8 +117,6 @@ fn a_duplicate_outlives_an_exec_and_a_child_takes_it_over(rt: HostRuntime) {
             .as_slice(),
         )
     );
-    assert!(rt; lists(&fds, 100, [].as_slice()));
-    assert!(rt; lists(&fds, 200, [5, 9].as_slice()));
 }
 
 #[test]
@@ -149,15 +139,64 @@ fn each_descriptor_is_found_until_it_closes(rt: HostRuntime) {
             .as_slice(),
         )
     );
-    assert!(rt; lists(&fds, 1, [1, 2, 4, 6].as_slice()));
-    assert!(rt; lists(&fds, 2, [8].as_slice()));
     assert!(rt;
         all_answer(
             &mut fds,
-            [Step::Execs(1), Step::Holds(1, 6, 6, false)].as_slice()
+            [
+                Step::Lacks(1, 8),
+                Step::Holds(1, 2, 2, true),
+                Step::Holds(1, 4, 5, true),
+                Step::Holds(2, 8, 3, true),
+                Step::Execs(1),
+                Step::Holds(1, 1, 7, false),
+                Step::Lacks(1, 2),
+                Step::Lacks(1, 4),
+                Step::Holds(1, 6, 6, false),
+            ]
+            .as_slice(),
         )
     );
-    assert!(rt; lists(&fds, 1, [1, 6].as_slice()));
+}
+
+#[test]
+fn many_children_share_what_they_hold_and_change_it_alone(rt: HostRuntime) {
+    let mut fds = Fds::new(rt.alloc());
+    for fd in 0..2000u32 {
+        assert!(rt; sets(&mut fds, 1, fd * 3, fd as u64, fd % 5 == 0));
+    }
+    for child in 2..1000u32 {
+        assert!(rt; forks(&mut fds, child - 1, child));
+        assert!(rt; closes(&mut fds, child, child * 3));
+        assert!(rt; sets(&mut fds, child, 4_000_000_000 + child, 5000, true));
+    }
+    for child in 2..900u32 {
+        fds.clear(child);
+    }
+    fds.on_exec(950);
+    for child in 0..9000u32 {
+        assert!(rt; forks(&mut fds, 999, 1000));
+        assert!(rt; marks(&mut fds, 1000, 5997, child % 2 == 0));
+    }
+    assert!(rt;
+        all_answer(
+            &mut fds,
+            [
+                Step::Lacks(500, 3),
+                Step::Holds(1, 2997, 999, false),
+                Step::Lacks(999, 2997),
+                Step::Holds(998, 2997, 999, false),
+                Step::Holds(999, 3000, 1000, true),
+                Step::Lacks(950, 3000),
+                Step::Holds(950, 3003, 1001, false),
+                Step::Holds(999, 4_000_000_902, 5000, true),
+                Step::Lacks(950, 4_000_000_902),
+                Step::Execs(1000),
+                Step::Holds(1000, 5997, 1999, false),
+                Step::Lacks(1000, 3000),
+            ]
+            .as_slice(),
+        )
+    );
 }
 
 fn gives_address(fds: &mut Fds, act: u64, bytes: Bytes) -> bool {

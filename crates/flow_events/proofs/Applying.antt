@@ -3,14 +3,13 @@ use Rattle.std.proofs.Common.{◌≡◌, ◌==◌, ◌∙◌, subst, sym, ap, �
 use Rattle.acts.specs.declared.held.Held.{Held}
 use Rattle.acts.specs.declared.act.Act.{Act}
 use Rattle.acts.specs.Holding.{is_at, marked, unless_marked, holds, address_of}
-use Rattle.fd_table.specs.Table.{Table, HoldsAs, AddressesAs, entry_at, held_at, address_at}
-use Rattle.fd_table.specs.Placing.{same_slot}
+use Rattle.fd_table.specs.Table.{Table, HoldsAs, AddressesAs, HoldsTheSame, held_at, address_at}
 use Rattle.std.specs.Map.{lookup}
 use Rattle.std.specs.Prelude.{nat_eq}
 use Rattle.flow_base.specs.declared.types.Key.{Key}
 use Rattle.entity_names.specs.Known.{Known, NamesAs}
 use Rattle.flow_events.specs.declared.change.Change.{Change}
-use Rattle.flow_events.specs.declared.change.Change.TheVariants.{Nothing, Set, Pair, Close, Mark, Exec, Clear, Give}
+use Rattle.flow_events.specs.declared.change.Change.TheVariants.{Nothing, Set, Pair, Close, Mark, Exec, Clear, Share}
 use Rattle.flow_events.specs.declared.plan.NewAddress.{NewAddress}
 use Rattle.flow_events.specs.Changes.{changed}
 use Rattle.flow_events.specs.Entering.{SameNames}
@@ -25,15 +24,15 @@ changed_alike (Close pid fd) f g alike p n = ap (λ h. if is_at pid fd p n then 
 changed_alike (Mark pid fd cloexec) f g alike p n = ap (λ h. if is_at pid fd p n then marked cloexec h else h) (alike p n)
 changed_alike (Exec pid) f g alike p n = ap (λ h. if pid == p then unless_marked h else h) (alike p n)
 changed_alike (Clear pid) f g alike p n = ap (λ h. if pid == p then None else h) (alike p n)
-changed_alike (Give pid entries) f g alike p n = ap (λ h. if pid == p then entry_at entries n else h) (alike p n)
+changed_alike (Share pid parent) f g alike p n = ap (λ h. if pid == p then h else f p n) (alike parent n) ∙ ap (λ h. if pid == p then g parent n else h) (alike p n)
 
 -- two changes in a row, and then none
 pub held_after : (old mid late new : Table) (see last : Change) (before after : List Act) → HoldsAs old before
-    → ((p n : ℕ) → held_at mid p n ≡ changed see (held_at old) p n) → ((p n : ℕ) → held_at late p n ≡ changed last (held_at mid) p n) → new.held ≡ late.held
+    → ((p n : ℕ) → held_at mid p n ≡ changed see (held_at old) p n) → ((p n : ℕ) → held_at late p n ≡ changed last (held_at mid) p n) → HoldsTheSame late new
     → ((p n : ℕ) → holds after p n ≡ changed last (changed see (holds before)) p n) → HoldsAs new after
 held_after old mid late new see last before after stands first second same plan = record {
   each = λ p n.
-      ap (λ held. lookup (same_slot (p, n)) held) same
+      same p n
       ∙ second p n
       ∙ changed_alike last (held_at mid) (changed see (holds before)) (λ q m. first q m ∙ changed_alike see (held_at old) (holds before) stands.each q m) p n
       ∙ sym (plan p n);

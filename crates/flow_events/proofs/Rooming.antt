@@ -7,7 +7,6 @@ use Rattle.acts.specs.declared.act.Taken.{Taken}
 use Rattle.acts.specs.Keys.{all_given, names_of}
 use Rattle.acts.specs.Flows.{acts_of}
 use Rattle.proc_table.specs.Table.{standing_of}
-use Rattle.fd_table.specs.Placing.{same_slot}
 use Rattle.flow_base.specs.declared.limits.Limits.{Limits}
 use Rattle.flow_events.specs.declared.tables.Tables.{Tables}
 use Rattle.flow_events.specs.Standing.{StandsFor, DiffersInRoom}
@@ -15,7 +14,7 @@ use Rattle.flow_events.specs.Standing.{StandsFor, DiffersInRoom}
 pub stands_still : (text : List ℕ → List ℕ) (old new : Tables) (taken : List Taken) → DiffersInRoom old new → StandsFor text old taken → StandsFor text new taken
 stands_still text old new taken same stands = record {
   lives_are = record { each = λ p. ap (λ all. standing_of (lookup (nat_eq p) all)) same.lives ∙ stands.lives_are.each p };
-  held_are = record { each = λ p n. ap (λ all. lookup (same_slot (p, n)) all) same.held ∙ stands.held_are.each p n };
+  held_are = record { each = λ p n. same.held p n ∙ stands.held_are.each p n };
   addresses_are = record { each = λ s. ap (λ all. lookup (nat_eq s) all) same.addresses ∙ stands.addresses_are.each s };
   births_are = record { each = λ id. ap (λ all. unwrap_or (lookup (ghosts.eq id) all) 0) same.births ∙ stands.births_are.each id };
   objects_are = same.keys ∙ stands.objects_are;

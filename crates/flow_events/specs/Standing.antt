@@ -5,7 +5,7 @@ use Rattle.acts.specs.Holding.{holds, address_of}
 use Rattle.acts.specs.Keys.{all_given}
 use Rattle.acts.specs.Flows.{acts_of, objects, flows}
 use Rattle.proc_table.specs.Table.{StandsFor as LivesAs}
-use Rattle.fd_table.specs.Table.{HoldsAs, AddressesAs}
+use Rattle.fd_table.specs.Table.{HoldsAs, AddressesAs, HoldsTheSame}
 use Rattle.flow_base.specs.declared.types.Key.{Key}
 use Rattle.flow_base.specs.declared.limits.Limits.{Limits}
 use Rattle.entity_names.specs.Known.{NamesAs, names_at}
@@ -80,7 +80,7 @@ pub record HasRooms (tables : Tables) (plan : Plan) : Type 0 where
 pub record DiffersInRoom (old new : Tables) : Type 0 where
   pub lives : new.procs.all ≡ old.procs.all
   pub births : new.births.all ≡ old.births.all
-  pub held : new.fds.held ≡ old.fds.held
+  pub held : HoldsTheSame old.fds new.fds
   pub addresses : new.fds.addresses ≡ old.fds.addresses
   pub keys : new.entities.keys ≡ old.entities.keys
   pub limit : new.entities.limit ≡ old.entities.limit

@@ -169,7 +169,7 @@ fn held_key(fds: &Fds, acting: &Acting, fd: u32) -> Result<Key, NoMemory>
     ensures { (procs : Table) (acts : List Act) → IsActing procs fds.now acting.now acts → IfOk result (λ made. made ≡ thing_key acts acting.now.pid (thing.Fd fd)) }
 {
     match fds.held(acting.holder, fd) {
-        Some(held) => object_key(fds, &held.object),
+        Some(object) => object_key(fds, object),
         None => Ok(Key::Lost {
             pid: acting.pid,
             life: acting.life,

@@ -6,8 +6,7 @@ ghost use Rattle.fd_table.specs.Table.{held_at};
 ghost use Rattle.flow_events.specs.Changes.{changed, need};
 
 use acts::{Held, Object};
-use fd_table::{FdEntry, Fds};
-use flow_base::List;
+use fd_table::Fds;
 
 /// What an act does to descriptors.
 #[derive(Drop)]
@@ -44,14 +43,14 @@ pub enum Change {
     Clear {
         pid: u32,
     },
-    /// The process holds these alone.
-    Give {
+    /// The process holds what its parent holds, and that alone.
+    Share {
         pid: u32,
-        entries: List<FdEntry>,
+        parent: u32,
     },
 }
 
-/// How many descriptors a change may add.
+/// How many changes of the table it may take.
 pub fn need(change: &Change) -> usize
     ensures need { result ≡ need change.now }
     ensures few { result < 2 ^ 63 }
@@ -59,7 +58,9 @@ pub fn need(change: &Change) -> usize
     match change {
         Change::Set { .. } => 1,
         Change::Pair { .. } => 2,
-        Change::Give { entries, .. } => entries.as_slice().len(),
+        Change::Close { .. } => 1,
+        Change::Mark { .. } => 1,
+        Change::Share { .. } => 1,
         _ => 0,
     }
 }
@@ -93,7 +94,7 @@ pub fn make_change(fds: &mut Fds, change: Change)
         Change::Mark { pid, fd, cloexec } => fds.mark(pid, fd, cloexec),
         Change::Exec { pid } => fds.on_exec(pid),
         Change::Clear { pid } => fds.clear(pid),
-        Change::Give { pid, entries } => fds.give(pid, entries),
+        Change::Share { pid, parent } => fds.share(pid, parent),
     }
 }
 

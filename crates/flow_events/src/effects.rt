@@ -13,7 +13,7 @@ ghost use Rattle.flow_base.specs.declared.types.Key.TheVariants as key;
 ghost use Rattle.name_text.specs.Addresses.{text_of};
 ghost use Rattle.acts.specs.Standing.{is_awaiting};
 ghost use Rattle.proc_table.specs.Table.{Table, StandsFor, standing_of, at};
-ghost use Rattle.fd_table.specs.Table.{HoldsAs};
+ghost use Rattle.fd_table.specs.Table.{Table as Fds};
 ghost use Rattle.flow_events.specs.Acting.{IsActing, IsBorn, DoesAs, address_through, pair_if, stated};
 ghost use Rattle.flow_events.specs.Entering.{pair_of};
 ghost use Rattle.flow_events.specs.Standing.{readdressed};
@@ -34,43 +34,37 @@ use proc_table::Procs;
 use std::alloc::Global;
 
 /// A see that links a process gives it what its parent holds.
-pub fn see_change(procs: &Procs, fds: &Fds, pid: u32, ppid: u32) -> Result<Change, NoMemory>
-    ensures { (before : List Act) (exe : Option (List ℕ)) → StandsFor procs.now before → HoldsAs fds.now before → Admitted before → IfOk result (λ change. DoesAs change before (act.See pid ppid exe)) }
+pub fn see_change(procs: &Procs, pid: u32, ppid: u32) -> Change
+    ensures { (before : List Act) (exe : Option (List ℕ)) → StandsFor procs.now before
+        → Admitted before → DoesAs result before (act.See pid ppid exe) }
 {
     sees_hand_on();
     only_live_pids_hold();
     if procs.life(pid).is_some() {
-        return Ok(Change::Nothing);
+        return Change::Nothing;
     }
     if ppid == pid {
-        return Ok(Change::Nothing);
+        return Change::Nothing;
     }
     if procs.life(ppid).is_none() {
-        return Ok(Change::Nothing);
+        return Change::Nothing;
     }
-    Ok(Change::Give {
-        pid,
-        entries: fds.copies(ppid)?,
-    })
+    Change::Share { pid, parent: ppid }
 }
 
 /// A fork that begins a life gives it what the caller holds.
-pub fn fork_change(
-    procs: &Procs,
-    fds: &Fds,
-    acting: &Acting,
-    child: u32,
-) -> Result<Change, NoMemory>
-    ensures { (acts : List Act) → IsActing procs.now fds.now acting.now acts → IfOk result (λ change. DoesAs change acts (act.Fork acting.now.pid child)) }
+pub fn fork_change(procs: &Procs, acting: &Acting, child: u32) -> Change
+    ensures { (fds : Fds) (acts : List Act) → IsActing procs.now fds acting.now acts
+        → DoesAs result acts (act.Fork acting.now.pid child) }
 {
     forks_hand_on();
     if child == acting.pid || is_awaiting(procs, child, acting.pid) {
-        return Ok(Change::Nothing);
+        return Change::Nothing;
     }
-    Ok(Change::Give {
+    Change::Share {
         pid: child,
-        entries: fds.copies(acting.holder)?,
-    })
+        parent: acting.pid,
+    }
 }
 
 // Whether a pid is live and awaits this parent.
@@ -111,7 +105,7 @@ pub fn copy_change(
     ensures { (procs : Table) (acts : List Act) → IsActing procs fds.now acting.now acts → IfOk result (λ change. DoesAs change acts (act.Copy acting.now.pid from to cloexec)) }
 {
     let object = match fds.held(acting.holder, from) {
-        Some(held) => held.object.copy()?,
+        Some(object) => object.copy()?,
         None => Object::File(Key::Lost {
             pid: acting.pid,
             life: acting.life,
@@ -130,11 +124,8 @@ fn socket_at(fds: &Fds, acting: &Acting, fd: u32) -> Option<u64>
     ensures { (procs : Table) (acts : List Act) → IsActing procs fds.now acting.now acts → result ≡ socket_held (holds acts acting.now.pid fd) }
 {
     match fds.held(acting.holder, fd) {
-        Some(held) => match held.object {
-            Object::Sock(act) => Some(act),
-            _ => None,
-        },
-        None => None,
+        Some(Object::Sock(act)) => Some(*act),
+        _ => None,
     }
 }
 

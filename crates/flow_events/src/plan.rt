@@ -1,6 +1,6 @@
 //! What an event will do, with all the memory for it.
 ghost use Rattle.std.specs.Prelude.{◌≡◌, ◌≤◌, ℕ, IfOk, reverse};
-ghost use Rattle.fd_table.specs.Table.{address_at};
+ghost use Rattle.fd_table.specs.Table.{address_at, HoldsTheSame};
 ghost use Rattle.flow_events.specs.Standing.{readdressed, addresses_in};
 
 use crate::change::Change;
@@ -98,7 +98,7 @@ impl Plan {
 pub fn readdress(fds: &mut Fds, address: Option<NewAddress>)
     requires room { addresses_in address ≤ fds.old.address_spare }
     ensures addresses { (s : ℕ) → address_at fds.new s ≡ readdressed address (address_at fds.old) s }
-    ensures held { fds.new.held ≡ fds.old.held }
+    ensures held { HoldsTheSame fds.old fds.new }
 {
     if let Some(new) = address {
         fds.set_address(new.socket, new.bytes);

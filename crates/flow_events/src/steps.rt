@@ -157,7 +157,7 @@ pub fn change_of(
         Act::Exec { .. } => Ok(Change::Exec { pid }),
         Act::End { .. } => Ok(Change::Clear { pid }),
         Act::Address { fd, .. } => Ok(address_change(fds, acting, *fd, number)),
-        Act::Fork { child, .. } => fork_change(procs, fds, acting, *child),
+        Act::Fork { child, .. } => Ok(fork_change(procs, acting, *child)),
     }
 }
 

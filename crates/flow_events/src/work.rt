@@ -65,7 +65,7 @@ pub fn begin(
     ensures full { (full : Full) → result ≡ Err (fault.Full full) → (before : List Taken) → Grounded ground.now before → IsPast ground.now.most full (objects (act.See pid ppid exe.now ∷ acts_of before)) }
 {
     let acting = see_acting(ground.procs, pid, ppid);
-    let see = see_change(ground.procs, ground.fds, pid, ppid)?;
+    let see = see_change(ground.procs, pid, ppid);
     let mut draft = Draft::start(ground.alloc, more)?;
     draft.see(ground, &acting, ppid, exe)?;
     Ok(Begun { acting, see, draft })

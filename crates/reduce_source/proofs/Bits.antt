@@ -1,55 +1,36 @@
--- The words of a column by their bits.
-use Rattle.std.proofs.Common.{◌≡◌, ◌≢◌, ℕ, ◌-◌, ◌*◌, ◌%◌, ◌^◌, ◌<◌, ◌≤◌, ◌↔◌, ◌⊎◌, min, max, List, length, get_or, set, true, false, sym, ap, ◌∙◌, arith, inl, inr, bit_and, bit_or, w64}
+-- Words by their bits.
+use Rattle.std.proofs.Common.{◌≡◌, ◌≢◌, ℕ, ◌-◌, ◌*◌, ◌%◌, ◌^◌, ◌<◌, ◌≤◌, ◌↔◌, ◌⊎◌, min, List, length, get_or, set, true, false, sym, ap, ◌∙◌, arith, inl, inr, bit_and, bit_or, w64}
 use Rattle.std.specs.Prelude.{nat_eq}
 use Rattle.std.specs.Int.{bit_at, bit_not}
 use Rattle.std.proofs.lemmas.Bool.{cases_eq, eqb-true, eqb-false}
 use Rattle.std.proofs.lemmas.List.{get_or_default, get_or-set_same, get_or-set_other}
 use Rattle.std.proofs.lemmas.Nat.{and_le_l}
-use Rattle.std.proofs.lemmas.Nat.Bits.{bit_at_and, bit_at_or, bit_at_not, bit_at-zero, bit_at-lt, bit_at_set_same, bit_at_set_other, bit_at-trailing_zeros}
-use Rattle.reduce_source.specs.Columns.{HasBit}
+use Rattle.std.proofs.lemmas.Nat.Bits.{bit_at_and, bit_at_not, bit_at-zero, bit_at-lt, bit_at_set_same, bit_at_set_other, bit_at-trailing_zeros}
 
--- a word that takes the bits of another one in
-pub or_bits : (column : List ℕ) (into x w : ℕ) → into < length column → x ≡ get_or column into x → (v j : ℕ)
-    → HasBit (set column into (bit_or x w)) v j ↔ (HasBit column v j ⊎ ((v ≡ into) × (bit_at w j ≡ 1)))
-or_bits column into x w h e v j = elim (cases_eq v into) [
-  | inl s ↦
-      let old : get_or column v 0 ≡ x = ap (λ i. get_or column i 0) s ∙ get_or_default column into 0 x h ∙ sym e in
-      let new : get_or (set column into (bit_or x w)) v 0 ≡ bit_or x w = ap (λ i. get_or (set column into (bit_or x w)) i 0) s ∙ get_or-set_same column into (bit_or x w) 0 h in
-      let both : bit_at (get_or (set column into (bit_or x w)) v 0) j ≡ max (bit_at (get_or column v 0) j) (bit_at w j) =
-      ap (λ n. bit_at n j) new ∙ bit_at_or x w j ∙ ap (λ n. max (bit_at n j) (bit_at w j)) (sym old) in
-      either s (bit_at (get_or (set column into (bit_or x w)) v 0) j) (bit_at (get_or column v 0) j) (bit_at w j) both (bit_at-lt (get_or column v 0) j) (bit_at-lt w j)
-  | inr n ↦
-      let same : get_or (set column into (bit_or x w)) v 0 ≡ get_or column v 0 = get_or-set_other column into v (bit_or x w) 0 n in
-      let bit : bit_at (get_or (set column into (bit_or x w)) v 0) j ≡ bit_at (get_or column v 0) j = ap (λ n. bit_at n j) same in
-      (λ t. inl (sym bit ∙ t), λ o. elim o [ inl t ↦ bit ∙ t | inr p ↦ absurd (n p.0) ])
-]
-  where
-    either : v ≡ into → (a b c : ℕ) → a ≡ max b c → b < 2 → c < 2 → (a ≡ 1) ↔ ((b ≡ 1) ⊎ ((v ≡ into) × (c ≡ 1)))
-    either s a b c m hb hc = (
-      λ t. elim (cases_eq b 1) [ inl o ↦ inl o | inr n ↦ inr (s, omega arith) ],
-      λ o. elim o [ inl t ↦ omega arith | inr p ↦ let one : c ≡ 1 = p.1 in omega arith ],
-    )
+-- the word at a place has a bit
+abbrev pub HasBitAt : List ℕ → ℕ → ℕ → Type 0
+HasBitAt words place bit = bit_at (get_or words place 0) bit ≡ 1
 
 -- a word that takes one bit in
-pub mark_bits : (column : List ℕ) (object x bit : ℕ) → object < length column → bit < 64 → x ≡ get_or column object x → (v j : ℕ)
-    → HasBit (set column object (bit_or x (1 * 2 ^ bit % 18446744073709551616))) v j ↔ (HasBit column v j ⊎ ((v ≡ object) × (j ≡ bit)))
-mark_bits column object x bit h low e v j =
+pub mark_bits : (words : List ℕ) (object x bit : ℕ) → object < length words → bit < 64 → x ≡ get_or words object x → (v j : ℕ)
+    → HasBitAt (set words object (bit_or x (1 * 2 ^ bit % 18446744073709551616))) v j ↔ (HasBitAt words v j ⊎ ((v ≡ object) × (j ≡ bit)))
+mark_bits words object x bit h low e v j =
     let w = bit_or x (1 * 2 ^ bit % 18446744073709551616) in
     elim (cases_eq v object) [
       | inl s ↦
-          let old : get_or column v 0 ≡ x = ap (λ i. get_or column i 0) s ∙ get_or_default column object 0 x h ∙ sym e in
-          let new : get_or (set column object w) v 0 ≡ w = ap (λ i. get_or (set column object w) i 0) s ∙ get_or-set_same column object w 0 h in
+          let old : get_or words v 0 ≡ x = ap (λ i. get_or words i 0) s ∙ get_or_default words object 0 x h ∙ sym e in
+          let new : get_or (set words object w) v 0 ≡ w = ap (λ i. get_or (set words object w) i 0) s ∙ get_or-set_same words object w 0 h in
           elim (cases_eq j bit) [
             | inl b ↦
-                let one : bit_at (get_or (set column object w) v 0) j ≡ 1 = ap (λ n. bit_at n j) new ∙ ap (bit_at w) b ∙ bit_at_set_same w64 x bit low in
+                let one : bit_at (get_or (set words object w) v 0) j ≡ 1 = ap (λ n. bit_at n j) new ∙ ap (bit_at w) b ∙ bit_at_set_same w64 x bit low in
                 (λ t. inr (s, b), λ o. one)
             | inr n ↦
-                let same : bit_at (get_or (set column object w) v 0) j ≡ bit_at (get_or column v 0) j =
+                let same : bit_at (get_or (set words object w) v 0) j ≡ bit_at (get_or words v 0) j =
                 ap (λ n. bit_at n j) new ∙ bit_at_set_other w64 x bit low j n ∙ ap (λ n. bit_at n j) (sym old) in
                 (λ t. inl (sym same ∙ t), λ o. elim o [ inl t ↦ same ∙ t | inr p ↦ absurd (n p.1) ])
           ]
       | inr n ↦
-          let same : bit_at (get_or (set column object w) v 0) j ≡ bit_at (get_or column v 0) j = ap (λ n. bit_at n j) (get_or-set_other column object v w 0 n) in
+          let same : bit_at (get_or (set words object w) v 0) j ≡ bit_at (get_or words v 0) j = ap (λ n. bit_at n j) (get_or-set_other words object v w 0 n) in
           (λ t. inl (sym same ∙ t), λ o. elim o [ inl t ↦ same ∙ t | inr p ↦ absurd (n p.0) ])
     ]
 

@@ -8,7 +8,7 @@ use Rattle.reach_model.specs.Sources.{first_at, touches, IsSource}
 use Rattle.reach_model.specs.SourceSets.{HasSource, HasSourceAfter, MakesSource, IsLater}
 use Rattle.reach_model.proofs.FirstFlows.{first_push, first_apart, first_new, first_stays, source_stays, touched, touches_source, touches_target}
 use Rattle.reach_model.proofs.SourceSets.{sources_after}
-use Rattle.reduce_source.specs.Columns.{HasNumber}
+use Rattle.reduce_source.specs.Shelves.{HasNumber}
 use Rattle.reduce_source.specs.Sets.{StandsFor, IsStanding, IsNumber, standing_of, first_given, count_after}
 use Rattle.reduce_source.specs.declared.standing.Standing.{Standing}
 use Rattle.reduce_source.specs.declared.standing.Standing.TheVariants.{Unknown, Entered, Source}
@@ -52,8 +52,8 @@ count_grows (Source m) n = omega arith
 pub record Joins (u v : ℕ) (old new : SourceSets) (standing : ℕ → Standing) (has : ℕ → ℕ → Type 0) : Type 0 where
   pub begun : (x : ℕ) → standing x ≡ cond (u == x) (first_given (standing_of old x) (Source old.count)) (standing_of old x)
   pub entered : (x : ℕ) → standing_of new x ≡ cond (v == x) (first_given (standing x) Entered) (standing x)
-  pub marked : (w n : ℕ) → has w n ↔ (HasNumber old.columns.items w n ⊎ ((standing_of old u ≡ Unknown) × (w ≡ u) × (n ≡ old.count)))
-  pub joined : (w n : ℕ) → HasNumber new.columns.items w n ↔ (has w n ⊎ ((w ≡ v) × has u n))
+  pub marked : (w n : ℕ) → has w n ↔ (HasNumber old.shared w n ⊎ ((standing_of old u ≡ Unknown) × (w ≡ u) × (n ≡ old.count)))
+  pub joined : (w n : ℕ) → HasNumber new.shared w n ↔ (has w n ⊎ ((w ≡ v) × has u n))
   pub count : new.count ≡ count_after (standing_of old u) old.count
   pub places : length new.standings.items ≡ length old.standings.items
 
@@ -164,17 +164,17 @@ module _ (u v : ℕ) (old new : SourceSets) (standing : ℕ → Standing) (has :
     abbrev Named : ℕ → ℕ → Type 0
     Named w n = (x : ℕ) × IsNumber new x n × HasSource (K ++ f ∷ []) w x
 
-    old_named : (w n : ℕ) → HasNumber old.columns.items w n → Named w n
+    old_named : (w n : ℕ) → HasNumber old.shared w n → Named w n
     old_named w n h = let r = (s.sets w n).0 h in (r.0, number_stays r.0 n r.1, (after w r.0).1 (inl r.2))
 
-    taken_named : (w n : ℕ) → w ≡ v → HasNumber old.columns.items u n → Named w n
+    taken_named : (w n : ℕ) → w ≡ v → HasNumber old.shared u n → Named w n
     taken_named w n e h = let r = (s.sets u n).0 h in
         (r.0, number_stays r.0 n r.1, (after w r.0).1 (inr (inr (e ∙ sym ev, subst (λ y. HasSource K y r.0) (sym eu) r.2))))
 
     new_named : (w n : ℕ) → standing_of old u ≡ Unknown → n ≡ old.count → (w ≡ source f) ⊎ (w ≡ target f) → Named w n
     new_named w n unknown e at = (u, number_new unknown n e, (after w u).1 (inr (inl (makes unknown, at))))
 
-    named : (w n : ℕ) → HasNumber new.columns.items w n → Named w n
+    named : (w n : ℕ) → HasNumber new.shared w n → Named w n
     named w n h = elim ((j.joined w n).0 h) [
       | inl m ↦ elim ((j.marked w n).0 m) [
         | inl o ↦ old_named w n o
@@ -200,7 +200,7 @@ module _ (u v : ℕ) (old new : SourceSets) (standing : ℕ → Standing) (has :
       | inr p ↦ (p.0, p.2)
     ]
 
-    has_number : (w n : ℕ) → Named w n → HasNumber new.columns.items w n
+    has_number : (w n : ℕ) → Named w n → HasNumber new.shared w n
     has_number w n (x, num, h) = elim ((after w x).0 h) [
       | inl o ↦ (j.joined w n).1 (inl ((j.marked w n).1 (inl ((s.sets w n).1 (x, was_number x n o.0 num, o)))))
       | inr other ↦ elim other [

@@ -1,5 +1,7 @@
 pub mod Bits
-pub mod Loops
+pub mod BlockBits
+pub mod Shelves
+pub mod SetBits
 pub mod Numbers
 pub mod SetLemmas
 pub mod Listing

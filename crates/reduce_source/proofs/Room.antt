@@ -1,9 +1,10 @@
 -- The room that is left after a union.
-use Rattle.std.proofs.Common.{◌≡◌, ℕ, zero, suc, ◌+◌, ◌<◌, ◌≤◌, List, [], ◌∷◌, length, refl, sym, subst, arith}
+use Rattle.std.proofs.Common.{◌≡◌, ℕ, zero, suc, ◌+◌, ◌*◌, ◌<◌, ◌≤◌, List, [], ◌∷◌, length, get_or, refl, sym, subst, ap, arith}
 use Rattle.std.specs.List.{Contains}
 use Rattle.flow_base.specs.declared.types.Flow.{Flow}
 use Rattle.reach_model.specs.Flows.{source, target}
-use Rattle.reduce_source.specs.Columns.{AreLong}
+use Rattle.std.specs.Vec.{vec_len}
+use Rattle.reduce_source.specs.Shelves.{IsAsWide}
 use Rattle.reduce_source.specs.Sets.{HasRoom, IsBetween, count_after}
 use Rattle.reduce_source.specs.declared.standing.Standing.{Standing}
 use Rattle.reduce_source.specs.declared.standing.Standing.TheVariants.{Unknown, Entered, Source}
@@ -15,29 +16,59 @@ ends_fit s f rest u v r b =
     let e = r.ends f (0, omega arith, refl) in
     (subst (λ x. x < length s.standings.items) b.0 e.0, subst (λ x. x < length s.standings.items) b.1 e.1)
 
+-- the sets of the ends of the next flow are wide
+pub wide_ends : (s : SourceSets) (f : Flow) (rest : List Flow) (u v : ℕ) → HasRoom s (f ∷ rest) → IsBetween f u v
+    → (s.shared.width ≤ length (get_or s.shared.sets.items u [])) × (s.shared.width ≤ length (get_or s.shared.sets.items v []))
+wide_ends s f rest u v r b =
+    let w = r.wide f (0, omega arith, refl) in
+    (subst (λ x. s.shared.width ≤ length (get_or s.shared.sets.items x [])) b.0 w.0, subst (λ x. s.shared.width ≤ length (get_or s.shared.sets.items x [])) b.1 w.1)
+
 -- at most one number is used up
 count_bound : (o : Standing) (n : ℕ) → count_after o n ≤ n + 1
 count_bound Unknown n = omega arith
 count_bound Entered n = omega arith
 count_bound (Source m) n = omega arith
 
+by_parts : (n m : ℕ) → suc n * m ≡ n * m + m
+by_parts n m = omega arith
+
 pub room_left : (old new : SourceSets) (o : Standing) → new.count ≡ count_after o old.count → length new.standings.items ≡ length old.standings.items
-    → length new.columns.items ≡ length old.columns.items → ((objects : ℕ) → AreLong old.columns.items objects → AreLong new.columns.items objects)
+    → IsAsWide old.shared new.shared → vec_len new.shared.blocks ≤ vec_len old.shared.blocks + (old.shared.width + 1)
     → (f : Flow) (rest : List Flow) → HasRoom old (f ∷ rest) → HasRoom new rest
-room_left old new o count places columns long f rest r = record {
+room_left old new o count places wide used f rest r = record {
   ends = λ g c. let e = r.ends g (suc c.0, omega (arith, c.1), c.2) in (subst (λ n. source g < n) (sym places) e.0, subst (λ n. target g < n) (sym places) e.1);
-  words = subst (AreLong new.columns.items) (sym places) (long (length old.standings.items) r.words);
-  numbers = let b = count_bound o old.count in let n = r.numbers in omega arith;
+  objects = let a = r.objects in let b = wide.objects in omega (arith, a, b, places);
+  wide = λ g c.
+      let w = r.wide g (suc c.0, omega (arith, c.1), c.2) in
+      let a = wide.places (source g) in
+      let b = wide.places (target g) in
+      let e = wide.width in
+      (omega (arith, w.0, a, e), omega (arith, w.1, b, e));
+  numbers = let b = count_bound o old.count in let n = r.numbers in let e = wide.width in omega (arith, b, n, e, count);
   counted = let b = count_bound o old.count in let n = r.counted in omega arith;
+  blocks =
+      let b = r.blocks in
+      let e = by_parts (length rest) (old.shared.width + 1) in
+      let p : length rest * (new.shared.width + 1) ≡ length rest * (old.shared.width + 1) = ap (λ w. length rest * (w + 1)) wide.width in
+      let c = wide.capacity in
+      omega (arith, b, e, p, c, used);
+  few =
+      let b = r.few in
+      let e = by_parts (length rest) (old.shared.width + 1) in
+      let p : length rest * (new.shared.width + 1) ≡ length rest * (old.shared.width + 1) = ap (λ w. length rest * (w + 1)) wide.width in
+      omega (arith, b, e, p, used);
 }
 
 -- room for flows is room for the first of them
 pub room_one : (s : SourceSets) (f : Flow) (rest : List Flow) → HasRoom s (f ∷ rest) → HasRoom s (f ∷ [])
 room_one s f rest r = record {
   ends = λ g c. r.ends g (first g c);
-  words = r.words;
+  objects = r.objects;
+  wide = λ g c. r.wide g (first g c);
   numbers = let n = r.numbers in omega arith;
   counted = let n = r.counted in omega arith;
+  blocks = let b = r.blocks in let e = by_parts (length rest) (s.shared.width + 1) in omega (arith, b, e);
+  few = let b = r.few in let e = by_parts (length rest) (s.shared.width + 1) in omega (arith, b, e);
 }
   where
     first : (g : Flow) → Contains (f ∷ []) g → Contains (f ∷ rest) g
@@ -46,4 +77,4 @@ room_one s f rest r = record {
 
 -- and for those after it
 pub room_rest : (s : SourceSets) (f : Flow) (rest : List Flow) → HasRoom s (f ∷ rest) → HasRoom s rest
-room_rest s f rest r = room_left s s Entered refl refl refl (λ objects l. l) f rest r
+room_rest s f rest r = room_left s s Entered refl refl (record { places = λ v. refl; objects = refl; capacity = refl; width = refl }) (omega arith) f rest r

@@ -4,7 +4,7 @@ use Rattle.flow_base.specs.declared.types.Flow.{Flow}
 use Rattle.reach_model.specs.Flows.{source}
 use Rattle.reach_model.specs.Sources.{first_at, IsSource}
 use Rattle.reach_model.specs.SourceSets.{HasSource}
-use Rattle.reduce_source.specs.Columns.{HasNumber}
+use Rattle.reduce_source.specs.Shelves.{HasNumber}
 use Rattle.reduce_source.specs.Sets.{StandsFor, IsStanding, IsNumber, standing_of}
 use Rattle.reduce_source.specs.declared.standing.Standing.{Standing}
 use Rattle.reduce_source.specs.declared.standing.Standing.TheVariants.{Unknown, Entered, Source}
@@ -24,7 +24,7 @@ numbered s K x is src = by (standing_of s x) refl is
     by (Source n) e is = (n, e)
 
 -- where the numbers of one object are numbers of another, so are its sources
-pub within_sets : (s : SourceSets) (K : List Flow) → StandsFor s K → (u v : ℕ) → ((n : ℕ) → HasNumber s.columns.items u n → HasNumber s.columns.items v n)
+pub within_sets : (s : SourceSets) (K : List Flow) → StandsFor s K → (u v : ℕ) → ((n : ℕ) → HasNumber s.shared u n → HasNumber s.shared v n)
     → (x : ℕ) → HasSource K u x → HasSource K v x
 within_sets s K st u v w x h =
     let num = numbered s K x (st.standings x) h.0 in
@@ -32,14 +32,14 @@ within_sets s K st u v w x h =
     subst (HasSource K v) (st.apart r.0 x num.0 r.1 num.1) r.2
 
 -- a number that one object alone has is a source that it alone has
-pub missing_source : (s : SourceSets) (K : List Flow) → StandsFor s K → (u v n : ℕ) → HasNumber s.columns.items u n → ¬ HasNumber s.columns.items v n
+pub missing_source : (s : SourceSets) (K : List Flow) → StandsFor s K → (u v n : ℕ) → HasNumber s.shared u n → ¬ HasNumber s.shared v n
     → (x : ℕ) × HasSource K u x × ¬ HasSource K v x
 missing_source s K st u v n has lacks =
     let r = (st.sets u n).0 has in
     (r.0, r.2, λ h. lacks ((st.sets v n).1 (r.0, r.1, h)))
 
 -- tables with the same standings and numbers say the same
-pub same_tables : (old new : SourceSets) (K : List Flow) → ((x : ℕ) → standing_of new x ≡ standing_of old x) → ((v n : ℕ) → HasNumber new.columns.items v n ↔ HasNumber old.columns.items v n)
+pub same_tables : (old new : SourceSets) (K : List Flow) → ((x : ℕ) → standing_of new x ≡ standing_of old x) → ((v n : ℕ) → HasNumber new.shared v n ↔ HasNumber old.shared v n)
     → new.count ≡ old.count → (length old.standings.items ≤ 2 ^ 32 → length new.standings.items ≤ 2 ^ 32) → StandsFor old K → StandsFor new K
 same_tables old new K same numbers count places s = record {
   standings = λ x. subst (IsStanding K x) (sym (same x)) (s.standings x);

@@ -1,4 +1,7 @@
-pub mod Columns
+pub mod BitsOf
+pub mod Blocks
 pub mod Counts
+pub mod IdLists
 pub mod Sets
+pub mod Shelves
 pub mod Tables

@@ -5,7 +5,8 @@ use Rattle.flow_base.specs.declared.types.Flow.{Flow}
 use Rattle.reach_model.specs.Flows.{source, target}
 use Rattle.reach_model.specs.Sources.{first_at, IsSource}
 use Rattle.reach_model.specs.SourceSets.{HasSource}
-use Rattle.reduce_source.specs.Columns.{HasNumber, AreLong}
+use Rattle.std.specs.Vec.{vec_len, vec_capacity}
+use Rattle.reduce_source.specs.Shelves.{HasNumber, IsWide}
 use Rattle.reduce_source.specs.declared.standing.Standing.{Standing}
 use Rattle.reduce_source.specs.declared.standing.Standing.TheVariants.{Unknown, Entered, Source}
 use Rattle.reduce_source.specs.declared.sets.SourceSets.{SourceSets}
@@ -40,21 +41,25 @@ standing_of s x = standing_at s.standings.items x
 abbrev pub IsNumber : SourceSets → ℕ → ℕ → Type 0
 IsNumber s x n = standing_of s x ≡ Source n
 
--- the tables are those of the kept flows K: they know the sources of K, each by a number of its own, the set of an object has
--- the numbers of its sources, and no object is past the ids
+-- the tables are those of the kept flows K: they know the sources of K, each by a number of its
+-- own, the set of an object has the numbers of its sources, and no object is past the ids
 pub record StandsFor (s : SourceSets) (K : List Flow) : Type 0 where
   pub standings : (x : ℕ) → IsStanding K x (standing_of s x)
   pub below : (x n : ℕ) → IsNumber s x n → n < s.count
   pub apart : (x y n : ℕ) → IsNumber s x n → IsNumber s y n → x ≡ y
-  pub sets : (v n : ℕ) → HasNumber s.columns.items v n ↔ ((x : ℕ) × IsNumber s x n × HasSource K v x)
+  pub sets : (v n : ℕ) → HasNumber s.shared v n ↔ ((x : ℕ) × IsNumber s x n × HasSource K v x)
   pub places : length s.standings.items ≤ 2 ^ 32
 
--- room for these flows: a place for each of their ends, and a number for a source each
+-- room for these flows: a place for each of their ends, a number for a source each, and blocks for
+-- a union each
 pub record HasRoom (s : SourceSets) (flows : List Flow) : Type 0 where
   pub ends : (f : Flow) → Contains flows f → (source f < length s.standings.items) × (target f < length s.standings.items)
-  pub words : AreLong s.columns.items (length s.standings.items)
-  pub numbers : s.count + length flows ≤ 64 * length s.columns.items
+  pub objects : length s.standings.items ≤ length s.shared.sets.items
+  pub wide : (f : Flow) → Contains flows f → IsWide s.shared f
+  pub numbers : s.count + length flows ≤ 1024 * s.shared.width
   pub counted : s.count + length flows < 2 ^ 64
+  pub blocks : vec_len s.shared.blocks + length flows * (s.shared.width + 1) ≤ vec_capacity s.shared.blocks
+  pub few : vec_len s.shared.blocks + length flows * (s.shared.width + 1) < 2 ^ 32
 
 -- f goes from u to v
 abbrev pub IsBetween : Flow → ℕ → ℕ → Type 0

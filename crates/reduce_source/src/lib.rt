@@ -1,15 +1,17 @@
-//! Source mode: a flow is dropped where each source that reaches its source reaches its target already.
+//! Source mode: a flow is dropped if each source that reaches its source reaches its target already.
 //!
-//! A source is an object whose first flow leaves it. Its number is its place among the sources in the order of their first
-//! flows. The set of an object has a bit for each of these numbers, in columns of 64: a column is one word for each object.
-//! So a question about two objects, or the union of their sets, goes over two words a column, and a further source makes
-//! no set move. The words are as many as objects times columns, which grows no faster than flows times sources over 64.
+//! A source is an object whose first flow leaves it. Its number is its place among the sources in
+//! the order of their first flows. The set of an object has a bit for each of these numbers, in
+//! blocks of 1,024 bits. Sets share blocks, and a block is never changed: a union takes over the
+//! other set's block wherever that has the bits of both, and makes a new one only if neither has.
 #![tactic(auto)]
 
-mod column;
-mod columns;
+mod block;
+mod blocks;
+mod ids;
 mod laws;
 mod sets;
+mod shared;
 mod sources;
 mod standing;
 

@@ -1,17 +1,17 @@
 //! The sets of sources over a list of kept flows.
-ghost use Rattle.std.specs.Prelude.{◌≡◌, ◌≢◌, ◌↔◌, ◌⊎◌, ◌==◌, ◌+◌, ◌*◌, ◌^◌, ◌<◌, ◌≤◌, ◌∷◌, ◌++◌, [], ℕ, List, false, true, cond, length, IfOk, IsTrue, None, OnOk};
+ghost use Rattle.std.specs.Prelude.{◌≡◌, ◌≢◌, ◌↔◌, ◌⊎◌, ◌==◌, ◌+◌, ◌-◌, ◌/◌, ◌^◌, ◌<◌, ◌≤◌, ◌∷◌, ◌++◌, [], ℕ, List, false, true, cond, length, slice_index_or, IfOk, IsTrue, None, OnOk};
 ghost use Rattle.std.specs.List.{Contains};
 ghost use Rattle.flow_base.specs.declared.types.Flow.{Flow as AFlow};
 ghost use Rattle.reach_model.specs.Ids.{IsAscending, numbers};
 ghost use Rattle.reach_model.specs.Numbers.{known};
 ghost use Rattle.reach_model.specs.SourceSets.{HasSource, IsLater};
 ghost use Rattle.reach_model.specs.Sources.{first_at};
-ghost use Rattle.reduce_source.specs.Columns.{AreAsLong, AreLong, HasNumber};
+ghost use Rattle.std.specs.Vec.{vec_len, vec_capacity};
+ghost use Rattle.reduce_source.specs.Shelves.{HasNumber, IsAsWide};
 ghost use Rattle.reduce_source.specs.Counts.{count_sources};
 ghost use Rattle.reduce_source.specs.declared.standing.Standing.TheVariants as variant;
 
-use crate::column::Column;
-use crate::columns;
+use crate::shared::Shared;
 use crate::standing::{self, Standing};
 use flow_base::{EntityId, Flow, List, NoMemory};
 use std::alloc::Global;
@@ -22,7 +22,7 @@ const IDS: usize = 1 << 32;
 /// The set of the sources of each object, and how many sources there are.
 #[derive(Drop)]
 pub struct SourceSets {
-    columns: Vec<Column>,
+    shared: Shared,
     standings: Vec<Standing>,
     count: u64,
     ghost counted: { count ≡ count_sources standings.items },
@@ -37,7 +37,7 @@ impl SourceSets {
         ensures standings { (x : ℕ) → standing_of result x ≡ variant.Unknown }
     {
         SourceSets {
-            columns: Vec::new(alloc),
+            shared: Shared::new(alloc),
             standings: Vec::new(alloc),
             count: 0,
         }
@@ -46,7 +46,8 @@ impl SourceSets {
     /// Whether an object has a flow.
     pub fn is_known(&self, id: EntityId) -> bool
         ensures standing { (result ≡ false) ↔ (standing_of self.now id.0 ≡ variant.Unknown) }
-        ensures first { (K : List AFlow) → StandsFor self.now K → (result ≡ false) ↔ (first_at K id.0 ≡ None) }
+        ensures first { (K : List AFlow) → StandsFor self.now K
+            → (result ≡ false) ↔ (first_at K id.0 ≡ None) }
     {
         match standing::standing_of(&self.standings, id.0 as usize) {
             Standing::Unknown => false,
@@ -57,21 +58,22 @@ impl SourceSets {
 
     /// Whether one object is a source of another.
     pub fn is_source_of(&self, source: EntityId, id: EntityId) -> bool
-        ensures { (K : List AFlow) → StandsFor self.now K → IsTrue result ↔ HasSource K id.0 source.0 }
+        ensures { (K : List AFlow) → StandsFor self.now K
+            → IsTrue result ↔ HasSource K id.0 source.0 }
     {
         match standing::standing_of(&self.standings, source.0 as usize) {
             Standing::Unknown => false,
             Standing::Entered => false,
-            Standing::Source { number } => {
-                columns::has_number(&self.columns, id.0 as usize, number)
-            }
+            Standing::Source { number } => { self.shared.has_number(id.0 as usize, number) }
         }
     }
 
     /// The sources of an object, in ascending order. An object without flows has none.
     pub fn of(&self, alloc: Global, id: EntityId) -> Result<List<EntityId>, NoMemory>
         ensures ascend { IfOk result (λ ids. IsAscending (numbers ids)) }
-        ensures exact { IfOk result (λ ids. (K : List AFlow) → StandsFor self.now K → (x : ℕ) → Contains (numbers ids) x ↔ HasSource K id.0 x) }
+        ensures exact { IfOk result
+            (λ ids. (K : List AFlow) → StandsFor self.now K → (x : ℕ)
+            → Contains (numbers ids) x ↔ HasSource K id.0 x) }
     {
         let mut sources = List::new(alloc);
         for place in 0..self.standings.len().min(IDS) {
@@ -85,10 +87,12 @@ impl SourceSets {
 
     /// Whether each source of one object is one of another.
     pub fn covers(&self, large: EntityId, small: EntityId) -> bool
-        ensures yes { (K : List AFlow) → StandsFor self.now K → result ≡ true → (x : ℕ) → HasSource K small.0 x → HasSource K large.0 x }
-        ensures no { (K : List AFlow) → StandsFor self.now K → result ≡ false → (x : ℕ) × HasSource K small.0 x × ¬ HasSource K large.0 x }
+        ensures yes { (K : List AFlow) → StandsFor self.now K → result ≡ true → (x : ℕ)
+            → HasSource K small.0 x → HasSource K large.0 x }
+        ensures no { (K : List AFlow) → StandsFor self.now K → result ≡ false
+            → (x : ℕ) × HasSource K small.0 x × ¬ HasSource K large.0 x }
     {
-        columns::is_within(&self.columns, small.0 as usize, large.0 as usize)
+        self.shared.is_within(small.0 as usize, large.0 as usize)
     }
 
     /// Makes room for the unions that these flows can ask for.
@@ -97,44 +101,60 @@ impl SourceSets {
         ensures same { (K : List AFlow) → StandsFor self.old K → StandsFor self.new K }
         ensures standings { (x : ℕ) → standing_of self.new x ≡ standing_of self.old x }
     {
-        let alloc = *self.columns.allocator();
+        let alloc = *self.standings.allocator();
         let numbers = self.count + flows.len() as u64;
         standing::grow(&mut self.standings, known_of(flows))?;
-        columns::widen(alloc, &mut self.columns, numbers.div_ceil(64))?;
-        columns::grow(&mut self.columns, self.standings.len())?;
+        self.shared.grow(alloc, self.standings.len())?;
+        self.shared.allow(numbers.div_ceil(1024) as usize);
+        self.shared.widen_ends(flows)?;
+        self.shared.make_room(flows.len())?;
         Ok(())
     }
 
-    /// Takes in a kept flow between two objects, in the room that was made for it: the one that it leaves is a source if it
-    /// has no flow yet, and its sources become sources of the one that it enters.
+    /// Takes in a kept flow between two objects, in the room that was made for it: the one that it
+    /// leaves is a source if it has no flow yet, and its sources become sources of the one that it
+    /// enters.
     pub fn union(&mut self, into: EntityId, with: EntityId)
         requires room { (f : AFlow) × IsBetween f with.0 into.0 × HasRoom self.old (f ∷ []) }
-        ensures next { (K : List AFlow) (f : AFlow) → IsBetween f with.0 into.0 → with.0 ≢ into.0 → IsLater K f → StandsFor self.old K → StandsFor self.new (K ++ f ∷ []) }
-        ensures others { (x : ℕ) → x ≢ into.0 → x ≢ with.0 → standing_of self.new x ≡ standing_of self.old x }
-        ensures rest { (f : AFlow) (rest : List AFlow) → HasRoom self.old (f ∷ rest) → HasRoom self.new rest }
+        ensures next { (K : List AFlow) (f : AFlow) → IsBetween f with.0 into.0 → with.0 ≢ into.0
+            → IsLater K f → StandsFor self.old K → StandsFor self.new (K ++ f ∷ []) }
+        ensures others { (x : ℕ) → x ≢ into.0 → x ≢ with.0
+            → standing_of self.new x ≡ standing_of self.old x }
+        ensures rest { (f : AFlow) (rest : List AFlow) → HasRoom self.old (f ∷ rest)
+            → HasRoom self.new rest }
     {
         let (into, with) = (into.0 as usize, with.0 as usize);
         self.begin(with);
         standing::see(&mut self.standings, into, Standing::Entered);
-        columns::join(&mut self.columns, into, with);
+        self.shared.join(into, with);
     }
 
     /// Makes an object a source of itself if it has no flow yet.
     fn begin(&mut self, object: usize)
         requires place { object < length self.old.standings.items }
-        requires words { AreLong self.old.columns.items (length self.old.standings.items) }
-        requires number { self.old.count < 64 * length self.old.columns.items }
+        requires set { object < length self.old.shared.sets.items }
+        requires number { self.old.count / 1024
+            < length (slice_index_or self.old.shared.sets.items object []) }
+        requires room { vec_len self.old.shared.blocks < vec_capacity self.old.shared.blocks }
+        requires few { vec_len self.old.shared.blocks < 2 ^ 32 - 1 }
         requires counted { self.old.count + 1 < 2 ^ 64 }
-        ensures standings { (x : ℕ) → standing_of self.new x ≡ cond (object == x) (first_given (standing_of self.old x) (variant.Source self.old.count)) (standing_of self.old x) }
-        ensures sets { (v n : ℕ) → HasNumber self.new.columns.items v n ↔ (HasNumber self.old.columns.items v n ⊎ ((standing_of self.old object ≡ variant.Unknown) × (v ≡ object) × (n ≡ self.old.count))) }
+        ensures standings { (x : ℕ)
+            → standing_of self.new x ≡
+            cond (object == x) (first_given (standing_of self.old x)
+            (variant.Source self.old.count)) (standing_of self.old x) }
+        ensures sets { (v n : ℕ) → HasNumber self.new.shared v n
+            ↔ (HasNumber self.old.shared v n
+            ⊎ ((standing_of self.old object ≡ variant.Unknown) × (v ≡ object)
+            × (n ≡ self.old.count))) }
         ensures count { self.new.count ≡ count_after (standing_of self.old object) self.old.count }
         ensures places { length self.new.standings.items ≡ length self.old.standings.items }
-        ensures words { AreAsLong self.old.columns.items self.new.columns.items }
+        ensures shape { IsAsWide self.old.shared self.new.shared }
+        ensures blocks { vec_len self.new.shared.blocks ≤ vec_len self.old.shared.blocks + 1 }
     {
         let number = self.count;
         let first = standing::see(&mut self.standings, object, Standing::Source { number });
         if first {
-            columns::mark(&mut self.columns, object, number);
+            self.shared.mark(object, number);
             self.count = number + 1;
         }
     }

@@ -31,8 +31,12 @@ pub fn standing_of(standings: &[Standing], object: usize) -> Standing
 pub fn see(standings: &mut Vec<Standing>, object: usize, standing: Standing) -> bool
     requires { object < length standings.old.items }
     ensures first { IsTrue result ↔ (standing_at standings.old.items object ≡ variant.Unknown) }
-    ensures standings { (x : ℕ) → standing_at standings.new.items x ≡ cond (object == x) (first_given (standing_at standings.old.items x) standing) (standing_at standings.old.items x) }
-    ensures sources { count_sources standings.new.items ≡ count_sources standings.old.items + cond result (one_if_source standing) 0 }
+    ensures standings { (x : ℕ)
+        → standing_at standings.new.items x
+        ≡ cond (object == x) (first_given (standing_at standings.old.items x) standing)
+        (standing_at standings.old.items x) }
+    ensures sources { count_sources standings.new.items
+        ≡ count_sources standings.old.items + cond result (one_if_source standing) 0 }
     ensures len { length standings.new.items ≡ length standings.old.items }
 {
     match standings[object] {
@@ -47,7 +51,8 @@ pub fn see(standings: &mut Vec<Standing>, object: usize, standing: Standing) -> 
 
 /// Makes places for so many objects.
 pub fn grow(standings: &mut Vec<Standing>, objects: usize) -> Result<(), NoMemory>
-    ensures room { OnOk result (length standings.new.items ≡ max (length standings.old.items) objects) }
+    ensures room { OnOk result
+        (length standings.new.items ≡ max (length standings.old.items) objects) }
     ensures most { length standings.new.items ≤ max (length standings.old.items) objects }
     ensures same { (x : ℕ) → standing_at standings.new.items x ≡ standing_at standings.old.items x }
     ensures sources { count_sources standings.new.items ≡ count_sources standings.old.items }

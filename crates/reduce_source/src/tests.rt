@@ -35,8 +35,8 @@ fn row_of(flow: &Flow) -> Row {
     }
 }
 
-/// Whether each of these flows in turn is kept, by tables that were carried through all of them, and by new tables that
-/// recall the rows each time.
+/// Whether each of these flows in turn is kept, by tables that were carried through all of them,
+/// and by new tables that recall the rows each time.
 fn kept(alloc: Global, steps: &[Step]) -> Result<(Vec<bool>, Vec<bool>), NoMemory> {
     let mut carried = Sources::new(alloc);
     let mut rows = Vec::new(alloc);
@@ -73,8 +73,8 @@ fn a_flow_is_kept_where_it_brings_its_target_a_source(rt: HostRuntime) -> Result
     let alloc = rt.alloc();
     // Flows, and whether each of them is kept.
     let cases: [(&[Step], &[bool]); 6] = [
-        // Before the third flow the objects 1 and 2 have one source each, another one. It brings 2 the source 0, and so
-        // the fourth flow brings it to 3.
+        // Before the third flow the objects 1 and 2 have one source each, another one. It brings 2
+        // the source 0, and so the fourth flow brings it to 3.
         (
             [(0, 1), (2, 3), (1, 2), (2, 3), (2, 3)].as_slice(),
             [true, true, true, true, false].as_slice(),
@@ -113,13 +113,14 @@ fn a_flow_is_kept_where_it_brings_its_target_a_source(rt: HostRuntime) -> Result
     Ok(())
 }
 
-/// The sets after a flow from each of the objects 2 to 71 into the object 1, which object 0 enters first.
+/// The sets after a flow from each of the objects 2 to 1,099 into the object 1, which a flow from
+/// the object 0 enters first.
 fn many_sources(alloc: Global) -> Result<SourceSets, NoMemory> {
     let mut sets = SourceSets::new(alloc);
     let first = flow_at((0, 1), 0);
     sets.reserve([first].as_slice())?;
     sets.union(first.to, first.from);
-    for from in 2..72u32 {
+    for from in 2..1100u32 {
         let flow = flow_at((from, 1), from as u64);
         sets.reserve([flow].as_slice())?;
         sets.union(flow.to, flow.from);
@@ -128,30 +129,30 @@ fn many_sources(alloc: Global) -> Result<SourceSets, NoMemory> {
 }
 
 #[test]
-fn a_set_has_more_sources_than_a_word_has_bits(rt: HostRuntime) -> Result<(), Fail> {
+fn a_set_has_more_sources_than_a_block_has_bits(rt: HostRuntime) -> Result<(), Fail> {
     let sets = many_sources(rt.alloc())?;
     // An object, another one, and whether the first is a source of the second.
     let cases = [
         (0u32, 1u32, true),
-        (64, 1, true),
-        (65, 1, true),
-        (71, 1, true),
-        (72, 1, false),
+        (1024, 1, true),
+        (1025, 1, true),
+        (1099, 1, true),
+        (1100, 1, false),
         (1, 1, false),
-        (71, 71, true),
-        (70, 71, false),
-        (0, 72, false),
+        (1099, 1099, true),
+        (1098, 1099, false),
+        (0, 1100, false),
     ];
     for (source, id, expected) in cases {
         assert_eq!(rt; sets.is_source_of(EntityId(source), EntityId(id)), expected);
     }
     // The larger of two objects, the smaller, and whether it has each of its sources.
     let covered = [
-        (1u32, 71u32, true),
-        (71, 1, false),
-        (71, 70, false),
-        (70, 72, true),
-        (72, 70, false),
+        (1u32, 1099u32, true),
+        (1099, 1, false),
+        (1099, 1098, false),
+        (1098, 1100, true),
+        (1100, 1098, false),
     ];
     for (large, small, expected) in covered {
         assert_eq!(rt; sets.covers(EntityId(large), EntityId(small)), expected);
@@ -159,7 +160,8 @@ fn a_set_has_more_sources_than_a_word_has_bits(rt: HostRuntime) -> Result<(), Fa
     Ok(())
 }
 
-/// The sets after flows from the objects 3 and 0 into the object 1, and from there into the object 2.
+/// The sets after flows from the objects 3 and 0 into the object 1, and from there into the object
+/// 2.
 fn two_sources(alloc: Global) -> Result<SourceSets, NoMemory> {
     let mut sets = SourceSets::new(alloc);
     let flows = [flow_at((3, 1), 0), flow_at((0, 1), 1), flow_at((1, 2), 2)];
@@ -192,7 +194,8 @@ fn the_sources_of_an_object_ascend(rt: HostRuntime) -> Result<(), Fail> {
 fn a_forward_question_needs_a_source(rt: HostRuntime) -> Result<(), Fail> {
     let sources = Sources::new(rt.alloc());
     let of = EntityId(0);
-    // A start, whether the object's first flow at time 1000 leaves it, and whether its forward question is answered.
+    // A start, whether the object's first flow at time 1000 leaves it, and whether its forward
+    // question is answered.
     let cases = [
         (None, true, true),
         (None, false, false),

@@ -11,3 +11,8 @@ pub returns-in-Address : goal.returns-in-Address
 returns-in-Address c = λ before now born acting number.
     let of : c.in-Address.pid ≡ c.args.acting.now.pid = subst (λ act. IsOf c.args.acting.now.pid act) c.in-Address.is c.requires.of in
     rw (c.in-Address.is, of) (c.address_change.ensures c.args.procs.now (now ++ before) c.in-Address.bytes acting number)
+
+pub returns-in-Fork : goal.returns-in-Fork
+returns-in-Fork c = λ before now born acting number.
+    let of : c.in-Fork.pid ≡ c.args.acting.now.pid = subst (λ act. IsOf c.args.acting.now.pid act) c.in-Fork.is c.requires.of in
+    rw (c.in-Fork.is, of) (c.fork_change.ensures c.args.fds.now (now ++ before) acting)

@@ -18,19 +18,19 @@ returns-clause-way c = λ before stands.
     let life = seen.life (acts_of before) exe stands.lives_are in
     let start = c.in_ok-draft.ensures in
     way_begun ground acting c.see.new.self before c.args.pid c.args.ppid exe stands seen.pid life (seen.held (acts_of before) exe stands.lives_are stands.admitted)
-    (c.in_ok-see-2.ensures.next before stands.flows_are stands.lives_are
+    (c.in_ok-see.ensures.next before stands.flows_are stands.lives_are
     (subst (λ p. life_of (See p c.args.ppid exe ∷ acts_of before) p ≡ acting.life) (sym seen.pid) life)
     (drafted_nothing ground c.in_ok-draft.draft before stands start.births start.given start.added))
 
 pub returns-clause-see : goal.returns-clause-see
-returns-clause-see c = λ before stands. c.in_ok-see.ensures (acts_of before) c.args.exe.now stands.lives_are stands.held_are stands.admitted
+returns-clause-see c = λ before stands. c.see_change-see.ensures (acts_of before) c.args.exe.now stands.lives_are stands.admitted
 
-pub returns-in_err-see-2-clause-full : goal.returns-in_err-see-2-clause-full
-returns-in_err-see-2-clause-full c =
-    let p = err_from_is_err_and c.from_residual-in_err-see-2.result c.from_residual-in_err-see-2.ensures.1 in
+pub returns-in_err-see-clause-full : goal.returns-in_err-see-clause-full
+returns-in_err-see-clause-full c =
+    let p = err_from_is_err_and c.from_residual-in_err-see.result c.from_residual-in_err-see.ensures.1 in
     rw (p.1, p.2) (λ full is before stands.
     let ground = c.args.ground.now in
     let seen = c.see_acting-acting.ensures in
     let start = c.in_ok-draft.ensures in
     subst (λ pid. IsPast ground.most full (objects (See pid c.args.ppid c.args.exe.now ∷ acts_of before))) seen.pid
-    (c.in_err-see-2.ensures.full full (ap Err (ap (error_or (fault.Full full)) is)) before stands.lives_are (drafted_nothing ground c.in_ok-draft.draft before stands start.births start.given start.added)))
+    (c.in_err-see.ensures.full full (ap Err (ap (error_or (fault.Full full)) is)) before stands.lives_are (drafted_nothing ground c.in_ok-draft.draft before stands start.births start.given start.added)))

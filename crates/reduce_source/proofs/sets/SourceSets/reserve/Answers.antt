@@ -1,40 +1,74 @@
-use Rattle.std.proofs.Common.{arith, rules, ◌≡◌, ℕ, ◌+◌, ◌<◌, ◌≤◌, ◌*◌, ◌^◌, length, refl, sym, ap, subst}
-use Rattle.std.specs.Int.{div_ceil}
+use Rattle.std.proofs.Common.{arith, rules, ◌≡◌, ◌↔◌, ℕ, ◌+◌, ◌<◌, ◌≤◌, ◌*◌, ◌^◌, [], length, get_or, refl, ap, subst, sym}
+use Rattle.std.proofs.lemmas.List.Elements.{Contains-get_or}
+use Rattle.reach_model.specs.Flows.{source, target}
 use Rattle.reach_model.proofs.Numbering.{ends_known}
-use Rattle.reduce_source.specs.Columns.{AreLong}
+use Rattle.reduce_source.specs.Shelves.{IsWide}
 use Rattle.reduce_source.proofs.Counting.{few_sources}
 use Rattle.reduce_source.proofs.Numbers.{enough}
 use Rattle.reduce_source.proofs.SetLemmas.{same_tables}
 use Rattle.reduce_source.proofs.sets.SourceSets.reserve.Goals as goal
+
+both : {A B C : Type 0} → A ↔ B → B ↔ C → A ↔ C
+both f g = (λ a. g.0 (f.0 a), λ c. f.1 (g.1 c))
+
+pub widen_ends-requires : goal.widen_ends-requires
+widen_ends-requires c = record {
+  ends = λ k d h.
+      let e = ends_known c.args.flows.now (get_or c.args.flows.now k d) (Contains-get_or c.args.flows.now k d h) in
+      let n = c.known_of.ensures.known in
+      let p = c.in_ok-grow.ensures.room in
+      let places : c.len.result ≡ length c.grow.new.standings.items = search (rules, c.len.ensures) in
+      let o = c.in_ok-grow-2.ensures.objects in
+      let same = ap (λ s. length s.items) c.allow.ensures.rest.1 in
+      (omega (arith, e.0, n, p, places, o, same), omega (arith, e.1, n, p, places, o, same));
+}
 
 pub returns-clause-room : goal.returns-clause-room
 returns-clause-room c =
     let numbers = c.args.self.now.count + length c.args.flows.now in
     let places : c.len.result ≡ length c.grow.new.standings.items = search (rules, c.len.ensures) in
     let p = c.in_ok-grow.ensures.room in
-    let e = enough numbers in
-    let d = c.div_ceil.ensures in
-    let w = c.in_ok-widen.ensures.room in
-    let same = c.in_ok-grow-2.ensures.len in
     record {
       ends = λ f t. let e = ends_known c.args.flows.now f t in let n = c.known_of.ensures.known in (omega (arith, e.0, n, p), omega (arith, e.1, n, p));
-      words = subst (AreLong c.grow-2.new.columns.items) places c.in_ok-grow-2.ensures.room;
-      numbers = fits c.args.self.now.count (length c.args.flows.now) numbers c.div_ceil.result (length c.widen.new.columns.items) (length c.grow-2.new.columns.items) refl (ap (λ n. 64 * n) d) e w same;
+      objects =
+          let o = c.in_ok-grow-2.ensures.objects in
+          let a = ap (λ x. length x.items) c.allow.ensures.rest.1 in
+          let w = c.widen_ends.ensures.objects in
+          let m = ap (λ x. length x.items) c.make_room.ensures.rest.0 in
+          omega (arith, places, o, a, w, m);
+      wide = λ f (k, h, e).
+          let w = subst (IsWide c.widen_ends.new.self) e (c.in_ok-widen_ends.ensures.wide k f h) in
+          let from = ap (λ x. length (get_or x.items (source f) [])) c.make_room.ensures.rest.0 in
+          let to = ap (λ x. length (get_or x.items (target f) [])) c.make_room.ensures.rest.0 in
+          let width = c.make_room.ensures.rest.1 in
+          (omega (arith, w.0, from, width), omega (arith, w.1, to, width));
+      numbers =
+          let e = enough numbers in
+          let d = ap (λ n. 1024 * n) c.div_ceil.ensures in
+          let a = c.allow.ensures.width in
+          let w = c.widen_ends.ensures.rest.1 in
+          let m = c.make_room.ensures.rest.1 in
+          omega (arith, e, d, a, w, m);
       counted = fewer c.args.self.now.count (length c.args.self.now.standings.items) (length c.args.flows.now) c.args.self.now.standings.len c.args.self.now.standings.cap
           (subst (λ n. n ≤ length c.args.self.now.standings.items) (sym c.args.self.now.counted) (few_sources c.args.self.now.standings.items))
           c.args.self.now.standings.ok c.args.self.now.standings.small (omega arith);
+      blocks = c.in_ok-make_room.ensures.room;
+      few = c.in_ok-make_room.ensures.few;
     }
   where
     fewer : (count length flows len cap : ℕ) → count ≤ length → (len ≡ length) × (len ≤ cap) → cap < 2 ^ 63 → flows < 2 ^ 63 → count + flows < 2 ^ 64
     fewer count length flows len cap few ok small flows_small = omega (arith, few, ok.0, ok.1, small, flows_small)
 
-    fits : (count more numbers words wide wider : ℕ) → numbers ≡ count + more → 64 * words ≡ 64 * div_ceil numbers 64 → numbers ≤ 64 * div_ceil numbers 64 → words ≤ wide → wider ≡ wide → count + more ≤ 64 * wider
-    fits count more numbers words wide wider a b e h s = omega (arith, a, b, e, h, s)
+pub returns-in_err-make_room-clause-same : goal.returns-in_err-make_room-clause-same
+returns-in_err-make_room-clause-same c = λ K s.
+    same_tables c.args.self.now _ K c.grow.ensures.same
+    (λ v n. both (c.make_room.ensures.same v n) (both (c.widen_ends.ensures.same v n) (both (c.allow.ensures.same v n) (c.grow-2.ensures.same v n)))) refl
+    (λ few. let most = c.grow.ensures.most in let ids = c.known_of.ensures.most in omega arith) s
 
 pub returns-clause-same : goal.returns-clause-same
 returns-clause-same c = λ K s.
     same_tables c.args.self.now _ K c.grow.ensures.same
-    (λ v n. let a = c.grow-2.ensures.same v n in let b = c.widen.ensures.same v n in (λ t. b.0 (a.0 t), λ t. a.1 (b.1 t))) refl
+    (λ v n. both (c.make_room.ensures.same v n) (both (c.widen_ends.ensures.same v n) (both (c.allow.ensures.same v n) (c.grow-2.ensures.same v n)))) refl
     (λ few. let most = c.grow.ensures.most in let ids = c.known_of.ensures.most in omega arith) s
 
 -- there are no more sources than places, and these and the flows are lists in memory

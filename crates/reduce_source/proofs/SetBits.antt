@@ -1,0 +1,14 @@
+-- The numbers of a set, by its blocks.
+use Rattle.std.proofs.Common.{◌≡◌, ℕ, ◌+◌, ◌*◌, ◌/◌, ◌%◌, ◌<◌, arith, ◌↔◌, List, get_or, sym, subst}
+use Rattle.reduce_source.specs.BitsOf.{HasBit}
+use Rattle.reduce_source.specs.Blocks.{HasIn, words_of}
+use Rattle.reduce_source.specs.declared.block.Block.{Block}
+
+-- a bit of the block at a place is a number of the set
+pub number_at : (blocks : List Block) (ids : List ℕ) (k j : ℕ) → j < 1024 → HasBit (words_of blocks (get_or ids k 0)) j ↔ HasIn blocks ids (1024 * k + j)
+number_at blocks ids k j h =
+    let p : (1024 * k + j) / 1024 ≡ k = omega (arith, h) in
+    let b : (1024 * k + j) % 1024 ≡ j = omega (arith, h) in (
+      λ t. subst (λ i. HasBit (words_of blocks (get_or ids i 0)) ((1024 * k + j) % 1024)) (sym p) (subst (HasBit (words_of blocks (get_or ids k 0))) (sym b) t),
+      λ t. subst (HasBit (words_of blocks (get_or ids k 0))) b (subst (λ i. HasBit (words_of blocks (get_or ids i 0)) ((1024 * k + j) % 1024)) p t),
+    )

@@ -1,0 +1,12 @@
+pub mod ExactLaws
+pub mod NumberLaws
+pub mod ListLaws
+pub mod FieldLaws
+pub mod KeyLaws
+pub mod TableLaws
+pub mod StateLaws
+pub mod RowLaws
+pub mod Loop
+pub mod ManyLaws
+pub mod PayloadLaws
+pub mod SpelledLaws
