@@ -294,7 +294,12 @@ class Rotated(Scratch):
         warnings = json.loads(run('-if', self.folder, 'stat', '--json').stdout)['warnings']
         self.assertTrue(any('are missing' in it and it.endswith('number 2, 4') for it in warnings), warnings)
         warnings = json.loads(run('-if', self.folder / 'audit.log.3', 'stat', '--json').stdout)['warnings']
-        self.assertTrue(any('were not named: number 0, 1, 5' in it for it in warnings), warnings)
+        self.assertTrue(any('were not named: number 0 (the newest), 1, 5' in it for it in warnings), warnings)
+
+    def test_a_file_alone_may_end_in_any_number(self) -> None:
+        lone = self.folder / 'evidence.2026'
+        lone.write_bytes(self.parts(7)[0])
+        self.assertFalse(any('files of' in it for it in json.loads(run('-if', lone, 'stat', '--json').stdout)['warnings']))
 
     def test_a_file_that_is_there_twice_is_read_once(self) -> None:
         self.rotate({1: '.gz', 0: ''})
