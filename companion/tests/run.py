@@ -10,6 +10,7 @@ from __future__ import annotations
 
 import argparse
 import bz2
+import contextlib
 import gzip
 import importlib.machinery
 import importlib.util
@@ -293,7 +294,12 @@ class Rotated(Scratch):
         warnings = json.loads(run('-if', self.folder, 'stat', '--json').stdout)['warnings']
         self.assertTrue(any('are missing' in it and it.endswith('number 2, 4') for it in warnings), warnings)
         warnings = json.loads(run('-if', self.folder / 'audit.log.3', 'stat', '--json').stdout)['warnings']
-        self.assertTrue(any('were not named: number 0, 1, 5' in it for it in warnings), warnings)
+        self.assertTrue(any('were not named: number 0 (the newest), 1, 5' in it for it in warnings), warnings)
+
+    def test_a_file_alone_may_end_in_any_number(self) -> None:
+        lone = self.folder / 'evidence.2026'
+        lone.write_bytes(self.parts(7)[0])
+        self.assertFalse(any('files of' in it for it in json.loads(run('-if', lone, 'stat', '--json').stdout)['warnings']))
 
     def test_a_file_that_is_there_twice_is_read_once(self) -> None:
         self.rotate({1: '.gz', 0: ''})
@@ -337,7 +343,7 @@ class Fitness(Scratch):
             with self.subTest(name):
                 done = run('-if', self.log(text, f'{name}.log'), 'find', '*')
                 self.assertIn(want, done.stderr.decode())
-                self.assertTrue(done.stderr.startswith(b'autrail: mistrust: '))
+                self.assertTrue(done.stderr.startswith(b'autrail: warning: '))
         self.assertEqual(json.loads(run('-if', self.log(good, 'good.log'), 'stat', '--json').stdout)['warnings'], [])
 
     def test_users_and_arguments_are_read_from_the_lines(self) -> None:
@@ -444,7 +450,7 @@ class Words(Scratch):
 
     def test_a_folder_that_may_not_be_read(self) -> None:
         with unittest.mock.patch('os.listdir', side_effect=PermissionError), self.assertRaises(self.autrail.Refused) as refused:
-            self.autrail.logs_of([str(self.folder / 'audit.log')], [])
+            self.autrail.logs_of([str(self.folder / 'audit.log')], contextlib.ExitStack())
         self.assertEqual(refused.exception.status, 4)
         self.assertIn('run autrail by sudo', str(refused.exception))
 
@@ -473,7 +479,7 @@ class Words(Scratch):
             time.sleep(0.05)
         time.sleep(0.5)
         child.send_signal(signal.SIGINT)
-        self.assertEqual(child.wait(10), 130)
+        self.assertEqual(child.wait(30), 130)
         child.stderr.close()
         with self.assertRaises(ProcessLookupError):
             os.kill(int(fifo.read_text()), 0)
