@@ -1,9 +1,11 @@
 //! Opening a disk: one sync, and then reads alone.
 ghost use Rattle.std.specs.Prelude.{◌≡◌, ◌≤◌, ◌<◌, ◌+◌, ◌^◌, ◌⊎◌, ℕ, List, [], ◌∷◌, length, true, IfOk, OnOk, IsErr, IsErrOf};
+ghost use Rattle.std.specs.List.{All};
 ghost use Rattle.outside.specs.Disk.{IsDurable, OnlyLooks, Settles, UsesDisk};
 ghost use Rattle.batch_log.specs.Batches.{BreaksAt};
 ghost use Rattle.batch_log.specs.Finding.{IsListed, IsOpened};
 ghost use Rattle.batch_log.specs.Log.{log_of};
+ghost use Rattle.batch_log.specs.Payloads.{Fits};
 ghost use Rattle.batch_log.specs.OneReading.{OneList, OnePlace, NoStore};
 ghost use Rattle.batch_log.specs.declared.open.LogFault.TheVariants as fault;
 
@@ -49,6 +51,7 @@ impl BatchLog {
         ensures opened { (D.state disk.old).told
             → IfOk result (IsOpened limits.now (D.state disk.old).reads) }
         ensures log { IfOk result (λ opened. opened.0 ≡ log_of limits.now opened.0.last) }
+        ensures fits { IfOk result (λ opened. All Fits opened.1) }
         ensures bad { (D.state disk.old).told → (place : ℕ) → IsErrOf result (fault.BadStore place)
             → BreaksAt limits.now.payload place (D.state disk.old).reads }
         ensures durable { (D.state disk.old).told
@@ -82,6 +85,7 @@ fn read_log<D: Disk>(
     ensures opened { (D.state disk.old).told
         → IfOk result (IsOpened limits.now (D.state disk.old).reads) }
     ensures log { IfOk result (λ opened. opened.0 ≡ log_of limits.now opened.0.last) }
+    ensures fits { IfOk result (λ opened. All Fits opened.1) }
     ensures bad { (D.state disk.old).told → (place : ℕ) → IsErrOf result (fault.BadStore place)
         → BreaksAt limits.now.payload place (D.state disk.old).reads }
     ensures looks { OnlyLooks (D.state disk.old) (D.state disk.new) }
@@ -107,6 +111,7 @@ fn read_batches<D: Disk>(
     requires none { batches.old ≡ [] }
     ensures found { (D.state disk.old).told
         → IfOk result (λ last. IsListed most (D.state disk.old).reads last batches.new) }
+    ensures fits { IfOk result (λ _. All Fits batches.new) }
     ensures bad { (D.state disk.old).told → (place : ℕ) → IsErrOf result (fault.BadStore place)
         → BreaksAt most place (D.state disk.old).reads }
     ensures looks { OnlyLooks (D.state disk.old) (D.state disk.new) }
