@@ -1,4 +1,4 @@
-//! Sources and sinks in memory, and a sink that takes less than it is given.
+//! Sources, sinks and disks in memory, and a sink that takes less than it is given.
 ghost use Rattle.std.specs.Prelude.{◌≡◌, ◌-◌, ◌^◌, Some};
 
 use super::*;
@@ -72,5 +72,57 @@ fn a_source_gives_its_bytes_in_pieces_and_then_none(rt: HostRuntime) -> Result<(
     let mut clean = CleanSource::new(Bytes::from_slice(alloc, b"log".as_slice())?);
     assert_eq!(rt; clean.read(&mut buf), Ok(3));
     assert_eq!(rt; clean.read(&mut buf), Ok(0));
+    Ok(())
+}
+
+// At most three bytes of a disk from a place on, and how many they are.
+fn three_at<D: Disk>(disk: &mut D, at: u64) -> Result<([u8; 3], usize), Failed> {
+    let mut buf = [0; 3];
+    let count = disk.read_at(at, buf.as_mut_slice())?;
+    Ok((buf, count))
+}
+
+#[test]
+fn a_disk_is_written_over_and_past_its_end(rt: HostRuntime) -> Result<(), Fail> {
+    let alloc = rt.alloc();
+    let bytes = Bytes::from_slice(alloc, b"gate".as_slice())?;
+    let mut disk = MemDisk::new(alloc, bytes, List::new(alloc));
+    disk.write_at(3, b"her".as_slice())?;
+    disk.write_at(0, b"f".as_slice())?;
+    disk.sync()?;
+    assert_eq!(rt; disk.bytes(), b"father".as_slice());
+    assert_eq!(rt; disk.len()?, 6);
+    assert_eq!(rt; three_at(&mut disk, 4)?, ([b'e', b'r', 0], 2));
+    assert_eq!(rt; three_at(&mut disk, 6)?.1, 0);
+    Ok(())
+}
+
+#[test]
+fn a_disk_fails_the_calls_that_are_listed_and_changes_nothing(rt: HostRuntime) -> Result<(), Fail> {
+    let alloc = rt.alloc();
+    let mut fails = List::new(alloc);
+    fails.push(1)?;
+    let mut disk = MemDisk::new(alloc, Bytes::new(alloc), fails);
+    disk.write_at(0, b"a".as_slice())?;
+    assert!(rt; disk.write_at(0, b"b".as_slice()).is_err());
+    assert_eq!(rt; disk.bytes(), b"a".as_slice());
+    disk.sync()?;
+    Ok(())
+}
+
+#[test]
+fn a_stopped_disk_passes_the_calls_left_and_counts_the_others(rt: HostRuntime) -> Result<(), Fail> {
+    let alloc = rt.alloc();
+    let disk = MemDisk::new(alloc, Bytes::new(alloc), List::new(alloc));
+    let mut disk = StopDisk {
+        disk,
+        left: 2,
+        failed: 0,
+    };
+    disk.write_at(0, b"a".as_slice())?;
+    assert_eq!(rt; disk.len()?, 1);
+    assert!(rt; disk.sync().is_err());
+    assert!(rt; three_at(&mut disk, 0).is_err());
+    assert_eq!(rt; (disk.left, disk.failed), (0, 2));
     Ok(())
 }

@@ -11,8 +11,8 @@ use std::io::{ErrorKind, Read, Write};
 /// How often a call is tried while signals interrupt it. After as many tries it has failed.
 pub const TRIES: u32 = 1_000;
 
-// Whether a signal interrupted the call, so that it did nothing.
-fn is_interrupted(fault: &io::Error) -> bool
+/// Whether a signal interrupted the call, so that it did nothing.
+pub fn is_interrupted(fault: &io::Error) -> bool
     ensures { IsTrue result ↔ (error_kind fault.now ≡ ErrorKind.Interrupted) }
 {
     fault.kind() == ErrorKind::Interrupted
