@@ -1,0 +1,4 @@
+pub mod Store
+pub mod Order
+pub mod Conditions
+pub mod Tables
