@@ -1,4 +1,4 @@
-//! Source mode: a flow is dropped if each source that reaches its source reaches its target already.
+//! Source mode: a flow is dropped if each source that reaches its source reaches its target too.
 //!
 //! A source is an object whose first flow leaves it. Its number is its place among the sources in
 //! the order of their first flows. The set of an object has a bit for each of these numbers, in
