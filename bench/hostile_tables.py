@@ -1,5 +1,5 @@
 #!/usr/bin/env python3
-"""Times the built program on logs that were made to strain its tables, and prints seconds and the peak of memory.
+"""Times the built program on logs that were made to strain its tables: seconds, seconds of the processor, and the peak of memory.
 
     bench/hostile_tables.py [--scale 1.0] [--mode plain] [--only children,chain,..] [--program ./crates/audit_cli/out/audit_cli]
 
@@ -125,7 +125,7 @@ CASES = {case.__name__: case for case in (children, chain, ends, files, files_me
 
 
 def taken(program, mode, path):
-    """The seconds, the peak of memory in MB and the counts of one run over the log."""
+    """The seconds, those of the processor, the peak of memory in MB, and the counts of one run over the log."""
     begun = time.perf_counter()
     child = subprocess.Popen([program, 'watch', mode, path], stdin=subprocess.PIPE, stdout=subprocess.PIPE)
     child.stdin.write(b'take 999999999999999\nsettle\nstat\nend\n')
@@ -134,7 +134,7 @@ def taken(program, mode, path):
     _, status, usage = os.wait4(child.pid, 0)
     child.returncode = os.waitstatus_to_exitcode(status)
     stat = replies[2] if len(replies) > 2 else f'no counts, status {child.returncode}'
-    return time.perf_counter() - begun, usage.ru_maxrss / 1024, stat
+    return time.perf_counter() - begun, usage.ru_utime + usage.ru_stime, usage.ru_maxrss / 1024, stat
 
 
 def main():
@@ -152,8 +152,8 @@ def main():
                 CASES[name](Log(file), options.scale)
             if options.keep:
                 continue
-            seconds, peak, stat = taken(options.program, options.mode, path)
-            print(f'{name:10} {os.path.getsize(path) / 1e6:6.1f} MB: {seconds:8.2f} s, peak {peak:7.1f} MB  {stat}', flush=True)
+            seconds, busy, peak, stat = taken(options.program, options.mode, path)
+            print(f'{name:10} {os.path.getsize(path) / 1e6:6.1f} MB: {seconds:8.2f} s, processor {busy:8.2f} s, peak {peak:7.1f} MB  {stat}', flush=True)
             os.remove(path)
 
 
