@@ -40,7 +40,7 @@ StopsAtLimit result old new =
     λ limits done log asked. (full : Full) → result ≡ status.Full full
     → StoppedAt limits done log asked old new full
 
--- at Done, no read of the questions was made after `end`
+-- at Done, at most 65,536 bytes of the questions were read after a prefix that doesn't end them
 abbrev pub ReadsToEnd : Status → Option (List ℕ) → Claim
 ReadsToEnd result left =
     λ limits done log asked. result ≡ status.Done → LeavesQuestions limits done log asked left

@@ -132,8 +132,8 @@ pub record QuestionsStop (limits : Limits) (text : List ℕ) (answered : List (O
   pub past : limits.input < length text
   pub is : full ≡ input_full limits
 
--- what is left of the questions is all but one read of what follows bytes whose lines leave the dialogue going on. So
--- no read is made after `end`
+-- what was read of the questions is a prefix whose lines leave the dialogue going on, and at most 65,536
+-- bytes after it
 pub record ReadsNoFurther (limits : Limits) (from : Moment) (text : List ℕ) (left : Option (List ℕ)) : Type 0 where
   pub before : ℕ
   pub count : ℕ

@@ -118,7 +118,7 @@ pub record StoppedAt (limits : Limits) (job : Job) (log asked : List ℕ)
   pub fits : Fits limits to.history
   pub wrote : Appends old new (written_by job said)
 
--- where the job has questions, they are read no further than to `end`
+-- if the job has questions, at most 65,536 bytes are read after a prefix that doesn't end them
 abbrev pub LeavesQuestions : Limits → Job → (log asked : List ℕ) → Option (List ℕ) → Type 0
 LeavesQuestions limits (job.Back of) log asked left = ⊤
 LeavesQuestions limits (job.Watch mode name) log asked left = ReadsNoFurther limits (begin mode log) asked left

@@ -160,7 +160,7 @@ pub fn audit_run<L: Source, Q: Source, O: Sink>(
     ensures whole { (of : ℕ) (bytes : List ℕ)
         → job_of (map string_bytes words.now) ≡ Some (Job.Back of) → L.left log.old ≡ Some bytes
         → result ≡ Status.Done → L.left log.new ≡ Some [] }
-    // No read of the questions is made after `end`.
+    // At most 65,536 bytes of the questions are read after a prefix that doesn't end them.
     ensures no_further { WhereTold limits.now (map string_bytes words.now) (L.left log.old)
         (Q.left questions.old) (ReadsToEnd result (Q.left questions.new)) }
     // A limit stops the run at one moment, up to which each question was answered.
@@ -212,7 +212,7 @@ pub fn audit_main<L: Source, Q: Source, O: Sink>(
     ensures whole { (of : ℕ) (bytes : List ℕ)
         → job_of (map string_bytes words.now) ≡ Some (Job.Back of) → L.left log.old ≡ Some bytes
         → result ≡ Status.Done → L.left log.new ≡ Some [] }
-    // No read of the questions is made after `end`.
+    // At most 65,536 bytes of the questions are read after a prefix that doesn't end them.
     ensures no_further { WhereStandard (map string_bytes words.now) (L.left log.old)
         (Q.left questions.old) (ReadsToEnd result (Q.left questions.new)) }
     // A limit stops the run at one moment, up to which each question was answered.
