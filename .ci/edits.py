@@ -8,6 +8,8 @@ import sys
 from pathlib import Path
 
 CLAUSE = re.compile(r'\s*(pub )?(requires|ensures|ghost)\b')
+# A law that a law's body cites.
+CITES = re.compile(r'\s*\w+\(\);')
 BODY = re.compile(r'\s*\{$|\s*(pub(\(crate\))? )?fn .*\{$|\s*\) .*\{$')
 
 
@@ -53,9 +55,12 @@ def fault_of(crate, edit):
 
 
 def has_code(crate):
-    """Whether some function has a body: a crate of laws alone has none that could be wrong."""
-    sources = (path.read_text(encoding='utf-8') for path in crate.glob('src/**/*.rt'))
-    return any(BODY.match(line) for text in sources for line in code_of(text))
+    """Whether some function does more than cite laws: a crate of laws alone has none that could be wrong."""
+    for path in crate.glob('src/**/*.rt'):
+        code = code_of(path.read_text(encoding='utf-8'))
+        if any(BODY.match(line) and not CITES.fullmatch(after) for line, after in zip(code, [*code[1:], ''])):
+            return True
+    return False
 
 
 def main():

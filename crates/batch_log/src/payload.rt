@@ -14,7 +14,8 @@ use std::alloc::Global;
 /// batch's gate.
 pub fn read_payload<D: Disk>(alloc: Global, disk: &mut D, batch: Batch) -> Result<Bytes, LogFault>
     requires fits { Fits batch }
-    ensures payload { (D.state disk.old).told → IfOk result (IsPayloadOf batch (D.state disk.old).reads) }
+    ensures payload { (D.state disk.old).told
+        → IfOk result (IsPayloadOf batch (D.state disk.old).reads) }
     ensures there { (D.state disk.old).told
         → batch.gate + 9 + batch.length ≤ length (D.state disk.old).reads
         → (place : ℕ) → IsErrOf result (fault.BadStore place) → ⊥ }
