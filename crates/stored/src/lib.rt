@@ -2,7 +2,7 @@
 //!
 //! A moment is what stands after some bytes of a log: the acts, what waits, the counts, the line
 //! that has begun. Batches store a moment (`Stored`) if each continues the store of those before,
-//! all their rows together say what the tables hold, and the last batch has the groups that wait and
+//! their rows together say what the tables hold, and the last batch has the groups that wait and
 //! the State. `IsCommitOf` says exactly which rows the batch of a commit has, from the two moments
 //! alone.
 //!
