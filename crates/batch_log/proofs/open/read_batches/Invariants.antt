@@ -1,4 +1,4 @@
-use Rattle.std.proofs.Common.{◌≡◌, ◌⊎◌, ◌<◌, ◌≤◌, ◌-◌}
+use Rattle.std.proofs.Common.{◌≡◌, ◌⊎◌, ◌<◌, ◌-◌}
 use Rattle.std.specs.List.{All}
 use Rattle.batch_log.specs.Payloads.{Fits}
 use Rattle.outside.specs.Disk.{OnlyLooks, UsesDisk}
