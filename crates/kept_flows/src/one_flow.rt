@@ -6,7 +6,13 @@ ghost use Rattle.reach_rows.specs.Kept.{GoesOn};
 ghost use Rattle.query_walk.specs.Walks.{SameRows};
 ghost use Rattle.kept_flows.specs.KeptFlows.{AreTiedTo, SameFaults, TakesIn, kept_of};
 ghost use Rattle.kept_flows.specs.Taking.{
-    HasRoomFor, UsesRoom, MayTakeIn, MayTake, Takes, MayPut, Puts
+  HasRoomFor,
+  UsesRoom,
+  MayTakeIn,
+  MayTake,
+  Takes,
+  MayPut,
+  Puts,
 };
 
 use flow_base::{Flow, NoMemory};

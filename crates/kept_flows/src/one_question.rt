@@ -7,7 +7,12 @@ ghost use Rattle.reach_rows.specs.Asked.{IsAnsweredFor, subject};
 ghost use Rattle.query_walk.specs.Fault.{IsWalkOver};
 ghost use Rattle.query_walk.specs.Walks.{SameRows};
 ghost use Rattle.kept_flows.specs.Answering.{
-    AnswersOver, AreAllFound, AreFound, AreThose, ChoosesNext, is_for_sources
+  AnswersOver,
+  AreAllFound,
+  AreFound,
+  AreThose,
+  ChoosesNext,
+  is_for_sources,
 };
 
 use flow_base::{EntityId, List, NoMemory};
