@@ -105,7 +105,7 @@ whole_front limits (job.Trial seed events) log asked bytes to x = whole_lines li
 whole_front limits (job.Watch mode name) log asked bytes to x = record { front = asks limits (lines_in asked); rest = []; said = x.said; to = to; more = []; parts = sym (append-nil _); dialogue = x.dialogue; bytes_are = append-nil bytes ∙ x.bytes_are }
 
 -- the moment before the step that passes a limit
-stop_moment : (limits : Limits) (seed events : ℕ) (full : Full) → Stops limits (trial_history seed events) full → Moment
+abbrev stop_moment : (limits : Limits) (seed events : ℕ) (full : Full) → Stops limits (trial_history seed events) full → Moment
 stop_moment limits seed events full x = record { mode = Plain; history = x.front; log = [] }
 
 trial_stops : (limits : Limits) (seed events : ℕ) (full : Full) → (x : Stops limits (trial_history seed events) full) → TrialStops limits seed events [] (stop_moment limits seed events full x) full

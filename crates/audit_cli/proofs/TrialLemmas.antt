@@ -9,8 +9,9 @@ use Rattle.audit_lex.specs.History.{History}
 use Rattle.reach_model.specs.declared.modes.Mode.{Mode}
 use Rattle.report_json.specs.declared.ask.Ask.TheVariants as ask
 use Rattle.report_json.specs.declared.reply.Reply.{Reply}
+use Rattle.report_json.specs.declared.reply.Reply.TheVariants as reply
 use Rattle.ingest.specs.Events.{objects_of}
-use Rattle.ingest.specs.Replies.{IsReply}
+use Rattle.ingest.specs.Replies.{IsReply, counts_of}
 use Rattle.ingest.specs.Stops.{Fits, Stops}
 use Rattle.audit_cli.specs.declared.halt.Halt.{Halt}
 use Rattle.audit_cli.specs.declared.halt.Halt.TheVariants as halt
@@ -18,7 +19,7 @@ use Rattle.audit_cli.specs.Course.{IsDue}
 use Rattle.audit_gen.specs.Logs.{generated}
 use Rattle.report_json.specs.Replies.{line_of}
 use Rattle.audit_cli.specs.declared.trial_line.Totals.{Totals}
-use Rattle.audit_cli.specs.Trials.{IsModeLine, AreModeLines, AreCutLines, CountsBack, TrialCourse, Tried, back_from, settled, size_of, totals_in, trial_data, trial_history}
+use Rattle.audit_cli.specs.Trials.{AreTotals, IsModeLine, AreModeLines, AreCutLines, CountsBack, TrialCourse, Tried, back_from, settled, size_of, totals_in, trial_data, trial_history}
 use Rattle.audit_cli.proofs.ExactLemmas.{NeverStops}
 use Rattle.audit_cli.proofs.TalkLemmas.{appends_both, appends_none}
 
@@ -99,25 +100,33 @@ few : (n most : ℕ) → n ≤ most → most ≤ 10000000 → n ≤ 2 ^ 32
 few n most within small = omega (arith, within, small)
 
 -- objects are fewer than 2 ^ 32, since their limit is
-pub few_known : (kind : Mode) (limits : Limits) (h : History) (said : Reply) → IsReply kind limits h ask.Stat said → Fits limits h → (totals_in said).known ≤ 2 ^ 32
-few_known kind limits h said (kept, keeps, is) fits =
-    subst (λ (r : Reply). (totals_in r).known ≤ 2 ^ 32) (sym is) (few (length (objects_of limits h)) limits.entities fits.entities limits.entities_within)
+pub few_known : (kind : Mode) (limits : Limits) (h : History) (totals : Totals) → AreTotals kind limits h totals → Fits limits h → totals.known ≤ 2 ^ 32
+few_known kind limits h totals x fits =
+    let all : totals ≡ totals_in (reply.Stat (counts_of limits h (x.counts.0))) = x.totals_are ∙ ap totals_in (x.counts.2) in
+    subst (λ (t : Totals). t.known ≤ 2 ^ 32) (sym all) (few (length (objects_of limits h)) limits.entities fits.entities limits.entities_within)
 
 -- the reply about the last of some objects
 pub counts_last : (kind : Mode) (limits : Limits) (h : History) (known back : ℕ) (said : Reply) → (known ≡ 0 → ⊥) → IsReply kind limits h (back_from (known - 1)) said → back ≡ size_of said → CountsBack kind limits h known back
 counts_last kind limits h zero back said some is same = absurd (some refl)
-counts_last kind limits h (suc last) back said some is same = (said, is, same)
+counts_last kind limits h (suc last) back said some is same =
+    let before : suc last - 1 ≡ last = omega arith in
+    (said, subst (λ (of : ℕ). IsReply kind limits h (back_from of) said) before is, same)
 
 -- the line of a mode, from its parts
-pub mode_line_of : (kind given : Mode) (limits : Limits) (h : History) (stat : Reply) (totals : Totals) (back : ℕ) (line : List ℕ) → given ≡ kind → totals ≡ totals_in stat → IsReply kind limits h ask.Stat stat → CountsBack kind limits h totals.known back
+pub mode_line_of : (kind given : Mode) (limits : Limits) (h : History) (totals : Totals) (back : ℕ) (line : List ℕ) → given ≡ kind → AreTotals kind limits h totals → CountsBack kind limits h totals.known back
     → line ≡ line_of (trial_data given totals back) → IsModeLine kind limits h line
-mode_line_of kind given limits h stat totals back line same is counts reached whole = record {
-  stat = stat;
+mode_line_of kind given limits h totals back line same x reached whole = record {
+  stat = x.stat;
   back = back;
-  counts = counts;
-  reached = subst (λ (all : Totals). CountsBack kind limits h all.known back) is reached;
-  line_is = whole ∙ ap (λ (all : Totals). line_of (trial_data given all back)) is ∙ ap (λ (one : Mode). line_of (trial_data one (totals_in stat) back)) same;
+  counts = x.counts;
+  reached = subst (λ (all : Totals). CountsBack kind limits h all.known back) x.totals_are reached;
+  line_is = whole ∙ ap (λ (all : Totals). line_of (trial_data given all back)) x.totals_are ∙ ap (λ (one : Mode). line_of (trial_data one (totals_in x.stat) back)) same;
 }
+
+-- want of memory is due in any case
+pub memory_due : {A : Type 0} (r : Result A Halt) (stops : Full → Type 0) → IfErr r (λ why. why ≡ halt.NoMemory) → IfErr r (IsDue stops)
+memory_due (Ok done) stops same = tt
+memory_due (Err why) stops same = rw same tt
 
 -- a trial of the log of a seed
 pub same_log : (limits : Limits) (seed events : ℕ) (piece log : List ℕ) (modes : List Mode) (old new : Option (List ℕ)) (r : Result Unit Halt) → piece ≡ log → log ≡ generated seed events → Tried limits (settled piece) modes old new r

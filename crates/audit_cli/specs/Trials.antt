@@ -14,7 +14,9 @@ use Rattle.report_json.specs.declared.ask.Ask.TheVariants as ask
 use Rattle.report_json.specs.declared.reply.Reply.{Reply}
 use Rattle.report_json.specs.declared.reply.Reply.TheVariants as reply
 use Rattle.report_json.specs.Replies.{count_data, line_of}
+use Rattle.ingest.specs.Parts.{Engine}
 use Rattle.ingest.specs.Replies.{IsReply}
+use Rattle.ingest.specs.StandsFor.{StandsFor}
 use Rattle.ingest.specs.Stops.{Fits, Stops}
 use Rattle.audit_cli.specs.declared.halt.Halt.{Halt}
 use Rattle.audit_cli.specs.declared.halt.Halt.TheVariants as halt
@@ -43,6 +45,22 @@ mode_name mode.Source = codes "source"
 abbrev pub totals_in : Reply → Totals
 totals_in (reply.Stat counts) = record { flows = counts.flows; kept = counts.kept; known = counts.known }
 totals_in _ = record { flows = 0; kept = 0; known = 0 }
+
+-- these are the totals that a reply to `stat` counts
+pub record AreTotals (kind : Mode) (limits : Limits) (h : History) (totals : Totals) : Type 0 where
+  pub stat : Reply
+  pub counts : IsReply kind limits h ask.Stat stat
+  pub totals_are : totals ≡ totals_in stat
+
+-- the engine stands for some history within some limits
+pub record HasHistory {K : Type 0} (engine : Engine K) : Type 0 where
+  pub limits : Limits
+  pub h : History
+  pub stands : StandsFor limits engine h
+
+-- the engine has taken nothing, within some limits
+abbrev pub IsNew : {K : Type 0} → Engine K → Type 0
+IsNew engine = (limits : Limits) × StandsFor limits engine []
 
 -- how many objects or sources a reply to `back` has
 abbrev pub size_of : Reply → ℕ

@@ -11,15 +11,16 @@ ghost use Rattle.ingest.specs.StandsFor.{StandsFor};
 ghost use Rattle.ingest.specs.Stops.{Fits, Stops};
 ghost use Rattle.audit_cli.specs.declared.halt.Halt.TheVariants as halt;
 ghost use Rattle.audit_cli.specs.Course.{GoesUp, HasCauses, IsDue};
-ghost use Rattle.audit_cli.specs.Trials.{CountsBack, IsModeLine, Tried, all_modes, settled, trial_history};
+ghost use Rattle.audit_cli.specs.Trials.{AreTotals, CountsBack, HasHistory, IsModeLine, IsNew, Tried, all_modes, settled, trial_history};
 
 use crate::halt::{Halt, halt_of};
-use crate::trial_line::{mode_line, size_of, totals_in};
+use crate::trial_line::{Totals, mode_line, size_of, totals_in};
 use crate::turn::{reply_of, settle};
 use audit_gen::generate;
 use flow_base::{Bytes, EntityId, Limits};
 use ingest::{Ingest, stops_stay, what_fits_never_stops};
 use outside::{Sink, put_all};
+use reach_model::Mode;
 use reach_rows::{Plain, Question, Reducer, VecRows};
 use reduce_continuous::Continuous;
 use reduce_source::Sources;
@@ -44,12 +45,7 @@ pub fn trial<O: Sink>(
 }
 
 // Tries every mode on a log.
-fn try_modes<O: Sink>(
-    alloc: Global,
-    limits: &Limits,
-    log: &[u8],
-    out: &mut O,
-) -> Result<(), Halt>
+fn try_modes<O: Sink>(alloc: Global, limits: &Limits, log: &[u8], out: &mut O) -> Result<(), Halt>
     ensures tried { Tried limits.now (settled log.now) all_modes
         (O.written out.old) (O.written out.new) result }
     ensures causes { IfErr result
@@ -102,12 +98,28 @@ fn line_in<R: Reducer + Drop>(
 {
     let mode = reducer.mode();
     let mut engine = Ingest::new(alloc, limits, reducer, VecRows::new(alloc));
-    follow(&mut engine, log)?;
-    let stat = reply_of(&mut engine, &Ask::Stat)?;
-    let totals = totals_in(&stat);
-    let back = count_back(&mut engine, totals.known)?;
-    let line = mode_line(alloc, mode, &totals, back)?;
-    Ok(line)
+    line_after(alloc, mode, &mut engine, log)
+}
+
+// The line of a new engine after a log and a settle.
+fn line_after<R: Reducer>(
+    alloc: Global,
+    mode: Mode,
+    engine: &mut Ingest<R, VecRows>,
+    log: &[u8],
+) -> Result<Bytes, Halt>
+    requires mode { mode ≡ R.mode }
+    requires begun { IsNew engine.old }
+    ensures line { (limits : Limits) → StandsFor limits engine.old []
+        → IfOk result (λ line. IsModeLine R.mode limits (settled log.now) line) }
+    ensures fits { (limits : Limits) → StandsFor limits engine.old []
+        → OnOk result (Fits limits (settled log.now)) }
+    ensures due { (limits : Limits) → StandsFor limits engine.old []
+        → IfErr result (IsDue (Stops limits (settled log.now))) }
+    ensures causes { IfErr result (HasCauses ⊥ ⊥) }
+{
+    follow(engine, log)?;
+    line_now(alloc, mode, engine)
 }
 
 // Gives a new engine all of a log, and settles.
@@ -125,6 +137,38 @@ fn follow<R: Reducer>(engine: &mut Ingest<R, VecRows>, log: &[u8]) -> Result<(),
     }
     let _events = settle(engine)?;
     Ok(())
+}
+
+// The line of an engine at its history.
+fn line_now<R: Reducer>(
+    alloc: Global,
+    mode: Mode,
+    engine: &mut Ingest<R, VecRows>,
+) -> Result<Bytes, Halt>
+    requires mode { mode ≡ R.mode }
+    requires stands { HasHistory engine.old }
+    ensures line { (limits : Limits) (h : History) → StandsFor limits engine.old h
+        → IfOk result (λ line. IsModeLine R.mode limits h line) }
+    ensures causes { IfErr result (HasCauses ⊥ ⊥) }
+    ensures memory { IfErr result (λ why. why ≡ halt.NoMemory) }
+{
+    let totals = totals_now(engine)?;
+    let back = count_back(engine, totals.known)?;
+    let line = mode_line(alloc, mode, &totals, back)?;
+    Ok(line)
+}
+
+// The totals of an engine at its history.
+fn totals_now<R: Reducer>(engine: &mut Ingest<R, VecRows>) -> Result<Totals, Halt>
+    ensures totals { (limits : Limits) (h : History) → StandsFor limits engine.old h
+        → IfOk result (λ totals. AreTotals R.mode limits h totals) }
+    ensures stands { (limits : Limits) (h : History) → StandsFor limits engine.old h
+        → OnOk result (StandsFor limits engine.new h) }
+    ensures causes { IfErr result (HasCauses ⊥ ⊥) }
+    ensures memory { IfErr result (λ why. why ≡ halt.NoMemory) }
+{
+    let reply = reply_of(engine, &Ask::Stat)?;
+    Ok(totals_in(&reply))
 }
 
 // How many objects or sources the last of so many known objects can have come from.

@@ -118,7 +118,10 @@ fn words_of_another_trial_are_bad(rt: HostRuntime) -> Result<(), Fail> {
         (["trial", "1"].as_slice(), "bad words"),
         (["trial", "1", "0"].as_slice(), "bad words"),
         (["trial", "1", "200001"].as_slice(), "bad words"),
-        (["trial", "18446744073709551616", "1"].as_slice(), "bad words"),
+        (
+            ["trial", "18446744073709551616", "1"].as_slice(),
+            "bad words",
+        ),
         (["trial", "1", "x"].as_slice(), "bad words"),
         (["trial", "+1", "1"].as_slice(), "bad words"),
         (["trial", "1", "1", "1"].as_slice(), "bad words"),

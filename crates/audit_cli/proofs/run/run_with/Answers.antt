@@ -15,8 +15,8 @@ returns-in-Back-clause-talked g c = λ bytes asked told tells.
     rw c.in-Back.is (back_talked _ c.args.limits.now c.in-Back.of bytes asked _ _ _ _ c.back.result (some_same _ _ (sym plain))
     (c.back.ensures.talked c.args.limits.now bytes small (record { in_mode = refl; stands = c.new-engine.ensures; told = heard })))
 
-pub returns-clause-talked : goal.returns-clause-talked
-returns-clause-talked g c = λ bytes asked told tells.
+pub returns-in-Watch-clause-talked : goal.returns-in-Watch-clause-talked
+returns-in-Watch-clause-talked g c = λ bytes asked told tells.
     let heard = rw c.in-Watch.is at tells in
     let same = some_same _ _ (rw c.in-Watch.is at c.requires.mode) in
     let begun = rw c.in-Watch.is at told in
@@ -26,8 +26,8 @@ returns-clause-talked g c = λ bytes asked told tells.
 pub returns-in-Back-clause-within : goal.returns-in-Back-clause-within
 returns-in-Back-clause-within g c = λ bytes asked told tells. rw c.in-Back.is (on_ok c.back.result _ tt)
 
-pub returns-clause-within : goal.returns-clause-within
-returns-clause-within g c = λ bytes asked told tells.
+pub returns-in-Watch-clause-within : goal.returns-in-Watch-clause-within
+returns-in-Watch-clause-within g c = λ bytes asked told tells.
     let heard = rw c.in-Watch.is at tells in
     let same = some_same _ _ (rw c.in-Watch.is at c.requires.mode) in
     let begun = rw c.in-Watch.is at told in
@@ -42,8 +42,8 @@ returns-in-Back-clause-whole g c = λ of bytes is told.
 pub returns-in-Back-clause-left : goal.returns-in-Back-clause-left
 returns-in-Back-clause-left g c = λ bytes asked told tells. rw c.in-Back.is (on_ok c.back.result _ tt)
 
-pub returns-clause-left : goal.returns-clause-left
-returns-clause-left g c = λ bytes asked told tells.
+pub returns-in-Watch-clause-left : goal.returns-in-Watch-clause-left
+returns-in-Watch-clause-left g c = λ bytes asked told tells.
     let heard = rw c.in-Watch.is at tells in
     let same = some_same _ _ (rw c.in-Watch.is at c.requires.mode) in
     let begun = rw c.in-Watch.is at told in

@@ -15,7 +15,7 @@ returns-in-Ok-clause-tried g c =
     let wrote = subst (λ (bytes : List ℕ). Appends (g.O.Sink.written c.args.out.now) (g.O.Sink.written c.put_all.new.sink) bytes) c.as_slice.ensures c.in-Ok.ensures.bytes in
     tried_one g.R.Reducer.mode c.args.limits.now (settled c.args.log.now) _ _ c.in_ok-line.line c.in_ok-line.ensures.line c.in_ok-line.ensures.fits wrote
 
-pub returns-in-Err-clause-tried : goal.returns-in-Err-clause-tried
-returns-in-Err-clause-tried g c =
+pub returns-clause-tried : goal.returns-clause-tried
+returns-clause-tried g c =
     let wrote = subst (λ (bytes : List ℕ). Appends (g.O.Sink.written c.args.out.now) (g.O.Sink.written c.put_all.new.sink) (take c.in-Err.field-0.done bytes)) c.as_slice.ensures c.in-Err.ensures.bytes in
     tried_half g.R.Reducer.mode c.args.limits.now (settled c.args.log.now) _ _ c.in_ok-line.line c.in-Err.field-0.done c.in_ok-line.ensures.line wrote

@@ -35,4 +35,4 @@ returns-clause-tried g c =
     let h = settled c.args.log.now in
     let two = tried_then c.what_fits_never_stops.ensures limits h (mode.Plain ∷ []) (mode.Continuous ∷ []) _ _ _ _ c.in_ok-_plain.ensures.tried c.in_ok-_continuous.ensures.tried in
     let three = tried_then c.what_fits_never_stops.ensures limits h (mode.Plain ∷ mode.Continuous ∷ []) (mode.Full ∷ []) _ _ _ _ two c.in_ok-_full.ensures.tried in
-    tried_then c.what_fits_never_stops.ensures limits h (mode.Plain ∷ mode.Continuous ∷ mode.Full ∷ []) (mode.Source ∷ []) _ _ _ _ three c.try_mode.ensures.tried
+    tried_then c.what_fits_never_stops.ensures limits h (mode.Plain ∷ mode.Continuous ∷ mode.Full ∷ []) (mode.Source ∷ []) _ _ _ _ three c.try_mode-4.ensures.tried
