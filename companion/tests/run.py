@@ -472,7 +472,10 @@ class Words(Scratch):
         fifo = self.folder / 'pid'
         slow = self.log(f'#!/bin/sh\necho $$ >{shlex.quote(str(fifo))}\nexec sleep 60\n', 'slow')
         slow.chmod(0o755)
-        child = subprocess.Popen([AUTRAIL, '-if', EXAMPLE, 'stat'], stderr=subprocess.PIPE, env=environment(AUDIT_CLI=shlex.quote(str(slow))))
+        # A shell that runs the tests in the background may ignore interrupts, and a child would inherit that.
+        heeds = lambda: signal.signal(signal.SIGINT, signal.SIG_DFL)
+        child = subprocess.Popen([AUTRAIL, '-if', EXAMPLE, 'stat'], stderr=subprocess.PIPE, preexec_fn=heeds,
+                                 env=environment(AUDIT_CLI=shlex.quote(str(slow))))
         for _ in range(200):
             if fifo.exists() and fifo.read_text().strip():
                 break
