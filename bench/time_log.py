@@ -6,7 +6,7 @@
 Each log comes from make_log.py, by the number that --seed names. In each mode the program takes the whole log and settles; then it is asked
 `back`, `fore`, `why`, `show` and `find` about random objects, `find` for a name that such an object has. Printed are the machine, megabytes a
 second, the peak of memory, the rows kept, the median and the 95th of a hundred of each question's time from its line to its reply, and the
-exponent between the smallest and the largest log. ausearch is Debian's package auditd.
+exponent between the smallest and the largest log, and last the time and the peak of memory of `trial 1 200000`. ausearch is Debian's package auditd.
 """
 import argparse, json, math, os, platform, random, resource, subprocess, sys, tempfile, time
 
@@ -96,6 +96,8 @@ def main():
         if len(points) > 1:
             (small, first), (large, last) = points[0], points[-1]
             print(f'{mode}: exponent {math.log(last / first) / math.log(large / small):.3f}')
+    seconds, peak, out = run([program, 'trial', '1', '200000'])
+    print(f'trial 1 200000: {seconds:.3f} s, peak {peak:.1f} MB; {" ".join(out.decode().split())}')
 
 
 if __name__ == '__main__':

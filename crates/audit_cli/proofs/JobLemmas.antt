@@ -15,11 +15,15 @@ use Rattle.audit_cli.specs.declared.words.Job.{Job}
 use Rattle.audit_cli.specs.declared.words.Job.TheVariants as job
 use Rattle.audit_cli.specs.Dialogue.{Moment, begin, asks, lines_in, nothing_beyond, QuestionsStop}
 use Rattle.audit_cli.specs.Course.{EndTalked, HasCauses, Halted}
-use Rattle.audit_cli.specs.Headline.{back_questions, Writes, WritesFront, Finished, Written, StoppedAt, PassesLimit, PassesNone}
+use Rattle.audit_cli.specs.Headline.{back_questions, Tells, TellsLog, Writes, WritesFront, TrialStops, Finished, Written, StoppedAt, PassesLimit, PassesNone}
 use Rattle.audit_cli.specs.Jobs.{LastCourse, LastTalked, JobStopped, JobCourse, JobTalked, KeepsLimit}
 use Rattle.audit_cli.specs.Statuses.{status_for, StatusCause}
 use Rattle.audit_cli.proofs.ExactLemmas.{NeverStops, within_stops, questions_within}
 use Rattle.audit_cli.proofs.MomentLemmas.{Stay}
+use Rattle.audit_lex.specs.History.{History}
+use Rattle.ingest.specs.Stops.{Fits, Stops}
+use Rattle.audit_cli.specs.Trials.{TrialCourse, Tried, all_modes, trial_history}
+use Rattle.audit_cli.proofs.TrialLemmas.{no_lines, whole_lines}
 use Rattle.audit_cli.proofs.TalkLemmas.{appends_none, dialogue_of, nothing_said}
 
 last_halt : (limits : Limits) (of : ℕ) (log asked : List ℕ) (why : Halt) (bytes : List ℕ) (to : Moment) → LastCourse limits (Err why) (begin Plain log) (back_questions of log) bytes to → JobCourse limits (job.Back of) (Err why) log asked bytes to
@@ -51,6 +55,41 @@ pub watch_talked : {K : Type 0} → (kept : Mode) (limits : Limits) (mode : Mode
 watch_talked kept limits mode name log asked e left old new (Ok done) x = record { to = x.to; bytes = x.bytes; wrote = x.wrote; course = record { said = x.course.0; dialogue = x.course.2; bytes_are = x.course.1 }; ends = record { within = x.at.stands.fits; told = x.at.told } }
 watch_talked kept limits mode name log asked e left old new (Err why) x = record { to = x.to; bytes = x.bytes; wrote = x.wrote; course = watch_halt limits mode name log asked why x.bytes x.to x.course; ends = tt }
 
+trial_halt : (limits : Limits) (seed events : ℕ) (log asked : List ℕ) (why : Halt) (bytes : List ℕ) (to : Moment) → TrialCourse limits (trial_history seed events) all_modes (Err why) bytes
+    → JobCourse limits (job.Trial seed events) (Err why) log asked bytes to
+trial_halt limits seed events log asked (halt.Full full) bytes to x = x
+trial_halt limits seed events log asked halt.NoMemory bytes to x = x
+trial_halt limits seed events log asked halt.ReadFault bytes to x = x
+trial_halt limits seed events log asked halt.WriteFault bytes to x = x
+
+-- `trial`
+pub trial_talked : (limits : Limits) (seed events : ℕ) (log asked : List ℕ) (left old new : Option (List ℕ)) (r : Result Unit Halt) → Tried limits (trial_history seed events) all_modes old new r
+    → JobTalked limits (job.Trial seed events) log asked left old new r
+trial_talked limits seed events log asked left old new (Ok done) x = record {
+  to = record { mode = Plain; history = trial_history seed events; log = [] };
+  bytes = x.bytes;
+  wrote = x.wrote;
+  course = record { lines = x.course.0; history = refl };
+  ends = record { within = x.course.1; told = tt };
+}
+trial_talked limits seed events log asked left old new (Err why) x = record { to = begin Plain []; bytes = x.bytes; wrote = x.wrote; course = trial_halt limits seed events log asked why x.bytes _ x.course; ends = tt }
+
+-- a device that isn't there has no faults
+pub no_read : (r : Result Unit Halt) (read write : Type 0) → IfErr r (HasCauses ⊥ write) → IfErr r (HasCauses read write)
+no_read (Ok done) read write causes = tt
+no_read (Err halt.NoMemory) read write causes = tt
+no_read (Err halt.ReadFault) read write causes = absurd causes
+no_read (Err halt.WriteFault) read write causes = causes
+no_read (Err (halt.Full full)) read write causes = tt
+
+-- the log of a job that was read is the log of the job of the words
+pub same_log : (a b : Job) (left : Option (List ℕ)) (log : List ℕ) → a ≡ b → TellsLog b left log → TellsLog a left log
+same_log a b left log same told = rw same told
+
+-- and so are its questions
+pub same_questions : (a b : Job) (left : Option (List ℕ)) (asked : List ℕ) → a ≡ b → Tells b left asked → Tells a left asked
+same_questions a b left asked same tells = rw same tells
+
 -- a cause among more causes of a read fault
 pub causes_too : (r : Result Unit Halt) (one other write : Type 0) → IfErr r (HasCauses one write) → IfErr r (HasCauses (one ⊎ other) write)
 causes_too (Ok done) one other write causes = tt
@@ -62,11 +101,26 @@ causes_too (Err (halt.Full full)) one other write causes = tt
 -- what was written whole is a front
 whole_front : (limits : Limits) (done : Job) (log asked bytes : List ℕ) (to : Moment) → Writes limits done log asked bytes to → WritesFront limits done log asked bytes
 whole_front limits (job.Back of) log asked bytes to x = inr (record { to = to; more = []; last = record { said = x.said; last = x.last; dialogue = x.dialogue; bytes_are = append-nil bytes ∙ x.bytes_are } })
+whole_front limits (job.Trial seed events) log asked bytes to x = whole_lines limits (trial_history seed events) all_modes bytes x.lines
 whole_front limits (job.Watch mode name) log asked bytes to x = record { front = asks limits (lines_in asked); rest = []; said = x.said; to = to; more = []; parts = sym (append-nil _); dialogue = x.dialogue; bytes_are = append-nil bytes ∙ x.bytes_are }
+
+-- the moment before the step that passes a limit
+abbrev stop_moment : (limits : Limits) (seed events : ℕ) (full : Full) → Stops limits (trial_history seed events) full → Moment
+stop_moment limits seed events full x = record { mode = Plain; history = x.front; log = [] }
+
+trial_stops : (limits : Limits) (seed events : ℕ) (full : Full) → (x : Stops limits (trial_history seed events) full) → TrialStops limits seed events [] (stop_moment limits seed events full x) full
+trial_stops limits seed events full x = record { nothing = refl; stops = x; moment = refl }
+
+-- a limit that stopped the job would be passed
+passed : (limits : Limits) (done : Job) (log asked bytes : List ℕ) (full : Full) → JobStopped limits done log asked bytes full → PassesLimit limits done log asked full
+passed limits (job.Back of) log asked bytes full x = (x.said, x.to, x.stops)
+passed limits (job.Watch mode name) log asked bytes full x = (x.said, x.to, x.stops)
+passed limits (job.Trial seed events) log asked bytes full x = ([], stop_moment limits seed events full x.1, trial_stops limits seed events full x.1)
 
 -- what was written up to where a limit stopped the job is a front
 stopped_front : (limits : Limits) (done : Job) (log asked bytes : List ℕ) (full : Full) → JobStopped limits done log asked bytes full → WritesFront limits done log asked bytes
 stopped_front limits (job.Back of) log asked bytes full x = inl x.bytes_are
+stopped_front limits (job.Trial seed events) log asked bytes full x = rw (x.0) (no_lines limits (trial_history seed events) all_modes)
 stopped_front limits (job.Watch mode name) log asked bytes full x = record {
   front = x.stops.answered;
   rest = x.stops.later;
@@ -87,6 +141,7 @@ halt_front limits done log asked halt.WriteFault bytes to x = x
 -- before the job begins
 pub nothing_written : (limits : Limits) (done : Job) (log asked : List ℕ) (old : Option (List ℕ)) → Written limits done log asked old old
 nothing_written limits (job.Back of) log asked old = record { bytes = []; wrote = appends_none old; front = inl refl }
+nothing_written limits (job.Trial seed events) log asked old = record { bytes = []; wrote = appends_none old; front = no_lines limits (trial_history seed events) all_modes }
 nothing_written limits (job.Watch mode name) log asked old = record { bytes = []; wrote = appends_none old; front = nothing_said limits (begin mode log) _ }
 
 pub not_begun : (limits : Limits) (done : Job) (log asked : List ℕ) (left old : Option (List ℕ)) → JobTalked limits done log asked left old old (Err halt.NoMemory)
@@ -128,12 +183,26 @@ front_written limits done log asked left old new (Ok t) x = record { bytes = x.b
 front_written limits done log asked left old new (Err why) x = record { bytes = x.bytes; wrote = x.wrote; front = halt_front limits done log asked why x.bytes x.to x.course }
 
 stopped_at : (limits : Limits) (done : Job) (log asked bytes : List ℕ) (old new : Option (List ℕ)) (full : Full) → Appends old new bytes → JobStopped limits done log asked bytes full → StoppedAt limits done log asked old new full
-stopped_at limits done log asked bytes old new full wrote x = record {
+stopped_at limits (job.Back of) log asked bytes old new full wrote x = record {
   said = x.said;
   to = x.to;
   stops = x.stops;
   fits = x.fits;
   wrote = subst (λ (bs : List ℕ). Appends old new bs) x.bytes_are wrote;
+}
+stopped_at limits (job.Watch mode name) log asked bytes old new full wrote x = record {
+  said = x.said;
+  to = x.to;
+  stops = x.stops;
+  fits = x.fits;
+  wrote = subst (λ (bs : List ℕ). Appends old new bs) x.bytes_are wrote;
+}
+stopped_at limits (job.Trial seed events) log asked bytes old new full wrote x = record {
+  said = [];
+  to = stop_moment limits seed events full x.1;
+  stops = trial_stops limits seed events full x.1;
+  fits = x.1.fits;
+  wrote = subst (λ (bs : List ℕ). Appends old new bs) x.0 wrote;
 }
 
 pub full_exact : (limits : Limits) (done : Job) (log asked : List ℕ) (left old new : Option (List ℕ)) (r : Result Unit Halt) (full : Full) → JobTalked limits done log asked left old new r → status_for r ≡ status.Full full → StoppedAt limits done log asked old new full
@@ -149,7 +218,7 @@ complete limits done log asked left old new read write (Ok t) x halts no_read no
 complete limits done log asked left old new read write (Err halt.NoMemory) x halts no_read no_write none = inr refl
 complete limits done log asked left old new read write (Err halt.ReadFault) x halts no_read no_write none = absurd (no_read halts)
 complete limits done log asked left old new read write (Err halt.WriteFault) x halts no_read no_write none = absurd (no_write halts)
-complete limits done log asked left old new read write (Err (halt.Full full)) x halts no_read no_write none = absurd (none full (x.course.said, x.course.to, x.course.stops))
+complete limits done log asked left old new read write (Err (halt.Full full)) x halts no_read no_write none = absurd (none full (passed limits done log asked x.bytes full x.course))
 
 -- a read fault is one of the faults
 pub read_fault : (log questions out : Type 0) → log ⊎ questions → log ⊎ (questions ⊎ out)
@@ -160,11 +229,17 @@ read_fault log questions out (inr other) = inr (inl other)
 pub job_same : (a b : Job) (found : Option Job) → found ≡ Some a → found ≡ Some b → a ≡ b
 job_same a b found first second = cc
 
+-- a job has one mode
+pub some_same : (a b : Mode) → Some a ≡ Some b → a ≡ b
+some_same a b is = cc
+
 -- a job that ended passed no limit
 pub ended_within : Stay → NeverStops → (limits : Limits) (done : Job) (log asked : List ℕ) (left old new : Option (List ℕ)) (r : Result Unit Halt) (full : Full) → JobTalked limits done log asked left old new r
     → OnOk r (KeepsLimit limits done log asked) → status_for r ≡ status.Done → PassesLimit limits done log asked full → ⊥
 ended_within stay fitting limits (job.Back of) log asked left old new (Ok t) full x keeps is (said, to, passes) =
     within_stops stay fitting limits nothing_beyond (begin Plain log) to x.to _ said _ full x.course.dialogue x.ends.within passes (λ none. none)
+ended_within stay fitting limits (job.Trial seed events) log asked left old new (Ok t) full x keeps is (said, to, passes) =
+    fitting limits (trial_history seed events) full (subst (λ (h : History). Fits limits h) x.course.history x.ends.within) passes.stops
 ended_within stay fitting limits (job.Watch mode name) log asked left old new (Ok t) full x keeps is (said, to, passes) =
     within_stops stay fitting limits (QuestionsStop limits asked) (begin mode log) to x.to _ said _ full x.course.dialogue x.ends.within passes
     (questions_within limits (begin mode log) to asked passes.answered said full keeps passes.leads)

@@ -6,4 +6,5 @@ mod ListenLemmas
 mod MomentLemmas
 mod Numbers
 mod TalkLemmas
+mod TrialLemmas
 mod WordLemmas

@@ -6,7 +6,7 @@ use Rattle.std.specs.Str.Parse.{digits_value, ParsesUnsigned}
 use Rattle.std.specs.Prelude.{Err}
 use Rattle.std.proofs.lemmas.Str.Parse.{IsNumeralModel, numerals_by_value, parse_digits}
 use borrow.Author.Tests.{ltb-true}
-use Rattle.audit_cli.specs.Words.{id_of}
+use Rattle.audit_cli.specs.Words.{number_of}
 
 -- the test of decimal digits is std's
 own : IsNumeralModel (λ ds. list_all is_ascii_digit ds ≡ true) (digits_value 10)
@@ -18,9 +18,9 @@ not_all x true false c both = refl
 not_all x true true false both = refl
 not_all x true true true both = absurd (both refl refl)
 
--- digits that std's parse refuses spell no number of 32 bits
-pub refused : {E : Type 0} (text : List ℕ) (fault : E) → list_all is_ascii_digit text ≡ true → ParsesUnsigned 32 10 text (Err fault) → None ≡ id_of text
-refused text fault digits parsed =
-    let wrong = parse_digits own 32 text (Err fault) parsed digits in
-    not_all _ (list_all is_ascii_digit text) (nat_lt 0 (length text)) (nat_lt (digits_value 10 text) (2 ^ 32))
+-- digits that std's parse refuses spell no number of so many bits
+pub refused : {E : Type 0} (bits : ℕ) (text : List ℕ) (fault : E) → list_all is_ascii_digit text ≡ true → ParsesUnsigned bits 10 text (Err fault) → None ≡ number_of bits text
+refused bits text fault digits parsed =
+    let wrong = parse_digits own bits text (Err fault) parsed digits in
+    not_all _ (list_all is_ascii_digit text) (nat_lt 0 (length text)) (nat_lt (digits_value 10 text) (2 ^ bits))
     (λ some small. wrong (ltb-true _ _ some, ltb-true _ _ small))

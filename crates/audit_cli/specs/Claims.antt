@@ -6,18 +6,18 @@ use Rattle.audit_cli.specs.declared.status.Status.{Status}
 use Rattle.audit_cli.specs.declared.status.Status.TheVariants as status
 use Rattle.audit_cli.specs.declared.words.Job.{Job}
 use Rattle.audit_cli.specs.Words.{job_of}
-use Rattle.audit_cli.specs.Headline.{Tells, Finished, Written, StoppedAt, LeavesQuestions, PassesNone}
+use Rattle.audit_cli.specs.Headline.{Tells, TellsLog, Finished, Written, StoppedAt, LeavesQuestions, PassesNone}
 use Rattle.audit_cli.specs.Standard.{WithStandard}
 
 -- what is claimed of a job over the bytes of a log and of questions
 abbrev pub Claim : Type 1
 Claim = Limits → Job → (log asked : List ℕ) → Type 0
 
--- the claim holds of the job that the words name, over the bytes of the log and of the questions, if
--- they are known
+-- the claim holds of the job that the words name, over the bytes of the log and of the questions that
+-- the job has, if they are known
 abbrev pub WhereTold : Limits → List (List ℕ) → (log questions : Option (List ℕ)) → Claim → Type 0
 WhereTold limits words log questions claim =
-    (done : Job) (bytes asked : List ℕ) → job_of words ≡ Some done → log ≡ Some bytes
+    (done : Job) (bytes asked : List ℕ) → job_of words ≡ Some done → TellsLog done log bytes
     → Tells done questions asked → claim limits done bytes asked
 
 -- the same with the program's limits

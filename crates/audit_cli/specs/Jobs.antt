@@ -10,10 +10,12 @@ use Rattle.audit_cli.specs.declared.halt.Halt.{Halt}
 use Rattle.audit_cli.specs.declared.halt.Halt.TheVariants as halt
 use Rattle.audit_cli.specs.declared.words.Job.{Job}
 use Rattle.audit_cli.specs.declared.words.Job.TheVariants as job
-use Rattle.audit_cli.specs.Words.{mode_for}
-use Rattle.audit_cli.specs.Dialogue.{Moment, nothing_beyond, begin}
+use Rattle.reach_model.specs.declared.modes.Mode.TheVariants.{Plain}
+use Rattle.ingest.specs.Stops.{Stops}
+use Rattle.audit_cli.specs.Dialogue.{Moment, QuestionsStop, nothing_beyond, begin, asks, lines_in, texts}
 use Rattle.audit_cli.specs.Course.{At, Stopped}
-use Rattle.audit_cli.specs.Headline.{IsLast, IsLastFront, Writes, WritesFront, Ends, questions_of, beyond_questions, unsaid, written_by}
+use Rattle.audit_cli.specs.Trials.{trial_history}
+use Rattle.audit_cli.specs.Headline.{IsLast, IsLastFront, Writes, WritesFront, Ends, back_questions, unsaid}
 use Rattle.audit_cli.specs.Listening.{KeepsWithin}
 
 -- the bytes are the last reply's text; nothing if a limit stopped the run; after another halt nothing,
@@ -36,12 +38,16 @@ pub record LastTalked {K : Type 0} (mode : Mode) (limits : Limits) (engine : Eng
 abbrev pub KeepsLimit : Limits → Job → (log asked : List ℕ) → Type 0
 KeepsLimit limits (job.Back of) log asked = ⊤
 KeepsLimit limits (job.Watch mode name) log asked = KeepsWithin limits (begin mode log) asked
+KeepsLimit limits (job.Trial seed events) log asked = ⊤
 
 -- a limit stopped the job, after which these bytes were written
 abbrev pub JobStopped : Limits → Job → (log asked bytes : List ℕ) → Full → Type 0
-JobStopped limits done log asked bytes full =
-    Stopped limits (beyond_questions limits done asked) (written_by done) (begin (mode_for done) log)
-    (questions_of limits done log asked) bytes full
+JobStopped limits (job.Back of) log asked bytes full =
+    Stopped limits nothing_beyond unsaid (begin Plain log) (back_questions of log) bytes full
+JobStopped limits (job.Watch mode name) log asked bytes full =
+    Stopped limits (QuestionsStop limits asked) texts (begin mode log) (asks limits (lines_in asked)) bytes full
+JobStopped limits (job.Trial seed events) log asked bytes full =
+    (bytes ≡ []) × Stops limits (trial_history seed events) full
 
 -- what a job wrote, by how it ended
 abbrev pub JobCourse : Limits → Job → Result Unit Halt → (log asked bytes : List ℕ) → Moment → Type 0
@@ -56,4 +62,4 @@ pub record JobTalked (limits : Limits) (job : Job) (log asked : List ℕ) (left 
   pub bytes : List ℕ
   pub wrote : Appends old new bytes
   pub course : JobCourse limits job result log asked bytes to
-  pub ends : OnOk result (Ends limits left to)
+  pub ends : OnOk result (Ends limits job left to)

@@ -8,4 +8,5 @@ pub mod Jobs
 pub mod Listening
 pub mod Standard
 pub mod Statuses
+pub mod Trials
 pub mod Words

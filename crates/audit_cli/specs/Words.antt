@@ -1,5 +1,5 @@
 -- The job table: what the words of a command line mean.
-use Rattle.std.specs.Prelude.{◌≡◌, ⊤, ℕ, ◌^◌, nat_lt, List, [], ◌∷◌, length, Option, None, Some, codes, ◌&&◌, if◌then◌else◌, option_map}
+use Rattle.std.specs.Prelude.{◌≡◌, ⊤, ℕ, ◌^◌, nat_lt, nat_le, List, [], ◌∷◌, length, Option, None, Some, codes, ◌&&◌, if◌then◌else◌, option_map}
 use Rattle.std.specs.List.{list_all}
 use Rattle.std.specs.Option.{option_and_then}
 use Rattle.std.specs.Char.{is_ascii_digit}
@@ -15,11 +15,24 @@ use Rattle.audit_cli.specs.declared.words.WordsFault.{WordsFault}
 use Rattle.audit_cli.specs.declared.words.WordsFault.TheVariants as fault
 use Rattle.audit_cli.specs.CommandLine.{command, is_resumed, own_name, words_in}
 
--- one or more decimal digits with a value of at most 32 bits
-abbrev pub id_of : List ℕ → Option ℕ
-id_of text =
-    if list_all is_ascii_digit text && (nat_lt 0 (length text) && nat_lt (digits_value 10 text) (2 ^ 32))
+-- one or more decimal digits with a value of at most so many bits
+abbrev pub number_of : (bits : ℕ) → List ℕ → Option ℕ
+number_of bits text =
+    if list_all is_ascii_digit text && (nat_lt 0 (length text) && nat_lt (digits_value 10 text) (2 ^ bits))
     then Some (digits_value 10 text) else None
+
+-- the number of an object
+abbrev pub id_of : List ℕ → Option ℕ
+id_of text = number_of 32 text
+
+-- the seed of a generated log
+abbrev pub seed_of : List ℕ → Option ℕ
+seed_of text = number_of 64 text
+
+-- a trial has from 1 to 200000 events
+abbrev pub count_of : List ℕ → Option ℕ
+count_of text = option_and_then
+    (λ count. if nat_lt 0 count && nat_le count 200000 then Some count else None) (number_of 32 text)
 
 -- `back ID`
 abbrev pub back_job : List ℕ → List ℕ → Option Job
@@ -34,10 +47,12 @@ mode_of word =
     else if bytes_eq word (codes "source") then Some mode.Source
     else None
 
--- the mode in which a job is done: `back` in plain mode, `watch` in the one that it names
-abbrev pub mode_for : Job → Mode
-mode_for (job.Back of) = mode.Plain
-mode_for (job.Watch kept log) = kept
+-- the one mode in which a job is done: `back` in plain mode, `watch` in the one that it names. `trial` is done in all of
+-- them
+abbrev pub mode_for : Job → Option Mode
+mode_for (job.Back of) = Some mode.Plain
+mode_for (job.Watch kept log) = Some kept
+mode_for (job.Trial seed events) = None
 
 -- a log has a name of at least one byte
 abbrev pub watch_of : Option Mode → List ℕ → Option Job
@@ -48,11 +63,23 @@ watch_of (Some kept) log = if nat_lt 0 (length log) then Some (job.Watch kept lo
 abbrev pub watch_job : List ℕ → List ℕ → List ℕ → Option Job
 watch_job word kept log = if bytes_eq word (codes "watch") then watch_of (mode_of kept) log else None
 
+-- a trial needs both of its numbers
+abbrev pub trial_of : Option ℕ → Option ℕ → Option Job
+trial_of None count = None
+trial_of (Some seed) None = None
+trial_of (Some seed) (Some count) = Some (job.Trial seed count)
+
+-- `trial SEED EVENTS`, or else `watch MODE LOG`
+abbrev pub two_word_job : List ℕ → List ℕ → List ℕ → Option Job
+two_word_job word first second =
+    if bytes_eq word (codes "trial") then trial_of (seed_of first) (count_of second)
+    else watch_job word first second
+
 -- the row of the table that a job's name and the words after it are
 abbrev pub row_of : List ℕ → List (List ℕ) → Option Job
 row_of name [] = None
 row_of name (a ∷ []) = back_job name a
-row_of name (a ∷ b ∷ []) = watch_job name a b
+row_of name (a ∷ b ∷ []) = two_word_job name a b
 row_of name (a ∷ b ∷ c ∷ more) = None
 
 -- the row that was parsed. No row has `--resume`

@@ -2,6 +2,7 @@
 //!
 //!     audit_cli back ID < LOG
 //!     audit_cli watch MODE LOG < QUESTIONS
+//!     audit_cli trial SEED EVENTS
 //!
 //! `audit_main` is the whole of it over any sources and sink, and its contract is the theorem. `main` makes the real
 //! ones, says on standard error how a run ended that wasn't done, and ends with the status's number.
@@ -18,6 +19,8 @@ mod session;
 mod status;
 #[cfg(test)]
 mod tests;
+mod trial;
+mod trial_line;
 mod turn;
 mod words;
 #[cfg(test)]
@@ -55,6 +58,11 @@ fn audited(rt: &HostRuntime, words: &[String]) -> Status {
         }
         Ok(Job::Back(_)) => {
             let mut log = Reading::new(rt.stdin());
+            let mut questions: Reading<File> = Reading::unopened();
+            audit_main(alloc, words, &mut log, &mut questions, &mut out)
+        }
+        Ok(Job::Trial { seed: _, events: _ }) => {
+            let mut log: Reading<File> = Reading::unopened();
             let mut questions: Reading<File> = Reading::unopened();
             audit_main(alloc, words, &mut log, &mut questions, &mut out)
         }

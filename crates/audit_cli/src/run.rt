@@ -6,7 +6,7 @@ ghost use Rattle.audit_cli.specs.Words.{job_of, mode_for};
 ghost use Rattle.audit_cli.specs.Course.{HasCauses};
 ghost use Rattle.audit_cli.specs.Jobs.{JobTalked, KeepsLimit};
 ghost use Rattle.audit_cli.specs.Claims.{WhereTold, WhereStandard, Finishes, WritesPrefix, StopsAtLimit, ReadsToEnd, FitsAtDone, IsComplete};
-ghost use Rattle.audit_cli.specs.Headline.{Tells, LeavesQuestions};
+ghost use Rattle.audit_cli.specs.Headline.{Tells, TellsLog, LeavesQuestions};
 ghost use Rattle.audit_cli.specs.Standard.{IsStandard};
 ghost use Rattle.audit_cli.specs.Statuses.{StatusCause};
 
@@ -15,6 +15,7 @@ use crate::halt::Halt;
 use crate::listen::watch;
 use crate::session::{Session, room_for_a_read};
 use crate::status::{Status, status_of};
+use crate::trial::trial;
 use crate::words::{Job, WordsFault, read_words};
 use flow_base::{EntityId, Limits};
 use ingest::{Ingest, stops_stay, what_fits_never_stops};
@@ -25,7 +26,7 @@ use reduce_continuous::Continuous;
 use reduce_source::Sources;
 use std::alloc::Global;
 
-// Does a job with a new engine of its mode.
+// Does a job.
 fn run<L: Source, Q: Source, O: Sink>(
     alloc: Global,
     limits: &Limits,
@@ -34,14 +35,52 @@ fn run<L: Source, Q: Source, O: Sink>(
     questions: &mut Q,
     out: &mut O,
 ) -> Result<(), Halt>
-    ensures talked { (bytes asked : List ℕ) → L.left log.old ≡ Some bytes
+    ensures talked { (bytes asked : List ℕ) → TellsLog job.now (L.left log.old) bytes
         → Tells job.now (Q.left questions.old) asked
         → JobTalked limits.now job.now bytes asked (L.left log.new)
         (O.written out.old) (O.written out.new) result }
-    ensures within { (bytes asked : List ℕ) → L.left log.old ≡ Some bytes
+    ensures within { (bytes asked : List ℕ) → TellsLog job.now (L.left log.old) bytes
         → Tells job.now (Q.left questions.old) asked
         → OnOk result (KeepsLimit limits.now job.now bytes asked) }
-    ensures left { (bytes asked : List ℕ) → L.left log.old ≡ Some bytes
+    ensures left { (bytes asked : List ℕ) → TellsLog job.now (L.left log.old) bytes
+        → Tells job.now (Q.left questions.old) asked
+        → OnOk result (LeavesQuestions limits.now job.now bytes asked (Q.left questions.new)) }
+    ensures whole { (of : ℕ) (bytes : List ℕ) → job.now ≡ Job.Back of
+        → L.left log.old ≡ Some bytes → OnOk result (L.left log.new ≡ Some []) }
+    ensures causes { IfErr result (HasCauses
+        (Rose (L.faults log.old) (L.faults log.new) (L.spent log.new)
+        ⊎ Rose (Q.faults questions.old) (Q.faults questions.new) (Q.spent questions.new))
+        (Rose (O.faults out.old) (O.faults out.new) (O.spent out.new))) }
+    ensures other { (of : ℕ) → job.now ≡ Job.Back of → questions.new ≡ questions.old }
+    ensures alone { (seed events : ℕ) → job.now ≡ Job.Trial seed events
+        → (log.new ≡ log.old) × (questions.new ≡ questions.old) }
+{
+    match job {
+        Job::Back(_) => run_in_mode(alloc, limits, Mode::Plain, job, log, questions, out),
+        Job::Watch { mode, log: _ } => run_in_mode(alloc, limits, *mode, job, log, questions, out),
+        Job::Trial { seed, events } => trial(alloc, limits, *seed, *events, out),
+    }
+}
+
+// Does a job of one mode with a new engine of this mode.
+fn run_in_mode<L: Source, Q: Source, O: Sink>(
+    alloc: Global,
+    limits: &Limits,
+    mode: Mode,
+    job: &Job,
+    log: &mut L,
+    questions: &mut Q,
+    out: &mut O,
+) -> Result<(), Halt>
+    requires mode { mode_for job.now ≡ Some mode }
+    ensures talked { (bytes asked : List ℕ) → TellsLog job.now (L.left log.old) bytes
+        → Tells job.now (Q.left questions.old) asked
+        → JobTalked limits.now job.now bytes asked (L.left log.new)
+        (O.written out.old) (O.written out.new) result }
+    ensures within { (bytes asked : List ℕ) → TellsLog job.now (L.left log.old) bytes
+        → Tells job.now (Q.left questions.old) asked
+        → OnOk result (KeepsLimit limits.now job.now bytes asked) }
+    ensures left { (bytes asked : List ℕ) → TellsLog job.now (L.left log.old) bytes
         → Tells job.now (Q.left questions.old) asked
         → OnOk result (LeavesQuestions limits.now job.now bytes asked (Q.left questions.new)) }
     ensures whole { (of : ℕ) (bytes : List ℕ) → job.now ≡ Job.Back of
@@ -52,7 +91,7 @@ fn run<L: Source, Q: Source, O: Sink>(
         (Rose (O.faults out.old) (O.faults out.new) (O.spent out.new))) }
     ensures other { (of : ℕ) → job.now ≡ Job.Back of → questions.new ≡ questions.old }
 {
-    match mode_of_job(job) {
+    match mode {
         Mode::Plain => run_with(alloc, limits, Plain::new(), job, log, questions, out),
         Mode::Continuous => run_with(
             alloc,
@@ -76,16 +115,6 @@ fn run<L: Source, Q: Source, O: Sink>(
     }
 }
 
-// The mode in which a job is done.
-fn mode_of_job(job: &Job) -> Mode
-    ensures { result ≡ mode_for job.now }
-{
-    match job {
-        Job::Back(_) => Mode::Plain,
-        Job::Watch { mode, log: _ } => *mode,
-    }
-}
-
 // Does a job with a new engine, which decides by these tables.
 fn run_with<R: Reducer + Drop, L: Source, Q: Source, O: Sink>(
     alloc: Global,
@@ -96,17 +125,17 @@ fn run_with<R: Reducer + Drop, L: Source, Q: Source, O: Sink>(
     questions: &mut Q,
     out: &mut O,
 ) -> Result<(), Halt>
-    requires mode { mode_for job.now ≡ R.mode }
+    requires mode { mode_for job.now ≡ Some R.mode }
     requires stands { R.stands_for reducer [] }
     requires holds { R.holds reducer [] }
-    ensures talked { (bytes asked : List ℕ) → L.left log.old ≡ Some bytes
+    ensures talked { (bytes asked : List ℕ) → TellsLog job.now (L.left log.old) bytes
         → Tells job.now (Q.left questions.old) asked
         → JobTalked limits.now job.now bytes asked (L.left log.new)
         (O.written out.old) (O.written out.new) result }
-    ensures within { (bytes asked : List ℕ) → L.left log.old ≡ Some bytes
+    ensures within { (bytes asked : List ℕ) → TellsLog job.now (L.left log.old) bytes
         → Tells job.now (Q.left questions.old) asked
         → OnOk result (KeepsLimit limits.now job.now bytes asked) }
-    ensures left { (bytes asked : List ℕ) → L.left log.old ≡ Some bytes
+    ensures left { (bytes asked : List ℕ) → TellsLog job.now (L.left log.old) bytes
         → Tells job.now (Q.left questions.old) asked
         → OnOk result (LeavesQuestions limits.now job.now bytes asked (Q.left questions.new)) }
     ensures whole { (of : ℕ) (bytes : List ℕ) → job.now ≡ Job.Back of
@@ -127,6 +156,7 @@ fn run_with<R: Reducer + Drop, L: Source, Q: Source, O: Sink>(
     match job {
         Job::Back(of) => back(&mut session, log, out, EntityId(*of)),
         Job::Watch { mode: _, log: _ } => watch(&mut session, limits, log, questions, out),
+        Job::Trial { seed: _, events: _ } => unreachable!(),
     }
 }
 
@@ -146,6 +176,9 @@ pub fn audit_run<L: Source, Q: Source, O: Sink>(
         → (log.new ≡ log.old) × (questions.new ≡ questions.old) × (out.new ≡ out.old) }
     ensures other { (of : ℕ) → job_of (map string_bytes words.now) ≡ Some (Job.Back of)
         → questions.new ≡ questions.old }
+    ensures alone { (seed events : ℕ)
+        → job_of (map string_bytes words.now) ≡ Some (Job.Trial seed events)
+        → (log.new ≡ log.old) × (questions.new ≡ questions.old) }
     ensures causes { StatusCause
         (Rose (L.faults log.old) (L.faults log.new) (L.spent log.new)
         ⊎ Rose (Q.faults questions.old) (Q.faults questions.new) (Q.spent questions.new))
@@ -198,6 +231,9 @@ pub fn audit_main<L: Source, Q: Source, O: Sink>(
         → (log.new ≡ log.old) × (questions.new ≡ questions.old) × (out.new ≡ out.old) }
     ensures other { (of : ℕ) → job_of (map string_bytes words.now) ≡ Some (Job.Back of)
         → questions.new ≡ questions.old }
+    ensures alone { (seed events : ℕ)
+        → job_of (map string_bytes words.now) ≡ Some (Job.Trial seed events)
+        → (log.new ≡ log.old) × (questions.new ≡ questions.old) }
     ensures causes { StatusCause
         (Rose (L.faults log.old) (L.faults log.new) (L.spent log.new)
         ⊎ Rose (Q.faults questions.old) (Q.faults questions.new) (Q.spent questions.new))

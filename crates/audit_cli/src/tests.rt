@@ -563,6 +563,45 @@ fn a_limit_is_kept_on_both_sides(rt: HostRuntime) -> Result<(), Fail> {
     Ok(())
 }
 
+// The lines of `trial 1 3`. Its events are made by hand in docs/FORMATS.md's way: process 101 runs file 31, 104 forks 109,
+// and 107 runs file 26. So the last of six objects is process 107, to which file 26 and itself lead, and the file is a source.
+const TRIAL: &[u8] = b"{\"back\":2,\"flows\":3,\"kept\":3,\"known\":6,\"mode\":\"plain\"}\n\
+    {\"back\":2,\"flows\":3,\"kept\":3,\"known\":6,\"mode\":\"continuous\"}\n\
+    {\"back\":2,\"flows\":3,\"kept\":3,\"known\":6,\"mode\":\"full\"}\n\
+    {\"back\":1,\"flows\":3,\"kept\":3,\"known\":6,\"mode\":\"source\"}\n";
+
+// The first of these lines.
+const FIRST_TRIED: &[u8] = b"{\"back\":2,\"flows\":3,\"kept\":3,\"known\":6,\"mode\":\"plain\"}\n";
+
+#[test]
+fn a_trial_writes_a_line_for_each_mode(rt: HostRuntime) -> Result<(), Fail> {
+    let none = [].as_slice();
+    let first = [0u64].as_slice();
+    let second = [1u64].as_slice();
+    // its log has 698 bytes; the log and the questions fail at a first read, which isn't made
+    let rows = [
+        ((698u64, 6u32), none, Status::Done, TRIAL),
+        ((697u64, 6u32), none, full(Limit::Input, 697), NOTHING),
+        ((698u64, 5u32), none, full(Limit::Entities, 5), NOTHING),
+        ((698u64, 6u32), first, Status::WriteFault, NOTHING),
+        ((698u64, 6u32), second, Status::WriteFault, FIRST_TRIED),
+    ];
+    for (most, out, status, text) in rows {
+        let limits = limits(most.0, most.1, 9, 99);
+        let fails = Fails {
+            log: first,
+            questions: first,
+            out,
+        };
+        let log = Bytes::new(rt.alloc());
+        let asked = Bytes::new(rt.alloc());
+        let (ended, written) = run_with(&rt, &limits, "trial 1 3", log, asked, fails)?;
+        assert_eq!(rt; ended, status);
+        assert_eq!(rt; written.as_slice(), text);
+    }
+    Ok(())
+}
+
 #[test]
 fn a_failing_device_is_named_and_nothing_false_is_written(rt: HostRuntime) -> Result<(), Fail> {
     let none = [].as_slice();

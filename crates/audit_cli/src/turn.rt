@@ -40,8 +40,8 @@ pub fn question_in(line: &Line) -> Option<Ask<'_>>
     }
 }
 
-// Settles, and says how many events are released.
-fn settle<R: Reducer>(engine: &mut Ingest<R, VecRows>) -> Result<Reply, Halt>
+/// Settles, and says how many events are released.
+pub fn settle<R: Reducer>(engine: &mut Ingest<R, VecRows>) -> Result<Reply, Halt>
     ensures stands { (limits : Limits) (h : History) → StandsFor limits engine.old h
         → OnOk result (StandsFor limits engine.new (h ++ Settle ∷ [])) }
     ensures reply { (limits : Limits) (h : History) → StandsFor limits engine.old h
@@ -56,9 +56,9 @@ fn settle<R: Reducer>(engine: &mut Ingest<R, VecRows>) -> Result<Reply, Halt>
     }
 }
 
-// The engine's reply to what is asked about what was taken. Rows in memory have no faults of their
-// own, so it can only fail to allocate.
-fn reply_of<R: Reducer>(engine: &mut Ingest<R, VecRows>, ask: &Ask<'_>) -> Result<Reply, Halt>
+/// The engine's reply to what is asked about what was taken. Rows in memory have no faults of their
+/// own, so it can only fail to allocate.
+pub fn reply_of<R: Reducer>(engine: &mut Ingest<R, VecRows>, ask: &Ask<'_>) -> Result<Reply, Halt>
     requires asks { IsQuestion ask.now }
     ensures reply { IfOk result (λ reply. (limits : Limits) (h : History)
         → StandsFor limits engine.old h → IsReply R.mode limits h ask.now reply) }

@@ -1,14 +1,16 @@
 //! The words of the command line, which name a job.
 //!
-//!     back ID           ID is one or more decimal digits, of value at most 4294967295
-//!     watch MODE LOG    MODE is `plain`, `continuous`, `full` or `source`, LOG any word of at least one byte
+//!     back ID              ID is one or more decimal digits, of value at most 4294967295
+//!     watch MODE LOG       MODE is `plain`, `continuous`, `full` or `source`, LOG any word of at least one byte
+//!     trial SEED EVENTS    SEED is one or more decimal digits, of value at most 18446744073709551615, EVENTS one or
+//!                          more, of value 1 to 200000
 ghost use Rattle.std.specs.Prelude.{◌≡◌, ◌∷◌, Some, IfOk, IfErr, map, string_bytes};
 ghost use Rattle.std.specs.List.{list_all};
 ghost use Rattle.std.specs.Char.{is_ascii_digit};
 ghost use Rattle.clap.specs.Words.{found_of, rows_of};
 ghost use Rattle.audit_cli.specs.CommandLine.{own_name};
 ghost use Rattle.audit_cli.specs.Words as table;
-ghost use Rattle.audit_cli.specs.Words.{id_of, job_of, back_job, watch_job, mode_of, RefusesWords};
+ghost use Rattle.audit_cli.specs.Words.{job_of, back_job, trial_of, seed_of, count_of, two_word_job, watch_job, mode_of, RefusesWords};
 ghost use Rattle.audit_cli.specs.declared.words.WordsFault.TheVariants as fault;
 
 use crate::command_line::{job_name, job_words, parsed, resumes};
@@ -24,7 +26,12 @@ pub enum Job {
     Back(u32),
     /// Answers questions in a mode while the log of this name is taken.
     Watch { mode: Mode, log: Bytes },
+    /// Tries every mode on the log that this seed and number of events determine.
+    Trial { seed: u64, events: u32 },
 }
+
+/// The most events of a trial.
+const MOST_EVENTS: u32 = 200_000;
 
 /// Why the words name no job.
 #[derive(Clone, Copy, Debug, PartialEq, Eq)]
@@ -101,7 +108,7 @@ fn row_of(alloc: Global, name: &str, words: &[&str]) -> Result<Job, WordsFault>
 {
     match words {
         [id] => back_named(name, id).ok_or(WordsFault::BadWords),
-        [mode, log] => watch_named(alloc, name, mode, log),
+        [first, second] => two_worded(alloc, name, first, second),
         _ => Err(WordsFault::BadWords),
     }
 }
@@ -120,6 +127,28 @@ fn back_named(job: &str, id: &str) -> Option<Job>
 }
 
 // The job of two words after its name.
+fn two_worded(alloc: Global, job: &str, first: &str, second: &str) -> Result<Job, WordsFault>
+    ensures found { IfOk result (λ found.
+        two_word_job job.now first.now second.now ≡ Some found) }
+    ensures refused { IfErr result (
+        RefusesWords (two_word_job job.now first.now second.now)) }
+{
+    if job.as_bytes() == b"trial".as_slice() {
+        return trial_named(first, second).ok_or(WordsFault::BadWords);
+    }
+    watch_named(alloc, job, first, second)
+}
+
+// A trial by its numbers.
+fn trial_named(seed: &str, events: &str) -> Option<Job>
+    ensures { result ≡ trial_of (seed_of seed.now) (count_of events.now) }
+{
+    let seed = seed_in(seed)?;
+    let events = count_in(events)?;
+    Some(Job::Trial { seed, events })
+}
+
+// A mode and a log.
 fn watch_named(alloc: Global, job: &str, mode: &str, log: &str) -> Result<Job, WordsFault>
     ensures found { IfOk result (λ found. watch_job job.now mode.now log.now ≡ Some found) }
     ensures refused { IfErr result (RefusesWords (watch_job job.now mode.now log.now)) }
@@ -156,9 +185,32 @@ fn mode_named(word: &str) -> Option<Mode>
     None
 }
 
-// The number that a word spells.
+// The seed that a word spells.
+fn seed_in(word: &str) -> Option<u64>
+    ensures { result ≡ seed_of word.now }
+{
+    if !is_decimal(word.as_bytes()) {
+        return None;
+    }
+    match word.parse::<u64>() {
+        Ok(number) => Some(number),
+        Err(_) => None,
+    }
+}
+
+// The number of events that a word spells.
+fn count_in(word: &str) -> Option<u32>
+    ensures { result ≡ count_of word.now }
+{
+    match number_of(word) {
+        Some(count) if 0 < count && count <= MOST_EVENTS => Some(count),
+        _ => None,
+    }
+}
+
+// The number of 32 bits that a word spells.
 fn number_of(word: &str) -> Option<u32>
-    ensures { result ≡ id_of word.now }
+    ensures { result ≡ table.number_of 32 word.now }
 {
     if !is_decimal(word.as_bytes()) {
         return None;

@@ -16,6 +16,7 @@ fn read(rt: &HostRuntime, words: &[&str]) -> Result<String, Fail> {
             let log = str::from_utf8(log.as_slice())?;
             format!(in alloc; "watch {mode:?} {log}")?
         }
+        Ok(Job::Trial { seed, events }) => format!(in alloc; "trial {seed} {events}")?,
         Err(WordsFault::BadWords) => String::from_str(alloc, "bad words")?,
         Err(WordsFault::NoMemory) => String::from_str(alloc, "no memory")?,
     };
@@ -52,6 +53,11 @@ fn words_name_jobs(rt: HostRuntime) -> Result<(), Fail> {
         (
             ["watch", "plain", "--", "--resume"].as_slice(),
             "watch Plain --resume",
+        ),
+        (["trial", "0", "1"].as_slice(), "trial 0 1"),
+        (
+            ["trial", "18446744073709551615", "200000"].as_slice(),
+            "trial 18446744073709551615 200000",
         ),
     ] {
         let text = read(&rt, words)?;
@@ -107,6 +113,26 @@ fn words_of_another_watch_are_bad(rt: HostRuntime) -> Result<(), Fail> {
 }
 
 #[test]
+fn words_of_another_trial_are_bad(rt: HostRuntime) -> Result<(), Fail> {
+    for (words, want) in [
+        (["trial", "1"].as_slice(), "bad words"),
+        (["trial", "1", "0"].as_slice(), "bad words"),
+        (["trial", "1", "200001"].as_slice(), "bad words"),
+        (
+            ["trial", "18446744073709551616", "1"].as_slice(),
+            "bad words",
+        ),
+        (["trial", "1", "x"].as_slice(), "bad words"),
+        (["trial", "+1", "1"].as_slice(), "bad words"),
+        (["trial", "1", "1", "1"].as_slice(), "bad words"),
+    ] {
+        let text = read(&rt, words)?;
+        assert_eq!(rt; text.as_str(), want);
+    }
+    Ok(())
+}
+
+#[test]
 fn options_are_bad(rt: HostRuntime) -> Result<(), Fail> {
     for (words, want) in [
         (["help"].as_slice(), "bad words"),
@@ -124,7 +150,7 @@ fn options_are_bad(rt: HostRuntime) -> Result<(), Fail> {
         (["back", "2", "--resum"].as_slice(), "bad words"),
         (["back", "2", "--resume=x"].as_slice(), "bad words"),
         (["back", "2", "-r"].as_slice(), "bad words"),
-        (["trial", "1", "1"].as_slice(), "bad words"),
+        (["trial", "1", "1", "--resume"].as_slice(), "bad words"),
     ] {
         let text = read(&rt, words)?;
         assert_eq!(rt; text.as_str(), want);

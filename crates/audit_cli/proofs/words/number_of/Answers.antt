@@ -7,4 +7,4 @@ use Rattle.audit_cli.proofs.words.number_of.Goals as goal
 pub returns-in-Err : goal.returns-in-Err
 returns-in-Err c =
     let digits : list_all is_ascii_digit c.args.word.now ≡ true = cc in
-    refused c.args.word.now c.in-Err.field-0 digits (rw c.in-Err.is at c.parse.ensures.value.0)
+    refused 32 c.args.word.now c.in-Err.field-0 digits (rw c.in-Err.is at c.parse.ensures.value.0)
