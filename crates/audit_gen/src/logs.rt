@@ -10,17 +10,29 @@ use rand_core::utils::NextWord;
 use rand_pcg::Lcg64Xsh32;
 use std::alloc::{AllocError, Global};
 
-/// The log of so many events by this 64-bit seed.
+/// The log of so many events by this 64-bit seed, in just as much memory as it has bytes: its lines are made twice,
+/// first to count them.
 pub fn generate(alloc: Global, seed: u64, events: u32) -> Result<Bytes, NoMemory>
     ensures { IfOk result (λ log. log ≡ generated seed events) }
 {
     let mut words = generator_of(seed);
-    let mut log = Bytes::new(alloc);
+    let mut log = Vec::with_capacity(alloc, size_of(alloc, seed, events)?)?;
     for number in 0..events {
         let text = event_of(alloc, number, words.next_word())?;
-        log.append(text.as_bytes())?;
+        log.extend_from_slice(text.as_bytes())?;
     }
-    Ok(log)
+    Ok(Bytes::from_vec(log))
+}
+
+// How many bytes the log has: a guess as far as proofs go, since room is all that it is for.
+fn size_of(alloc: Global, seed: u64, events: u32) -> Result<usize, AllocError> {
+    let mut words = generator_of(seed);
+    let mut size = 0usize;
+    for number in 0..events {
+        let text = event_of(alloc, number, words.next_word())?;
+        size = size.saturating_add(text.len());
+    }
+    Ok(size)
 }
 
 // The generator that gives the words of a log, by its 64-bit seed.

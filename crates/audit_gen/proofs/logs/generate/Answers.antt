@@ -8,7 +8,7 @@ use Rattle.audit_gen.proofs.logs.generate.Goals as goal
 pub loop-number-init : goal.loop-number-init
 loop-number-init c = record {
   drawn = c.generator_of-words.ensures ∙ sym (advance_zero 64 multiplier_64 (generator_of c.args.seed));
-  put = c.new-log.ensures;
+  put = c.in_ok-log.ensures.items;
 }
 
 pub loop-number-preserved : goal.loop-number-preserved
@@ -24,7 +24,7 @@ loop-number-preserved c =
           ap (λ p. p.1) c.next_word.ensures ∙ ap (next 64 multiplier_64) drawn
           ∙ advance_then_next 64 multiplier_64 number generator;
       put =
-          c.in_ok-append.ensures.ok ∙ ap (λ text. c.loop-number.log ++ text) text
+          c.in_ok-extend_from_slice.ensures.items ∙ ap (λ text. c.loop-number.log.items ++ text) text
           ∙ ap (λ log. log ++ event_text number (word_after number generator)) c.loop-number.invariant.put
           ∙ sym (generated_more c.args.seed number);
     }

@@ -10,4 +10,4 @@ pub record HasPut (words : Lcg) (log : List ℕ) (seed number : ℕ) : Type 0 wh
   pub put : log ≡ generated seed number
 
 abbrev pub invariant-loop-number : goal.invariant-loop-number
-invariant-loop-number l = HasPut l.words l.log l.seed l.number
+invariant-loop-number l = HasPut l.words l.log.items l.seed l.number
