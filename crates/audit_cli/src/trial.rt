@@ -1,6 +1,6 @@
 //! A trial: the log that a seed determines goes to the engine of each mode, and each of them gets a line.
 //!
-//! The log is made once and lent to the four engines in turn, so that two of them never stand in memory together. Their
+//! The log is made once, and the four engines borrow it in turn, so that two of them never stand in memory together. Their
 //! history is the same, and a limit that it passes stops the first of them, before anything is written.
 ghost use Rattle.std.specs.Prelude.{◌≡◌, ◌≤◌, ◌^◌, ◌∷◌, ◌++◌, [], OnOk, OnErr, IfOk, IfErr, List, ℕ, length, take};
 ghost use Rattle.std.specs.Io.KnownBytes.{Appends};
@@ -171,7 +171,7 @@ fn totals_now<R: Reducer>(engine: &mut Ingest<R, VecRows>) -> Result<Totals, Hal
     Ok(totals_in(&reply))
 }
 
-// How many objects or sources the last of so many known objects can have come from.
+// How many objects or sources the last of this many known objects can have come from.
 fn count_back<R: Reducer>(engine: &mut Ingest<R, VecRows>, known: u64) -> Result<u64, Halt>
     requires { known ≤ 2 ^ 32 }
     ensures reached { (limits : Limits) (h : History) → StandsFor limits engine.old h

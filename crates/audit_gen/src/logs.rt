@@ -10,7 +10,7 @@ use rand_core::utils::NextWord;
 use rand_pcg::Lcg64Xsh32;
 use std::alloc::{AllocError, Global};
 
-/// The log of so many events by this 64-bit seed, in just as much memory as it has bytes: its lines are made twice,
+/// The log of this many events by this 64-bit seed, in just as much memory as it has bytes: its lines are made twice,
 /// first to count them.
 pub fn generate(alloc: Global, seed: u64, events: u32) -> Result<Bytes, NoMemory>
     ensures { IfOk result (λ log. log ≡ generated seed events) }
