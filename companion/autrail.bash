@@ -17,7 +17,7 @@ _autrail() {
         '') options="back fore why find show stat ask rules $options --version" ;;
         back) options="$options --at -a --hide --each --tree --json --dot --svg --png" ;;
         fore) options="$options --since -a --hide --each --tree --json --dot --svg --png" ;;
-        why) options="$options --at --lines --each --json" ;;
+        why) options="$options --at --lines -i --interpret --each --json" ;;
         find | show) options="$options --each --json" ;;
         stat) options="$options --json" ;;
     esac
