@@ -70,7 +70,7 @@ def asked(log: Path | str, questions: str) -> str:
 
 
 def call(serial: int, number: int, pid: int = 100, at: int | None = None, arch: str = 'c000003e', exit: int = 5, a0: str = '3', more: str = '', node: str = '') -> str:
-    """The SYSCALL line of an event, one second after the one of the serial number before, if no time is given."""
+    """The SYSCALL line of an event. If no time is given it is one second later for each serial number."""
     return (f'{node}type=SYSCALL msg=audit({1780992000 + serial if at is None else at}.000:{serial}): arch={arch} syscall={number} success=yes exit={exit} '
             f'a0={a0} a1=0 a2=0 a3=0 items=1 ppid=1 pid={pid} auid=1000 uid=1001 gid=0 tty=pts0 ses=7 comm="p" exe="/usr/bin/p"{more}\n')
 
@@ -258,7 +258,7 @@ class Trees(Scratch):
 
 
 class Rotated(Scratch):
-    """A log in parts, packed in several ways, in a folder with a blank in its name."""
+    """A log in parts, packed in several ways, in a folder whose name has a blank."""
 
     def parts(self, count: int) -> list[bytes]:
         lines = EXAMPLE.read_bytes().splitlines(keepends=True)
@@ -328,7 +328,7 @@ class Rotated(Scratch):
 
 
 class Fitness(Scratch):
-    """What a log isn't fit for is told before the answer."""
+    """A warning before the answer says what a log isn't fit for."""
 
     def test_each_fault_is_told(self) -> None:
         good = opened_and(0, '"/a"', 7, 1) + opened_and(1, '"/b"', 8, 3, 'CREATE') + call(5, 57, exit=101) + call(6, 59, exit=0)
@@ -449,7 +449,7 @@ class Words(Scratch):
     def test_faults_of_the_log_and_the_program(self) -> None:
         empty = self.log('')
         cases = [(['-if', self.folder / 'none', 'stat'], {}, 4, 'no such log'), (['-if', empty, 'stat'], {'AUDIT_CLI': '/no/such'}, 2, "doesn't start"),
-                 (['-if', empty, 'stat'], {'AUDIT_CLI': "'"}, 2, "can't be parted"),
+                 (['-if', empty, 'stat'], {'AUDIT_CLI': "'"}, 2, "can't be split into words"),
                  (['-if', empty, 'stat'], {'AUDIT_CLI': "sh -c 'echo full >&2; exit 9'"}, 9, 'the program says: full'),
                  (['-if', EXAMPLE, 'find', 'nosuch.c'], {}, 1, 'nothing in the log is called nosuch.c'), (['-if', EXAMPLE, 'show', '#99'], {}, 1, 'no object'),
                  (['-if', EXAMPLE, 'find', 'customers'], {}, 1, 'there is /customers.csv')]
@@ -538,7 +538,7 @@ class Pictures(Scratch):
                 done = run('-q', '-if', log, 'back', what, option, file)
                 self.assertEqual(done.returncode, 0, done.stderr)
             self.assertEqual(svg.read_text().count('class="node"'), shapes)
-            # The width and the height of a PNG stand behind its magic and the head of its first part.
+            # In a PNG the width and the height follow the magic and the head of the first part.
             self.assertTrue(png.read_bytes().startswith(b'\x89PNG\r\n\x1a\n'))
             self.assertGreater(min(struct.unpack('>II', png.read_bytes()[16:24])), 100)
             self.assertIsNone(RAW.search(svg.read_bytes()))
