@@ -248,6 +248,15 @@ class Trees(Scratch):
         self.assertEqual(len([it for it in lines if ' fork  ' in it]), 1500)
         self.assertIn('p[1001]  #', lines[1500])
 
+    def test_a_tree_of_too_many_paths_says_what_it_left_out(self) -> None:
+        text = ''.join(opened_and(0, f'"/tmp/f{it}"', 50 + it, 10 * it) for it in range(1, 11))
+        text += call(200, 41, exit=3) + call(201, 42) + 'type=SOCKADDR msg=audit(1780992201.000:201): saddr=02001F907F0000010000000000000000\n' + call(202, 0)
+        text += opened_and(1, '"/tmp/out"', 9, 900, 'CREATE')
+        lines = asked(self.log(text), 'back /tmp/out --tree --paths 3').splitlines()
+        self.assertEqual([it.split()[-2] for it in lines if '─ read ' in it], ['127.0.0.1:8080', '/tmp/f2', '/tmp/f1'])
+        self.assertIn('one path for each of 4 objects', lines)
+        self.assertIn('8 objects of the answer left out, since 3 paths were asked for; --paths N asks for more', lines)
+
     def test_times_along_each_branch_go_one_way(self) -> None:
         """Two objects reach the target over one process, which wrote it after each of them was read."""
         text = opened_and(0, '"/a"', 7, 10) + opened_and(1, '"/out"', 9, 20, 'CREATE') + call(22, 3, exit=0) + opened_and(0, '"/b"', 8, 30)
@@ -437,7 +446,7 @@ class Words(Scratch):
     def test_wrong_words_give_one_line(self) -> None:
         wrong = ['', 'frob', 'back', 'fore', 'why a', 'find', 'show', 'stat x', 'ask x', 'rules x', 'back x y', 'back x --at', 'back x --at soon', 'fore x --since 25:00',
                  'back x --since today', 'back x --tree --dot', 'back x --svg x.png', 'back x --png x.svg', '-m fast stat', '--no-such stat', '-if', 'why a b --at never',
-                 '-if - ask', 'show x --frob', 'find x --tree', 'rules --json']
+                 '-if - ask', 'back x --paths 0', 'back x --paths many', 'show x --frob', 'find x --tree', 'rules --json']
         for words in wrong:
             with self.subTest(words), self.assertRaises(self.autrail.Refused) as refused:
                 self.autrail.run(shlex.split(words))
@@ -564,7 +573,8 @@ class Terminal(Scratch):
         super().setUp()
         if not shutil.which('tmux'):
             self.skipTest('tmux is not on this machine')
-        self.tmux = ['tmux', '-L', f'autrail-{os.getpid()}', '-f', '/dev/null']
+        # Each test has a server of its own, since a server that was told to end takes a while.
+        self.tmux = ['tmux', '-L', f'autrail-{os.getpid()}-{self._testMethodName}', '-f', '/dev/null']
 
     def start(self, *words: str | Path, **more: str) -> None:
         """Starts autrail at the terminal. Its status is shown when it ends."""
@@ -639,9 +649,13 @@ for line in sys.stdin:
         text = ''.join(opened_and(0, f'"/tmp/f{it}"', 50 + it, 10 * it) for it in range(1, 61)) + opened_and(1, '"/tmp/out"', 9, 900, 'CREATE')
         self.start('-q', '-if', self.log(text), 'back', '/tmp/out', PAGER='less -FRX')
         self.wait_for('/tmp/f30\n')
-        # An interrupt is for the pager, which stays.
+        # An interrupt is for the pager, which stays. It may drop keys that follow at once.
         self.keys('C-c')
-        self.keys('q')
+        for _ in range(20):
+            self.keys('q')
+            time.sleep(0.3)
+            if 'status' in self.screen():
+                break
         self.wait_for('status 0')
 
 
