@@ -1,7 +1,6 @@
 -- Lines that wait, and which of them is taken first.
-use Rattle.std.specs.Prelude.{◌≡◌, ℕ, Bool, false, List, length, map}
-use Rattle.std.specs.List.{All, sum_by}
-use Rattle.std.specs.Ordering.{is_lt}
+use Rattle.std.specs.Prelude.{ℕ, List, length, map}
+use Rattle.std.specs.List.{sum_by}
 use Rattle.order_queue.specs.declared.waiting.Waiting.{Waiting}
 
 -- the lines that wait, in no order that is claimed, and the bytes of all of them

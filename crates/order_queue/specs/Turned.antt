@@ -1,5 +1,5 @@
 -- Lines in a heap whose greatest element is taken first.
-use Rattle.core.specs.declared.cmp.Reverse.{Reverse}
+use Rattle.std.specs.declared.cmp.Reverse.{Reverse}
 use Rattle.order_queue.specs.declared.waiting.Waiting.{Waiting}
 
 -- the line under a reversed order
