@@ -49,6 +49,14 @@ impl Queue {
         self.bytes
     }
 
+    /// How many lines wait.
+    pub fn len(&self) -> usize
+        ensures count { result ≡ length self.now.waits }
+        ensures none { result ≡ 0 → self.now.bytes ≡ 0 }
+    {
+        self.heap.len()
+    }
+
     /// Adds a line. If allocation fails, nothing has changed and the line is lost.
     pub fn push(&mut self, item: Waiting) -> Result<(), NoMemory>
         requires { self.old.bytes + length item.line < 2 ^ 64 }

@@ -1,5 +1,5 @@
 //! The stamp of a line: its time and its serial number.
-ghost use Rattle.std.specs.Prelude.{◌≡◌, ◌≢◌, ◌<◌, ◌^◌, ◌*◌, option_map, IfSome};
+ghost use Rattle.std.specs.Prelude.{◌≡◌, Some, option_map, IfSome};
 ghost use Rattle.std.specs.List.{list_all};
 ghost use Rattle.order_text.specs.Stamp.{ms_from, ms_of, time_of, number_of, ends_as_header, is_stamp_byte as stamp_byte, stamp_of, stamp_from};
 ghost use Rattle.order_text.specs.Seen.{stamp_seen};
@@ -20,7 +20,8 @@ pub struct Stamp<'a> {
 
 /// The parts of a line that bears a time and a serial number.
 pub fn read_stamp(line: &[u8]) -> Option<Stamp<'_>>
-    ensures { option_map stamp_seen result ≡ stamp_of line.now }
+    ensures parts { option_map stamp_seen result ≡ stamp_of line.now }
+    ensures time { IfSome result (λ stamp. time_of stamp.time.now ≡ Some stamp.ms) }
 {
     let (front, text) = at_first(b'(', line)?;
     let (time, text) = at_first(b':', text)?;
@@ -38,8 +39,9 @@ fn stamp_with<'a>(
     serial: &'a [u8],
     rest: &'a [u8],
 ) -> Option<Stamp<'a>>
-    ensures { option_map stamp_seen result
+    ensures parts { option_map stamp_seen result
         ≡ stamp_from front.now time.now serial.now rest.now (time_of time.now) (number_of serial.now) }
+    ensures time { IfSome result (λ stamp. time_of stamp.time.now ≡ Some stamp.ms) }
 {
     let (Some(ms), Some(number)) = (time_in(time), number_in(serial)) else {
         return None;

@@ -1,0 +1,4 @@
+pub mod Halts
+pub mod Lines
+pub mod Course
+pub mod Sorted
