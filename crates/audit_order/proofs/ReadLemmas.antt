@@ -1,23 +1,19 @@
 -- How the reading of a log goes on.
-use Rattle.std.proofs.Common.{◌≡◌, ◌<◌, ◌≤◌, ◌+◌, ◌^◌, ◌∙◌, sym, refl, ap, subst, ℕ, Bool, false, List, [], ◌∷◌, ◌++◌, length, take, drop, Option, None, Some, map, arith, append_assoc, append-nil, Ok, Err, Result, OnOk, ◌-◌}
+use Rattle.std.proofs.Common.{◌≡◌, ◌+◌, ◌∙◌, sym, refl, ap, subst, ℕ, false, List, [], ◌∷◌, ◌++◌, length, take, drop, Option, None, Some, map, append_assoc, append-nil, Ok, Err, Result, OnOk, ◌-◌}
 use Rattle.std.specs.List.Sorted.{IsPermutation}
 use Rattle.std.specs.Io.KnownBytes.{Appends, Consumes, IsAtEnd}
 use Rattle.std.proofs.Math.Seq.{take-add}
-use Rattle.std.proofs.lemmas.List.{map-append, take_rest, take_all}
-use Rattle.outside.specs.Cause.{HasCause}
+use Rattle.std.proofs.lemmas.List.{map-append, take_rest}
 use Rattle.audit_order.specs.declared.halt.Halt.{Halt}
 use Rattle.audit_order.specs.declared.halt.Halt.TheVariants as halt
-use Rattle.audit_order.specs.declared.status.Status.{Status}
 use Rattle.audit_order.specs.Statuses.{status_for, AtDone}
 use Rattle.std.proofs.lemmas.Option.{same_Some}
-use Rattle.audit_lex.specs.History.{History, Step, Byte, Settle, lines_of, with_bytes, is_long, short_text}
+use Rattle.audit_lex.specs.History.{History, Step, Byte, lines_of, with_bytes, is_long, short_text}
 use Rattle.audit_lex.specs.LineCut.{StandsFor, Cutter, Gives}
 use Rattle.audit_lex.specs.declared.line_cut.Line.{Line}
 use Rattle.order_text.specs.Undo.{undone}
-use Rattle.order_queue.specs.Queue.{texts_of}
-use Rattle.audit_order.specs.Lines.{text_of, times_of, IsEnd}
 use Rattle.audit_order.specs.Course.{Course}
-use Rattle.audit_order.specs.Sorted.{Sorts, Goes, Takes}
+use Rattle.audit_order.specs.Sorted.{Sorts}
 use Rattle.audit_order.specs.Reads.{Took, TakesAlso, TakesNext, log_lines, Orders}
 use Rattle.audit_order.specs.declared.sorter.Sorter.{Sorter}
 

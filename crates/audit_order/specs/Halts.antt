@@ -1,5 +1,5 @@
 -- Why a run stops before its end, and its cause.
-use Rattle.std.specs.Prelude.{⊤, ℕ, ◌≤◌, Result, Ok, Err}
+use Rattle.std.specs.Prelude.{⊤, ℕ, ◌≤◌}
 use Rattle.audit_order.specs.declared.halt.Halt.{Halt}
 use Rattle.audit_order.specs.declared.halt.Halt.TheVariants as halt
 

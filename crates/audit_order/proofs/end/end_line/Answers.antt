@@ -1,4 +1,3 @@
-use Rattle.std.proofs.Common.{◌≡◌, List, ℕ}
 use Rattle.audit_order.proofs.CourseLemmas.{end_pieces}
 use Rattle.audit_order.proofs.end.end_line.Goals as goal
 

@@ -1,5 +1,5 @@
-use Rattle.std.proofs.Common.{◌≡◌, ◌<◌, List, ℕ, [], take, length, ap, arith, Some}
-use Rattle.audit_order.proofs.ReadLemmas.{Ended, begins_log, goes_on_log, ends_log}
+use Rattle.std.proofs.Common.{◌<◌, ℕ, take, length, ap, arith}
+use Rattle.audit_order.proofs.ReadLemmas.{begins_log, goes_on_log, ends_log}
 use Rattle.audit_order.proofs.log.take_log.Goals as goal
 
 pub loop-init : goal.loop-init

@@ -1,4 +1,4 @@
-use Rattle.std.proofs.Common.{rules, ◌≡◌, ◌≤◌, ◌++◌, List, ℕ, length, take, map, arith, subst}
+use Rattle.std.proofs.Common.{rules, ◌≤◌, ◌++◌, List, ℕ, length, take, map, arith, subst}
 use Rattle.std.proofs.lemmas.List.{take_rest, take_all, length-drop}
 use Rattle.audit_lex.specs.History.{History, Byte}
 use Rattle.audit_order.specs.Reads.{Took}

@@ -1,4 +1,3 @@
-use Rattle.std.proofs.Common.{◌≡◌}
 use Rattle.std.proofs.lemmas.Result.{on_ok_weaker}
 use Rattle.audit_order.proofs.CourseLemmas.{flushed}
 use Rattle.audit_order.proofs.release.flush_much.Goals as goal

@@ -1,4 +1,4 @@
-use Rattle.std.proofs.Common.{◌≡◌, ◌∙◌, ap, arith, length}
+use Rattle.std.proofs.Common.{◌∙◌, ap, length}
 use Rattle.std.proofs.lemmas.Result.{on_ok_weaker}
 use Rattle.order_queue.specs.Queue.{Held}
 use Rattle.audit_order.proofs.release.release_least.Goals as goal

@@ -1,5 +1,5 @@
-use Rattle.std.proofs.Common.{◌≡◌, ◌++◌, ◌∷◌, [], refl, ap, map}
-use Rattle.audit_lex.specs.History.{Byte, Settle, lines_of}
+use Rattle.std.proofs.Common.{[], refl, ap, map}
+use Rattle.audit_lex.specs.History.{Byte}
 use Rattle.order_queue.specs.Queue.{texts_of}
 use Rattle.audit_order.specs.Reads.{Took, log_lines}
 use Rattle.audit_order.proofs.ReadLemmas.{on_ok_three, orders}

@@ -1,4 +1,3 @@
-use Rattle.std.proofs.Common.{◌≡◌}
 use Rattle.audit_order.proofs.ReadLemmas.{at_done}
 use Rattle.audit_order.proofs.run.order_run.Goals as goal
 

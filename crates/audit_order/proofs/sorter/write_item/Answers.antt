@@ -1,4 +1,4 @@
-use Rattle.std.proofs.Common.{◌≡◌, subst, List, ℕ, ◌∷◌}
+use Rattle.std.proofs.Common.{subst, List, ℕ, ◌∷◌}
 use Rattle.std.proofs.lemmas.Result.{on_ok_weaker}
 use Rattle.audit_order.specs.Lines.{Writes}
 use Rattle.audit_order.proofs.CourseLemmas.{gives}

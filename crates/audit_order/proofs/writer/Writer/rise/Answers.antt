@@ -1,4 +1,4 @@
-use Rattle.std.proofs.Common.{◌≡◌, ◌∙◌, ap}
+use Rattle.std.proofs.Common.{◌∙◌, ap}
 use Rattle.order_text.specs.Stamp.{time_of}
 use Rattle.audit_order.proofs.writer.Writer.rise.Goals as goal
 

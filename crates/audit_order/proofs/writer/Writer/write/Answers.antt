@@ -1,4 +1,4 @@
-use Rattle.std.proofs.Common.{◌≡◌, ◌∙◌, ap, sym, subst}
+use Rattle.std.proofs.Common.{subst}
 use Rattle.std.proofs.lemmas.Result.{on_ok_weaker}
 use Rattle.audit_order.specs.Lines.{Written, Writes}
 use Rattle.audit_order.proofs.CourseLemmas.{writes_by}
