@@ -1,4 +1,7 @@
 //! What a line says of a system call.
+ghost use Rattle.std.specs.Prelude.{◌≡◌, nat_eq};
+ghost use Rattle.std.specs.List.{list_any};
+ghost use Rattle.order_place.specs.Places.{waiting};
 
 use audit_lex::{Field, Kind, Lexed, UsedLine, dec32, lex};
 
@@ -36,6 +39,8 @@ fn call_in(used: &UsedLine<'_>) -> Option<Call> {
 
 // Whether a call of this number of x86-64 takes what it may have waited for: read, readv, accept, recvfrom, recvmsg,
 // accept4, recvmmsg.
-fn may_wait(number: u32) -> bool {
+fn may_wait(number: u32) -> bool
+    ensures { result ≡ list_any (nat_eq number) waiting }
+{
     matches!(number, 0 | 19 | 43 | 45 | 47 | 288 | 299)
 }

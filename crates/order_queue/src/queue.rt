@@ -72,7 +72,8 @@ impl Queue {
 
     /// Takes the line of the least place.
     pub fn pop(&mut self) -> Option<Waiting>
-        ensures some { IfSome result (λ item. IsPermutation self.old.waits (item ∷ self.new.waits)) }
+        ensures some { IfSome result
+            (λ item. IsPermutation self.old.waits (item ∷ self.new.waits)) }
         ensures bytes { IfSome result (λ item. self.old.bytes ≡ self.new.bytes + length item.line) }
         ensures none { IfNone result (self.old.waits ≡ []) }
         ensures empty { IfNone result (self.new ≡ self.old) }
