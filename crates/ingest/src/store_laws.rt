@@ -10,6 +10,7 @@ ghost use Rattle.store_check.specs.Conditions.{bounds_of};
 ghost use Rattle.stored.specs.Going.{MayCommit};
 ghost use Rattle.stored.specs.Moment.{nothing};
 ghost use Rattle.ingest.specs.Parts.{Engine};
+ghost use Rattle.ingest.specs.PartTaken.{StandsWith};
 ghost use Rattle.ingest.specs.StandsFor.{StandsFor};
 ghost use Rattle.ingest.specs.Storing.{HasSince, IsCommitFor, IsStoreFor, moment_of};
 
@@ -34,26 +35,27 @@ pub fn histories_may_be_committed<K: Keep>()
 }
 
 /// The batch of a commit leads from a store of a history to one of the history as it went on: by the bytes after the
-/// commit, and by those that a crash of the commit may leave, which may also be a store of the history before. No bytes
-/// are a store of no history.
+/// commit, and by those that a crash of the commit may leave, which may also be a store of the history before. Bytes that
+/// hold no batch are a store of the empty history.
 pub fn stores_follow_histories<K: Keep>()
-    ensures bytes { (limits : Limits) (mode : Mode) (engine : Engine K) (h more : History) (p0 p : ℕ)
-        (bytes after payload : List ℕ) (rows : List StoreRow)
-        → StandsFor limits engine (h ++ more) → p ≤ 2 ^ 60
+    ensures bytes { (limits : Limits) (mode : Mode) (engine : Engine K) (h more : History)
+        (p0 p : ℕ) (bytes after payload : List ℕ) (rows : List StoreRow)
+        → StandsWith limits engine (h ++ more) p
         → (s : IsStoreFor limits mode bytes h p0)
         → IsCommitFor limits mode h p0 (h ++ more) p rows
         → IsPayload mode rows payload
         → IsStore limits.payload (s.payloads ++ payload ∷ []) after
         → IsStoreFor limits mode after (h ++ more) p }
-    ensures image { (limits : Limits) (mode : Mode) (engine : Engine K) (h more : History) (p0 p : ℕ)
-        (bytes image payload : List ℕ) (rows : List StoreRow)
-        → StandsFor limits engine (h ++ more) → p ≤ 2 ^ 60
+    ensures image { (limits : Limits) (mode : Mode) (engine : Engine K) (h more : History)
+        (p0 p : ℕ) (bytes image payload : List ℕ) (rows : List StoreRow)
+        → StandsWith limits engine (h ++ more) p
         → (s : IsStoreFor limits mode bytes h p0)
         → IsCommitFor limits mode h p0 (h ++ more) p rows
         → IsPayload mode rows payload
         → IsBeforeOrAfter limits.payload s.payloads payload image
         → IsStoreFor limits mode image h p0 ⊎ IsStoreFor limits mode image (h ++ more) p }
-    ensures empty { (limits : Limits) (mode : Mode) → IsStoreFor limits mode [] [] 0 }
+    ensures empty { (limits : Limits) (mode : Mode) (bytes : List ℕ)
+        → IsStore limits.payload [] bytes → IsStoreFor limits mode bytes [] 0 }
 {
     histories_may_be_committed::<K>();
     commits_store();
