@@ -6,7 +6,7 @@ use Rattle.std.proofs.lemmas.List.Sums.{sum_by-append, sum_by-cons}
 use Rattle.audit_lex.specs.History.{History, Step, Byte, Settle, Cuts, ended, settled, one_more, nothing_cut, lines_of, with_bytes}
 use Rattle.ingest.specs.Counting.{is_byte, bytes_in}
 
-abbrev one_byte : Step → ℕ
+abbrev pub one_byte : Step → ℕ
 one_byte step = cond (is_byte step) 1 0
 
 pub bytes_append : (front back : History) → bytes_in (front ++ back) ≡ bytes_in front + bytes_in back
@@ -23,11 +23,11 @@ pub bytes_settled : (h : History) → bytes_in (h ++ Settle ∷ []) ≡ bytes_in
 bytes_settled h = bytes_append h (Settle ∷ []) ∙ omega arith
 
 -- a tail counts as a line
-abbrev begun : List ℕ → ℕ
+abbrev pub begun : List ℕ → ℕ
 begun [] = 0
 begun (b ∷ tail) = 1
 
-abbrev weight : Cuts → ℕ
+abbrev pub weight : Cuts → ℕ
 weight cuts = length cuts.lines + begun cuts.tail
 
 begun_most : (tail : List ℕ) → begun tail ≤ 1
@@ -42,7 +42,7 @@ settle_weighs : (lines : List (List ℕ)) (tail : List ℕ) → weight (settled 
 settle_weighs lines [] = omega arith
 settle_weighs lines (b ∷ tail) = simp length-append (omega arith)
 
-all_weigh : (cuts : Cuts) (h : History) → weight (fold one_more cuts h) ≤ weight cuts + bytes_in h
+pub all_weigh : (cuts : Cuts) (h : History) → weight (fold one_more cuts h) ≤ weight cuts + bytes_in h
 all_weigh cuts [] = omega arith
 all_weigh cuts (Byte b ∷ h) = omega (arith, byte_weighs cuts (b == 10) (cuts.tail ++ b ∷ []), all_weigh (one_more cuts (Byte b)) h, sum_by-cons one_byte (Byte b) h)
 all_weigh cuts (Settle ∷ h) = omega (arith, settle_weighs cuts.lines cuts.tail, all_weigh (one_more cuts Settle) h, sum_by-cons one_byte Settle h)

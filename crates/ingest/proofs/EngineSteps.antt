@@ -245,9 +245,9 @@ module _ (limits : Limits) where
       }
 
   -- all is closed, and its events are owed
-  pub closed_owes : {K : Type 0} (reader : Reader) (before after : Joined K) (h : History) → bytes_in h ≤ limits.input → EndsLast limits (record { reader = reader; joined = before }) h
+  pub closed_owes : {K : Type 0} {part : ℕ} (reader : Reader) (before after : Joined K) (h : History) → bytes_in h ≤ limits.input → EndsLast limits (record { reader = reader; joined = before; part = part }) h
       → ((s : Joining) (released : List Event) → JoinedStandsFor limits before s released → JoinedStandsFor limits after (settled s) released)
-      → MayOwe limits (record { reader = reader; joined = after }) (h ++ Settle ∷ [])
+      → MayOwe limits (record { reader = reader; joined = after; part = part }) (h ++ Settle ∷ [])
   closed_owes reader before after h within last closes = record {
     reader = last.reader;
     rest = settled last.rest;
@@ -261,19 +261,19 @@ module _ (limits : Limits) where
 
   -- ---- releases
 
-  pub all_released : {K : Type 0} (reader : Reader) (before after : Joined K) (h : History) → MayOwe limits (record { reader = reader; joined = before }) h
+  pub all_released : {K : Type 0} {part : ℕ} (reader : Reader) (before after : Joined K) (h : History) → MayOwe limits (record { reader = reader; joined = before; part = part }) h
       → ((s : Joining) (released : List Event) → JoinedStandsFor limits before s released → length released + length s.waiting ≤ 2 ^ 61 → JoinedStandsFor limits after (left_after limits s) (released ++ released_after limits s))
-      → StandsFor limits (record { reader = reader; joined = after }) h
-  all_released reader before after h w releases =
-      engine_at (record { reader = reader; joined = after }) h w.reader
-      (joined_to after _ _ _ _ w.left_is w.events_are (releases w.rest w.done w.joined (few_owed (record { reader = reader; joined = before }) h w)))
+      → StandsFor limits (record { reader = reader; joined = after; part = part }) h
+  all_released {part} reader before after h w releases =
+      engine_at (record { reader = reader; joined = after; part = part }) h w.reader
+      (joined_to after _ _ _ _ w.left_is w.events_are (releases w.rest w.done w.joined (few_owed (record { reader = reader; joined = before; part = part }) h w)))
       w.within
 
-  pub still_owes : {K : Type 0} (reader : Reader) (before after : Joined K) (h : History) (cause : StopWhy) → MayOwe limits (record { reader = reader; joined = before }) h
+  pub still_owes : {K : Type 0} {part : ℕ} (reader : Reader) (before after : Joined K) (h : History) (cause : StopWhy) → MayOwe limits (record { reader = reader; joined = before; part = part }) h
       → ((s : Joining) (released : List Event) → JoinedStandsFor limits before s released → length released + length s.waiting ≤ 2 ^ 61 → IsOwed limits after s released cause)
-      → OwesFor limits (record { reader = reader; joined = after }) h cause
-  still_owes reader before after h cause w releases =
-      let owed = releases w.rest w.done w.joined (few_owed (record { reader = reader; joined = before }) h w) in
+      → OwesFor limits (record { reader = reader; joined = after; part = part }) h cause
+  still_owes {part} reader before after h cause w releases =
+      let owed = releases w.rest w.done w.joined (few_owed (record { reader = reader; joined = before; part = part }) h w) in
       record {
         stands = record {
           reader = w.reader;
@@ -365,8 +365,8 @@ module _ (limits : Limits) where
       let own = subst (λ (c : StopWhy). OwesFor limits engine h c) is owes in
       none_passes limits engine h full fits own.stands own.by
 
-abbrev pub engine_of : {K : Type 0} → Reader → Joined K → Engine K
-engine_of reader joined = record { reader = reader; joined = joined }
+abbrev pub engine_of : {K : Type 0} → Reader → Joined K → ℕ → Engine K
+engine_of reader joined part = record { reader = reader; joined = joined; part = part }
 
 -- what ending a line that isn't used does to the reader
 abbrev pub EndsOther : Reader → Reader → List ℕ → Type 0

@@ -18,12 +18,12 @@ use Rattle.ingest.proofs.Fewer.{size, enter_size, released_so}
 use Rattle.ingest.proofs.Telling.{since_parts}
 
 -- how many records came
-abbrev cames : List Told → ℕ
+abbrev pub cames : List Told → ℕ
 cames [] = 0
 cames (Came r ∷ steps) = 1 + cames steps
 cames (Settles ∷ steps) = cames steps
 
-cames_append : (xs ys : List Told) → cames (xs ++ ys) ≡ cames xs + cames ys
+pub cames_append : (xs ys : List Told) → cames (xs ++ ys) ≡ cames xs + cames ys
 cames_append [] ys = omega arith
 cames_append (Came r ∷ xs) ys = ap (λ n. 1 + n) (cames_append xs ys) ∙ omega arith
 cames_append (Settles ∷ xs) ys = cames_append xs ys
@@ -73,7 +73,7 @@ module _ (limits : Limits) where
   cames_first : (step : Told) (steps : List Told) → cames (step ∷ steps) ≡ cames (step ∷ []) + cames steps
   cames_first step steps = cames_append (step ∷ []) steps
 
-  events_size : (s : Joining) (steps : List Told) → length (events limits s steps) + size (state limits s steps) ≤ size s + cames steps
+  pub events_size : (s : Joining) (steps : List Told) → length (events limits s steps) + size (state limits s steps) ≤ size s + cames steps
   events_size s [] = omega arith
   events_size s (step ∷ steps) =
       let t = told limits s step in
@@ -89,7 +89,7 @@ module _ (limits : Limits) where
   lines_came (line ∷ lines) =
       omega (arith, cames_append (line_tells limits line) (lines_tell limits lines), line_cames (record_of limits.line line), lines_came lines)
 
-  settle_cames : (step : Step) → cames (settle_tells step) ≡ 0
+  pub settle_cames : (step : Step) → cames (settle_tells step) ≡ 0
   settle_cames (Byte b) = refl
   settle_cames Settle = refl
 
@@ -132,7 +132,7 @@ module _ (limits : Limits) where
   releases_excess zero s = refl
   releases_excess (suc n) s = releases_excess n (next_left limits s) ∙ excess_at s (ripe_key limits s)
 
-  records_size : (s : Joining) (steps : List Told) → records_in (events limits s steps) + size (state limits s steps) ≤ size s + cames steps
+  pub records_size : (s : Joining) (steps : List Told) → records_in (events limits s steps) + size (state limits s steps) ≤ size s + cames steps
   records_size s [] = omega arith
   records_size s (step ∷ steps) =
       let t = told limits s step in

@@ -19,3 +19,9 @@ pub mod Quiet
 pub mod Closing
 pub mod EngineSteps
 pub mod StopLemmas
+pub mod KeyTimes
+pub mod FewRecords
+pub mod StoreTimes
+pub mod StoreLines
+pub mod StoreMoments
+pub mod Parting

@@ -9,6 +9,7 @@ pub mod Stops
 pub mod Following
 pub mod StandsFor
 pub mod Owing
+pub mod PartTaken
 pub mod GoingOn
 pub mod EngineSteps
 pub mod LineSteps
@@ -17,3 +18,4 @@ pub mod Naming
 pub mod Replies
 pub mod Faults
 pub mod Asking
+pub mod Storing

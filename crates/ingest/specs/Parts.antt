@@ -26,7 +26,8 @@ pub record Joined (K : Type 0) : Type 0 where
   pub counts : EventCounts
   pub excess : ℕ
 
--- both
+-- both, and how many bytes were taken since this part of the log began
 pub record Engine (K : Type 0) : Type 0 where
   pub reader : Reader
   pub joined : Joined K
+  pub part : ℕ

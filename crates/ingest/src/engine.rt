@@ -15,6 +15,7 @@ ghost use Rattle.ingest.specs.Asking.{AskHasCauses, SameButRows, StandsStill};
 ghost use Rattle.ingest.specs.EngineSteps.{Takes, CatchesUp, OwesAfter, SettlesTo, SettlesUp};
 ghost use Rattle.ingest.specs.EngineSteps.{StopsIn, HaltsIn, HaltsOwing};
 ghost use Rattle.ingest.specs.Owing.{MayOwe, SettleHalts};
+ghost use Rattle.ingest.specs.PartTaken.{count_on, done_in};
 ghost use Rattle.ingest.specs.Replies.{IsQuestion, IsReply};
 ghost use Rattle.ingest.specs.StandsFor.{StandsFor, HasNoTail};
 ghost use Rattle.ingest.specs.Stops.{Fits, Stops};
@@ -42,6 +43,8 @@ pub struct Ingest<R: Reducer, K: Keep> {
     alloc: Global,
     reader: LineReader,
     joined: EventFlows<R, K>,
+    /// The bytes that were taken in this part of the log.
+    part: u64,
 }
 
 impl<R: Reducer, K: Keep> Model for Ingest<R, K> {
@@ -50,7 +53,7 @@ impl<R: Reducer, K: Keep> Model for Ingest<R, K> {
 
     ghost Value = { Engine K };
 
-    ghost view = { λ a. record { reader = a.reader; joined = a.joined } };
+    ghost view = { λ a. record { reader = a.reader; joined = a.joined; part = a.part } };
 
     ghost invariant = { λ a. HasFewRecords a.reader a.joined };
 }
@@ -63,12 +66,14 @@ impl<R: Reducer, K: Keep> Ingest<R, K> {
         requires told { K.rows keep ≡ Some [] }
         requires count { K.count keep ≡ 0 }
         requires known { K.known keep ≡ 0 }
-        ensures { StandsFor limits.now result [] }
+        ensures stands { StandsFor limits.now result [] }
+        ensures part { result.part ≡ 0 }
     {
         Ingest {
             alloc,
             reader: LineReader::new(alloc, limits),
             joined: EventFlows::new(alloc, limits, reducer, keep),
+            part: 0,
         }
     }
 
@@ -81,11 +86,17 @@ impl<R: Reducer, K: Keep> Ingest<R, K> {
         ensures halts { IfErr result (HaltsOwing piece.now self.old self.new) }
         ensures owed_first { IfErr result (λ stop. (limits : Limits) (h : History)
             → MayOwe limits self.old h → 0 < stop.done → Fits limits h) }
+        ensures part { self.new.part ≡ count_on self.old.part (done_in piece.now result) }
     {
-        match self.joined.release() {
-            Ok(()) => self.feed_bounded(piece),
-            Err(why) => Err(Stop { done: 0, why }),
-        }
+        let part = self.part;
+        let result = self.feed_next(piece);
+        let done = match &result {
+            Ok(()) => piece.len(),
+            Err(stop) => stop.done,
+        };
+        // No log has so many bytes that the count would end here.
+        self.part = part.saturating_add(done as u64);
+        result
     }
 
     /// Releases what is owed, then ends the last line, where it has a byte, and releases all that waits.
@@ -96,6 +107,7 @@ impl<R: Reducer, K: Keep> Ingest<R, K> {
             → (limits : Limits) (h : History) → StandsFor limits self.old h
             → Stops limits (h ++ Settle ∷ []) full }
         ensures halts { IfErr result (SettleHalts self.old self.new) }
+        ensures part { self.new.part ≡ self.old.part }
     {
         match self.joined.release() {
             Ok(()) => {}
@@ -131,6 +143,31 @@ impl<R: Reducer, K: Keep> Ingest<R, K> {
         self.joined.ripe()
     }
 
+    /// How many bytes were taken since this part of the log began.
+    pub fn part_taken(&self) -> u64
+        ensures { result ≡ self.now.part }
+    {
+        let _ = &self.joined;
+        self.part
+    }
+
+    /// Begins another part of the log, of which no byte was taken yet. What was taken before stays.
+    pub fn new_part(&mut self)
+        ensures part { self.new ≡ record self.old { part = 0 } }
+        ensures stands { StandsStill self.old self.new }
+    {
+        self.part = 0;
+    }
+
+    /// The rows that keep the flows, to be used elsewhere.
+    pub fn into_keep(self) -> K
+    where
+        R: Drop,
+        ensures { result ≡ self.joined.keep }
+    {
+        self.joined.into_keep()
+    }
+
     /// Answers a question about what was taken, if nothing is owed.
     ///
     /// `StoreFault` means that a read of the rows failed during this call, or that the rows have stopped counting failed
@@ -152,6 +189,21 @@ impl<R: Reducer, K: Keep> Ingest<R, K> {
             Ask::Show(id) => of_reply(answer_show(self.alloc, &self.joined, *id)),
             Ask::Stat => of_reply(answer_stat(self.alloc, &self.reader, &self.joined)),
             Ask::Take(_) | Ask::Settle | Ask::End => unreachable!(),
+        }
+    }
+
+    // Releases what is owed, and then takes a piece. It counts no bytes of the part.
+    fn feed_next(&mut self, piece: &[u8]) -> Result<(), Stop>
+        ensures ok { OnOk result (Takes piece.now self.old self.new) }
+        ensures again { OnOk result (CatchesUp piece.now self.old self.new) }
+        ensures stop { IfErr result (StopsIn piece.now self.old) }
+        ensures halts { IfErr result (HaltsOwing piece.now self.old self.new) }
+        ensures owed_first { IfErr result (λ stop. (limits : Limits) (h : History)
+            → MayOwe limits self.old h → 0 < stop.done → Fits limits h) }
+    {
+        match self.joined.release() {
+            Ok(()) => self.feed_bounded(piece),
+            Err(why) => Err(Stop { done: 0, why }),
         }
     }
 
@@ -316,6 +368,7 @@ impl<R: Reducer, K: Keep> Ingest<R, K> {
             → StandsFor limits self.old h → EndsLast limits self.new h) }
         ensures err { OnErr result (self.new ≡ self.old) }
         ensures begun { OnErr result (¬ HasNoTail self.old.reader) }
+        ensures part { self.new.part ≡ self.old.part }
     {
         match self.reader.read(&[])? {
             Some(item) => {

@@ -95,6 +95,15 @@ impl<R: Reducer, K: Keep> EventFlows<R, K> {
         }
     }
 
+    /// The rows that keep the flows.
+    pub fn into_keep(self) -> K
+    where
+        R: Drop,
+        ensures { result ≡ self.keep }
+    {
+        self.kept.into_rows()
+    }
+
     /// Gives a record to the joiner. Where no memory is found nothing has changed.
     pub fn enter(&mut self, item: Record) -> Result<(), NoMemory>
         requires quiet { NothingRipe self.old.join }

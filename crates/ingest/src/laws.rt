@@ -1,8 +1,8 @@
 //! What the definitions promise.
-ghost use Rattle.std.specs.Prelude.{◌≡◌, ◌↔◌, ◌≤◌, ◌++◌, ℕ, List, Some, None, length};
+ghost use Rattle.std.specs.Prelude.{◌≡◌, ◌↔◌, ◌≤◌, ◌+◌, ◌++◌, ℕ, List, Some, None, length};
 ghost use Rattle.flow_base.specs.declared.limits.Full.{Full};
 ghost use Rattle.flow_base.specs.declared.limits.Limits.{Limits};
-ghost use Rattle.audit_lex.specs.History.{History};
+ghost use Rattle.audit_lex.specs.History.{History, with_bytes};
 ghost use Rattle.audit_record.specs.Records.{Spells};
 ghost use Rattle.audit_record.specs.declared.types.Record.{Record};
 ghost use Rattle.ingest.specs.LineRecords.{record_of};
@@ -10,6 +10,7 @@ ghost use Rattle.ingest.specs.Stops.{Fits, Stops};
 ghost use Rattle.ingest.specs.Parts.{Engine};
 ghost use Rattle.ingest.specs.StandsFor.{StandsFor};
 ghost use Rattle.ingest.specs.Owing.{MayOwe};
+ghost use Rattle.ingest.specs.PartTaken.{HasPart, StandsWith, OwesWith, count_on};
 ghost use Rattle.record_join.specs.Events.{next_event};
 
 use reach_rows::Keep;
@@ -49,3 +50,19 @@ pub fn what_owes_nothing_stands<K: Keep>()
     ensures { (limits : Limits) (engine : Engine K) (h : History) (w : MayOwe limits engine h)
         → next_event limits w.rest ≡ None → StandsFor limits engine h }
 {}
+
+/// The bytes of a part are counted as the history goes on, and what stands with a part owes nothing with it.
+pub fn parts_are_counted<K: Keep>()
+    ensures taken { (limits : Limits) (old new : Engine K) (h : History) (part : ℕ) (piece : List ℕ)
+        → HasPart old h part → StandsFor limits new (with_bytes h piece)
+        → new.part ≡ count_on old.part (length piece)
+        → StandsWith limits new (with_bytes h piece) (part + length piece) }
+    ensures owed { (limits : Limits) (old new : Engine K) (h : History) (part : ℕ) (piece : List ℕ)
+        → HasPart old h part → MayOwe limits new (with_bytes h piece)
+        → new.part ≡ count_on old.part (length piece)
+        → OwesWith limits new (with_bytes h piece) (part + length piece) }
+    ensures rest { (limits : Limits) (engine : Engine K) (h : History) (part : ℕ)
+        → StandsWith limits engine h part → OwesWith limits engine h part }
+{
+    what_stands_owes_nothing::<K>();
+}

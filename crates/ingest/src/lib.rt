@@ -15,13 +15,15 @@ mod laws;
 mod line_reader;
 mod replies;
 mod stop;
+mod store_laws;
 #[cfg(test)]
 mod tests;
 
 pub use ask_fault::AskFault;
 pub use engine::Ingest;
 pub use laws::{
-    fronts_fit, lines_spell_records, stops_stay, what_fits_never_stops, what_owes_nothing_stands,
-    what_stands_owes_nothing,
+    fronts_fit, lines_spell_records, parts_are_counted, stops_stay, what_fits_never_stops,
+    what_owes_nothing_stands, what_stands_owes_nothing,
 };
 pub use stop::{Stop, StopWhy};
+pub use store_laws::{histories_may_be_committed, stores_follow_histories};

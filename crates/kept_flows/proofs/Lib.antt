@@ -4,3 +4,4 @@ pub mod Room
 pub mod Those
 pub mod Answered
 pub mod Shown
+pub mod Recalled

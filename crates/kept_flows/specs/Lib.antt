@@ -1,3 +1,4 @@
 pub mod KeptFlows
 pub mod Answering
 pub mod Taking
+pub mod Restoring

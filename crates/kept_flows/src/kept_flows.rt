@@ -1,19 +1,23 @@
 //! A reducer with its rows.
-ghost use Rattle.std.specs.Prelude.{◌≡◌, ◌<◌, [], List, Some, IfOk, IfErr, OnErr, OnOk};
+ghost use Rattle.std.specs.Prelude.{◌≡◌, ◌<◌, ◌≤◌, ◌^◌, [], List, Some, IfOk, IfErr, OnErr, OnOk};
 ghost use Rattle.flow_base.specs.declared.types.Flow.{Flow as AFlow};
 ghost use Rattle.reach_model.specs.Numbers.{known};
 ghost use Rattle.reach_rows.specs.Asked.{subject};
 ghost use Rattle.query_walk.specs.declared.fault.WalkFault.TheVariants as fault;
-ghost use Rattle.kept_flows.specs.KeptFlows.{StandsFor, TakesIn, SameFaults, HasCauses};
+ghost use Rattle.reach_model.specs.Rows.{Row as ARow};
+ghost use Rattle.query_walk.specs.Walks.{SameRows};
+ghost use Rattle.kept_flows.specs.KeptFlows.{StandsFor, TakesIn, SameFaults, HasCauses, kept_of};
+ghost use Rattle.kept_flows.specs.Restoring.{StandsAgain, RestoresFrom};
 ghost use Rattle.kept_flows.specs.Taking.{MayTakeIn};
 ghost use Rattle.kept_flows.specs.Answering.{AnswersBy, NeverFail, ShowsBy};
 
 use crate::one_flow::take_all;
 use crate::one_path::{Way, find_way};
 use crate::one_question::answer;
+use crate::restoring::{Unrestored, recall_all};
 use flow_base::{EntityId, Flow, List, NoMemory};
 use query_walk::WalkFault;
-use reach_model::{Mode, lawful_flows_grow};
+use reach_model::{Mode, first_flows_are_kept, lawful_flows_grow};
 use reach_rows::{Keep, Question, Reducer, verdicts_make_the_rows};
 use std::alloc::Global;
 use std::marker::Model;
@@ -52,6 +56,43 @@ impl<R: Reducer, K: Keep> KeptFlows<R, K> {
         lawful_flows_grow();
         verdicts_make_the_rows();
         KeptFlows { reducer, rows }
+    }
+
+    /// The flows of an earlier run, by a new reducer and the rows that were kept then. The reducer recalls each row in order.
+    ///
+    /// `StoreFault` means that a read of the rows failed during this call, or that the rows have stopped counting failed
+    /// reads. `BadStore` comes only from rows that aren't observable, and `NoMemory` means that allocation failed. A refusal
+    /// hands the rows back as they were.
+    pub fn restore(reducer: R, rows: K) -> Result<KeptFlows<R, K>, Unrestored<K>>
+    where
+        R: Drop,
+        requires stands { R.stands_for reducer [] }
+        requires holds { R.holds reducer [] }
+        requires few { K.count rows ≤ 2 ^ 63 }
+        ensures stands { IfOk result (λ again. StandsAgain R.mode (K.rows rows) again.kept) }
+        ensures kept { IfOk result (λ again.
+            again.kept ≡ kept_of R.mode K.rows K.count K.known rows) }
+        ensures cause { RestoresFrom K.rows K.faults K.spent rows result }
+        ensures never { NeverFail K.faults K.spent → (S : List ARow) → K.rows rows ≡ Some S
+            → IfErr result (λ back. back.fault ≡ fault.NoMemory) }
+        ensures same { IfErr result (λ back. SameRows K.rows K.count K.known rows back.rows) }
+    {
+        first_flows_are_kept();
+        let mut reducer = reducer;
+        let mut rows = rows;
+        match recall_all(&mut reducer, &mut rows) {
+            Ok(()) => Ok(KeptFlows { reducer, rows }),
+            Err(fault) => Err(Unrestored { fault, rows }),
+        }
+    }
+
+    /// The rows, to be used elsewhere.
+    pub fn into_rows(self) -> K
+    where
+        R: Drop,
+        ensures { result ≡ self.keep }
+    {
+        self.rows
     }
 
     /// The mode.

@@ -9,9 +9,11 @@ mod kept_flows;
 mod one_flow;
 mod one_path;
 mod one_question;
+mod restoring;
 
 pub use kept_flows::KeptFlows;
 pub use one_path::Way;
+pub use restoring::Unrestored;
 
 #[cfg(test)]
 mod tests;

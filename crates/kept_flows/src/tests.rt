@@ -170,3 +170,28 @@ fn a_path_over_the_rows_of_either_mode_is_shown(rt: HostRuntime) -> Result<(), F
     }
     Ok(())
 }
+
+#[test]
+fn rows_of_an_earlier_run_answer_again(rt: HostRuntime) -> Result<(), Fail> {
+    let alloc = rt.alloc();
+    // The steps of the tests above.
+    let steps = [(0, 1, 10), (0, 1, 20), (1, 2, 30), (0, 1, 40), (3, 0, 50)].as_slice();
+    let Some((flows, count)) = lawful_flows(alloc, steps)? else {
+        return Err(Fail::new("the steps aren't lawful"));
+    };
+    let merged = kept_of(alloc, Continuous::new(alloc), flows.as_slice(), count)?;
+    let Ok(mut again) = KeptFlows::restore(Continuous::new(alloc), merged.into_rows()) else {
+        return Err(Fail::new("the rows aren't restored"));
+    };
+    assert_eq!(rt;
+        (again.mode(), again.count(), again.known()),
+        (Mode::Continuous, 4, 4)
+    );
+    let until = Question::Back {
+        of: EntityId(2),
+        until: Some(30),
+    };
+    assert!(rt; answers(alloc, &mut again, &until, [0, 1, 2].as_slice()));
+    assert!(rt; leads(alloc, &mut again, (0, 2, None), Some([0, 2].as_slice())));
+    Ok(())
+}

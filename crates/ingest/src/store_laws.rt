@@ -1,0 +1,62 @@
+//! What a store of a history promises.
+ghost use Rattle.std.specs.Prelude.{◌≡◌, ◌⊎◌, ◌≤◌, ◌^◌, ◌++◌, ◌∷◌, [], ℕ, List};
+ghost use Rattle.flow_base.specs.declared.limits.Limits.{Limits};
+ghost use Rattle.audit_lex.specs.History.{History};
+ghost use Rattle.batch_log.specs.Batches.{IsStore, IsBeforeOrAfter};
+ghost use Rattle.reach_model.specs.declared.modes.Mode.{Mode};
+ghost use Rattle.row_codec.specs.declared.rows.StoreRow.{StoreRow};
+ghost use Rattle.row_codec.specs.Payload.{IsPayload};
+ghost use Rattle.store_check.specs.Conditions.{bounds_of};
+ghost use Rattle.stored.specs.Going.{MayCommit};
+ghost use Rattle.stored.specs.Moment.{nothing};
+ghost use Rattle.ingest.specs.Parts.{Engine};
+ghost use Rattle.ingest.specs.PartTaken.{StandsWith};
+ghost use Rattle.ingest.specs.StandsFor.{StandsFor};
+ghost use Rattle.ingest.specs.Storing.{HasSince, IsCommitFor, IsStoreFor, moment_of};
+
+use audit_lex::lines_are_counted;
+use call_acts::acts_are_few;
+use reach_rows::Keep;
+use record_join::states_are_sound;
+use stored::commits_store;
+
+/// A history that an engine stands for may be committed after any of its prefixes, and goes on with the acts of it.
+pub fn histories_may_be_committed<K: Keep>()
+    ensures may { (limits : Limits) (engine : Engine K) (h more : History) (p0 p : ℕ)
+        → StandsFor limits engine (h ++ more) → p ≤ 2 ^ 60
+        → MayCommit (bounds_of limits) (moment_of limits h p0) (moment_of limits (h ++ more) p) }
+    ensures since { (limits : Limits) (h more : History) (p0 p : ℕ)
+        → HasSince (moment_of limits h p0) (moment_of limits (h ++ more) p) }
+    ensures nothing { (limits : Limits) → moment_of limits [] 0 ≡ nothing }
+{
+    acts_are_few();
+    lines_are_counted();
+    states_are_sound();
+}
+
+/// The batch of a commit leads from a store of a history to one of the history as it went on: by the bytes after the
+/// commit, and by those that a crash of the commit may leave, which may also be a store of the history before. Bytes that
+/// hold no batch are a store of the empty history.
+pub fn stores_follow_histories<K: Keep>()
+    ensures bytes { (limits : Limits) (mode : Mode) (engine : Engine K) (h more : History)
+        (p0 p : ℕ) (bytes after payload : List ℕ) (rows : List StoreRow)
+        → StandsWith limits engine (h ++ more) p
+        → (s : IsStoreFor limits mode bytes h p0)
+        → IsCommitFor limits mode h p0 (h ++ more) p rows
+        → IsPayload mode rows payload
+        → IsStore limits.payload (s.payloads ++ payload ∷ []) after
+        → IsStoreFor limits mode after (h ++ more) p }
+    ensures image { (limits : Limits) (mode : Mode) (engine : Engine K) (h more : History)
+        (p0 p : ℕ) (bytes image payload : List ℕ) (rows : List StoreRow)
+        → StandsWith limits engine (h ++ more) p
+        → (s : IsStoreFor limits mode bytes h p0)
+        → IsCommitFor limits mode h p0 (h ++ more) p rows
+        → IsPayload mode rows payload
+        → IsBeforeOrAfter limits.payload s.payloads payload image
+        → IsStoreFor limits mode image h p0 ⊎ IsStoreFor limits mode image (h ++ more) p }
+    ensures empty { (limits : Limits) (mode : Mode) (bytes : List ℕ)
+        → IsStore limits.payload [] bytes → IsStoreFor limits mode bytes [] 0 }
+{
+    histories_may_be_committed::<K>();
+    commits_store();
+}
