@@ -16,3 +16,4 @@ pub mod Rooms
 pub mod Sockets
 pub mod UnderWays
 pub mod Unmapped
+pub mod Filling

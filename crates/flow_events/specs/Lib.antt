@@ -8,3 +8,4 @@ pub mod Added
 pub mod Drafts
 pub mod Working
 pub mod Following
+pub mod Filling

@@ -10,6 +10,7 @@ mod change;
 mod draft;
 mod effects;
 mod fault;
+mod filled;
 mod given;
 mod laws;
 mod lives;

@@ -67,8 +67,8 @@ pub fn give_all(entities: &mut Entities, given: List<Given>)
     }
 }
 
-// Enters a key for which there is room.
-fn enter(entities: &mut Entities, key: Key)
+/// Enters a key for which there is room.
+pub fn enter(entities: &mut Entities, key: Key)
     requires room { 1 ≤ entities.old.spare }
     requires fits { length (put_new ghosts.eq entities.old.keys key) ≤ entities.old.limit }
     ensures keys { entities.new.keys ≡ put_new ghosts.eq entities.old.keys key }

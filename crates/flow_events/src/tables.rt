@@ -16,12 +16,15 @@ ghost use Rattle.flow_events.specs.Drafts.{turned};
 ghost use Rattle.flow_events.specs.Entering.{entered};
 ghost use Rattle.flow_events.specs.Following.{MayFollow, MayComeAfter, PlansEvent, EventFits, EventPasses};
 ghost use Rattle.call_acts.specs.Events.{IsEvent};
+ghost use Rattle.store_check.specs.Store.{keys};
+ghost use Rattle.flow_events.specs.Filling.{AreRestored};
 ghost use Rattle.flow_events.specs.Standing.{StandsFor, Stands, HasLimits, IsPlanOf, IsReady, HasRooms, DiffersInRoom};
 
 use crate::births::Births;
 use crate::change::{make_change, need};
 use crate::draft::Ground;
 use crate::fault::PrepareFault;
+use crate::filled::{Filled, fill_all};
 use crate::parts::named_keys;
 use crate::passes::{bear_through, enter_all, give_all, live_through};
 use crate::plan::{Plan, plan_of, readdress};
@@ -33,6 +36,7 @@ use fd_table::Fds;
 use flow_base::{Flow, Full, Limit, Limits, List, NoMemory};
 use proc_table::Procs;
 use record_join::EventView;
+use row_codec::StoreRow;
 use std::alloc::Global;
 
 // Whether an event with these acts has a call that is not in the table. One that does has its see alone, so the call
@@ -74,6 +78,31 @@ impl Tables {
             acts: 0,
             limits: *limits,
         }
+    }
+
+    /// The tables that the rows of a store say. Its rows of flows aren't needed.
+    pub fn restore(alloc: Global, limits: &Limits, rows: &[StoreRow]) -> Result<Tables, NoMemory>
+        requires fits { length (keys rows.now) ≤ limits.now.entities }
+        ensures stands { IfOk result (AreRestored limits.now rows.now) }
+        ensures limits { IfOk result (HasLimits limits.now) }
+    {
+        let Filled {
+            procs,
+            fds,
+            births,
+            entities,
+            flows,
+            acts,
+        } = fill_all(alloc, limits, rows)?;
+        Ok(Tables {
+            procs,
+            fds,
+            births,
+            entities,
+            flows,
+            acts,
+            limits: *limits,
+        })
     }
 
     /// The objects by number, and the names of keys.
