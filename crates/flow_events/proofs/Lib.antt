@@ -17,3 +17,4 @@ pub mod Sockets
 pub mod UnderWays
 pub mod Unmapped
 pub mod Filling
+pub mod SinceLaws

@@ -1,5 +1,5 @@
 -- Room changes nothing that the tables stand for.
-use Rattle.std.proofs.Common.{◌∙◌, ap, sym, ℕ, List, take}
+use Rattle.std.proofs.Common.{◌∙◌, ◌++◌, ap, sym, subst, append_assoc, ℕ, List, take}
 use Rattle.std.specs.Prelude.{unwrap_or, nat_eq}
 use Rattle.std.specs.Map.{lookup}
 use Rattle.flow_base.specs.contracts.types.FileIdPartialEq.TheImpl.{ghosts}
@@ -9,6 +9,7 @@ use Rattle.acts.specs.Flows.{acts_of}
 use Rattle.proc_table.specs.Table.{standing_of}
 use Rattle.flow_base.specs.declared.limits.Limits.{Limits}
 use Rattle.flow_events.specs.declared.tables.Tables.{Tables}
+use Rattle.flow_events.specs.Remembering.{StandsSince, StaysSince}
 use Rattle.flow_events.specs.Standing.{StandsFor, DiffersInRoom}
 
 pub stands_still : (text : List ℕ → List ℕ) (old new : Tables) (taken : List Taken) → DiffersInRoom old new → StandsFor text old taken → StandsFor text new taken
@@ -24,3 +25,9 @@ stands_still text old new taken same stands = record {
   limit_is = ap (λ (l : Limits). l.entities) same.limits ∙ stands.limit_is ∙ sym same.limit;
   objects_fit = rw (same.keys, same.limit) stands.objects_fit;
 }
+
+pub since_stays : (old new : Tables) → DiffersInRoom old new → StaysSince old new
+since_stays old new same text before now stands = record { stands = stands_still text old new (now ++ before) same stands.stands; since = same.since (acts_of before) (acts_of now) stands.since }
+
+pub stands_joined : (text : List ℕ → List ℕ) (tables : Tables) (fresh now before : List Taken) → StandsFor text tables (fresh ++ (now ++ before)) → StandsFor text tables ((fresh ++ now) ++ before)
+stands_joined text tables fresh now before stands = subst (StandsFor text tables) (sym (append_assoc fresh now before)) stands

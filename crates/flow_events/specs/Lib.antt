@@ -9,3 +9,5 @@ pub mod Drafts
 pub mod Working
 pub mod Following
 pub mod Filling
+pub mod Since
+pub mod Remembering

@@ -18,6 +18,7 @@ mod naming;
 mod parts;
 mod passes;
 mod plan;
+mod since;
 mod steps;
 mod tables;
 mod work;
