@@ -6,7 +6,7 @@ use Rattle.std.specs.Cmp.Lexicographic.{pointwise}
 use Rattle.std.proofs.lemmas.Bool.Decides.{nat_tests}
 use Rattle.std.proofs.lemmas.List.{take_all, take-append-le, length-take-le}
 use Rattle.std.proofs.lemmas.Grind.{common_steps}
-use Rattle.entity_names.specs.Known.{Known, NamesAs, names_at, with_name_within}
+use Rattle.entity_names.specs.Known.{with_name_within}
 use Rattle.flow_base.specs.declared.types.Key.{Key}
 use Rattle.flow_base.specs.contracts.types.KeyPartialEq.TheImpl.{ghosts}
 use Rattle.acts.specs.Keys.{names_of, with_name}
@@ -91,14 +91,3 @@ cut_if false most names text within = refl
 pub one_more : (most : ℕ) (key : Key) (pairs : Pairs) (k : Key) (text : List ℕ) → most ≤ 16
     → take most (names_of key (pairs ++ (k, text) ∷ [])) ≡ (if ghosts.eq k key then with_name_within most (take most (names_of key pairs)) text else take most (names_of key pairs))
 one_more most key pairs k text within = ap (take most) (fold_from key [] pairs k text) ∙ cut_if (ghosts.eq k key) most (names_of key pairs) text within
-
--- where one more name changed the names of its key alone, they are those that were given
-pub named : (old new : Known) (key : Key) (text : List ℕ) → old.most_names ≤ 16 → new.most_names ≡ old.most_names
-    → ((k : Key) → names_at new k ≡ (if ghosts.eq key k then with_name_within old.most_names (names_at old k) text else names_at old k))
-    → (given : Pairs) → NamesAs old given → NamesAs new (given ++ (key, text) ∷ [])
-named old new key text within most one given so_far = record {
-  each = λ k. one k
-      ∙ ap (λ names. if ghosts.eq key k then with_name_within old.most_names names text else names) (so_far.each k)
-      ∙ sym (one_more old.most_names k given key text within)
-      ∙ ap (λ m. take m (names_of k (given ++ (key, text) ∷ []))) (sym most);
-}

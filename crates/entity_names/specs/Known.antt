@@ -1,7 +1,6 @@
 -- The table of objects and names, and what it stands for.
-use Rattle.std.specs.Prelude.{Bool, ◌∷◌, if◌then◌else◌, ◌++◌, ◌+◌, ◌≡◌, ◌<◌, ◌≤◌, ◌⊎◌, ◌||◌, ℕ, List, [], length, take, nat_le, Option, None, Some, Vec, vec_capacity}
-use Rattle.std.specs.declared.alloc.Global.{Global}
-use Rattle.std.specs.List.{list_any}
+use Rattle.std.specs.Prelude.{⊤, Bool, ◌∷◌, if◌then◌else◌, ◌++◌, ◌+◌, ◌≡◌, ◌<◌, ◌≤◌, ◌⊎◌, ◌||◌, ℕ, zero, suc, List, [], length, take, drop, map, nat_le, Option, None, Some, vec_capacity}
+use Rattle.std.specs.List.{list_any, flat_map}
 use Rattle.std.specs.Map.{lookup}
 use Rattle.std.specs.Cmp.Lexicographic.{pointwise}
 use Rattle.std.specs.Prelude.{nat_eq}
@@ -11,26 +10,37 @@ use Rattle.flow_base.specs.declared.limits.Full.{Full}
 use Rattle.flow_base.specs.declared.limits.Limit.TheVariants as limit
 use Rattle.flow_base.specs.contracts.types.KeyPartialEq.TheImpl.{ghosts}
 use Rattle.acts.specs.Keys.{names_of}
+use Rattle.entity_names.specs.declared.key_names.Names.{Names}
+use Rattle.entity_names.specs.declared.key_names.Named.{Named}
 
--- the known keys in order of first appearance, how many there may be, how many names a key may have, the names of keys, and the room for more keys
+-- the known keys in order of first appearance, how many there may be, how many names a key may have,
+-- the names of keys with how many of them were saved, and the room for more keys
 pub record Known : Type 0 where
   pub keys : List Key
   pub limit : ℕ
   pub most_names : ℕ
-  pub names : List (Key × Vec (List ℕ) Global)
+  pub names : List (Key × Names)
   pub spare : ℕ
 
-abbrev pub texts : Option (Vec (List ℕ) Global) → List (List ℕ)
+abbrev pub texts : Option Names → List (List ℕ)
 texts None = []
-texts (Some list) = list.items
+texts (Some names) = names.texts.items
 
 -- the names of a key, none where it has no list
 abbrev pub names_at : Known → Key → List (List ℕ)
 names_at table key = texts (lookup (ghosts.eq key) table.names)
 
-abbrev pub places : Option (Vec (List ℕ) Global) → ℕ
+abbrev pub saved_in : Option Names → ℕ
+saved_in None = 0
+saved_in (Some names) = names.saved
+
+-- how many names a key had at the mark, none where it has no list
+abbrev pub saved_at : Known → Key → ℕ
+saved_at table key = saved_in (lookup (ghosts.eq key) table.names)
+
+abbrev pub places : Option Names → ℕ
 places None = 0
-places (Some list) = vec_capacity list
+places (Some names) = vec_capacity names.texts
 
 -- how many names of a key fit without memory
 abbrev pub capacity_at : Known → Key → ℕ
@@ -47,6 +57,38 @@ with_name_within most names text = if list_any (pointwise nat_eq text) names || 
 -- each key has the first of the names that were given to it by these pairs of a key and a text, as many as it may have
 pub record NamesAs (table : Known) (given : List (Key × List ℕ)) : Type 0 where
   pub each : (key : Key) → names_at table key ≡ take table.most_names (names_of key given)
+
+-- each key has the names and the places that it had
+pub record NamesStay (old new : List (Key × Names)) : Type 0 where
+  pub texts_are : (key : Key) → texts (lookup (ghosts.eq key) new) ≡ texts (lookup (ghosts.eq key) old)
+  pub places_are : (key : Key) → places (lookup (ghosts.eq key) new) ≡ places (lookup (ghosts.eq key) old)
+
+-- names with their keys, as pairs
+abbrev pub pairs_of : List Named → List (Key × List ℕ)
+pairs_of named = map (λ n. (n.key, n.text)) named
+
+-- the text of a pair, if its key is this one
+abbrev pub text_if : Key → Key × List ℕ → List (List ℕ)
+text_if key pair = if ghosts.eq pair.0 key then pair.1 ∷ [] else []
+
+-- the texts that stand beside a key
+abbrev pub texts_of : Key → List (Key × List ℕ) → List (List ℕ)
+texts_of key pairs = flat_map (text_if key) pairs
+
+-- beside each key stand its names that came since the mark
+abbrev pub AreNew : Known → List (Key × List ℕ) → Type 0
+AreNew table pairs =
+    (key : Key) → texts_of key pairs ≡ drop (saved_at table key) (names_at table key)
+
+-- the names of a key that came since the mark, each with the key
+abbrev pub new_pairs : Key × Names → List (Key × List ℕ)
+new_pairs entry = map (λ text. (entry.0, text)) (drop entry.1.saved entry.1.texts.items)
+
+-- all names of the first keys, this many of them, were there at the mark
+abbrev pub AreSaved : ℕ → List (Key × Names) → Type 0
+AreSaved zero entries = ⊤
+AreSaved (suc n) [] = ⊥
+AreSaved (suc n) (entry ∷ entries) = (entry.1.saved ≡ length entry.1.texts.items) × AreSaved n entries
 
 -- no more objects than these
 abbrev pub full_at : ℕ → Full

@@ -1,5 +1,5 @@
 //! The table of objects and names.
-ghost use Rattle.std.specs.Prelude.{◌≡◌, ◌≤◌, ◌<◌, ◌+◌, ◌^◌, ◌↔◌, ℕ, [], ◌∷◌, ◌++◌, List, Option, Some, None, Err, true, false, length, OnOk, OnErr, IfOk, IfErr, option_map, position, slice_get, is_some, nat_eq, ◌≢◌, ◌⊎◌, IsOk, vec_capacity, min, IfSome, if◌then◌else◌};
+ghost use Rattle.std.specs.Prelude.{◌≡◌, ◌≤◌, ◌<◌, ◌+◌, ◌^◌, ◌↔◌, ℕ, [], ◌∷◌, ◌++◌, List, Option, Some, None, Err, true, false, length, drop, not, nat_le, ◌||◌, OnOk, OnErr, IfOk, IfErr, option_map, position, slice_get, is_some, nat_eq, ◌≢◌, ◌⊎◌, IsOk, vec_capacity, min, IfSome, if◌then◌else◌};
 ghost use Rattle.std.specs.List.{list_any};
 ghost use Rattle.std.specs.Option.{option_map_or};
 ghost use Rattle.std.specs.Cmp.Lexicographic.{pointwise};
@@ -9,9 +9,11 @@ ghost use Rattle.flow_base.specs.declared.limits.Full.{Full};
 ghost use Rattle.acts.specs.Keys.{put_new};
 ghost use Rattle.flow_base.specs.declared.types.EntityId.{EntityId};
 ghost use Rattle.entity_names.specs.declared.fault.EnterFault.TheVariants as fault;
-ghost use Rattle.entity_names.specs.Known.{NamesAs, ids_where, HasPlace, full_at, names_at, capacity_at, with_name_within};
+ghost use Rattle.entity_names.specs.Known.{NamesAs, ids_where, HasPlace, full_at, names_at, saved_at, capacity_at, with_name_within, AreNew, pairs_of};
 
 use crate::fault::EnterFault;
+use crate::key_names::{Named, Names};
+use crate::saving::{names_from, save_from, set_apart};
 use acts::copy_key;
 use flow_base::{Bytes, EntityId, Full, Key, Limit, Limits, List, NoMemory, equal_keys_are_one};
 use indexmap::{IndexMap, IndexSet};
@@ -22,21 +24,23 @@ use std::marker::Model;
 #[derive(Drop)]
 pub struct Entities {
     keys: IndexSet<Key>,
-    names: IndexMap<Key, Vec<Bytes>>,
+    names: IndexMap<Key, Names>,
+    /// How many entries of `names` stand in its first part.
+    saved: usize,
     limit: u32,
     most_names: usize,
 }
 
 impl Model for Entities {
     ghost use Rattle.std.specs.Prelude.{◌≤◌, ◌<◌, ◌^◌, length};
-    ghost use Rattle.entity_names.specs.Known.{Known};
+    ghost use Rattle.entity_names.specs.Known.{Known, AreSaved};
     ghost use Rattle.indexmap.specs.IndexSet as set;
 
     ghost Value = { Known };
 
     ghost view = { λ a. record { keys = a.keys.keys; limit = a.limit; most_names = a.most_names; names = a.names.entries; spare = set.spare a.keys } };
 
-    ghost invariant = { λ a. (length a.keys.keys ≤ a.limit) × ((a.limit < 2 ^ 32) × (a.most_names ≤ 16)) };
+    ghost invariant = { λ a. (length a.keys.keys ≤ a.limit) × ((a.limit < 2 ^ 32) × ((a.most_names ≤ 16) × AreSaved a.saved a.names.entries)) };
 }
 
 impl Entities {
@@ -46,10 +50,12 @@ impl Entities {
         ensures limit { result.limit ≡ limits.now.entities }
         ensures most_names { result.most_names ≡ limits.now.names }
         ensures names { NamesAs result [] }
+        ensures saved { (k : Key) → saved_at result k ≡ 0 }
     {
         Entities {
             keys: IndexSet::new(alloc),
             names: IndexMap::new(alloc),
+            saved: 0,
             limit: limits.entities,
             most_names: limits.names,
         }
@@ -129,7 +135,7 @@ impl Entities {
         ensures { result ≡ list_any (pointwise nat_eq text.now) (names_at self.now key.now) }
     {
         match self.names.get(key) {
-            Some(list) => is_listed(list.as_slice(), text),
+            Some(names) => is_listed(names.texts.as_slice(), text),
             None => false,
         }
     }
@@ -138,6 +144,7 @@ impl Entities {
     pub fn reserve(&mut self, keys: usize, named: &[Key]) -> Result<(), NoMemory>
         ensures rest { self.new ≡ record self.old { names = self.new.names; spare = self.new.spare } }
         ensures names { (k : Key) → names_at self.new k ≡ names_at self.old k }
+        ensures saved { (k : Key) → saved_at self.new k ≡ saved_at self.old k }
         ensures spare { OnOk result (keys ≤ self.new.spare) }
         ensures room { OnOk result ((k : Key) → list_any (ghosts.eq k) named.now ≡ true → min self.old.most_names (length (names_at self.old k) + length named.now) ≤ capacity_at self.new k) }
     {
@@ -152,6 +159,7 @@ impl Entities {
     fn make_room(&mut self, key: &Key, more: usize) -> Result<(), NoMemory>
         ensures rest { self.new ≡ record self.old { names = self.new.names } }
         ensures names { (k : Key) → names_at self.new k ≡ names_at self.old k }
+        ensures saved { (k : Key) → saved_at self.new k ≡ saved_at self.old k }
         ensures room { OnOk result ((k : Key) → ghosts.eq k key.now ≡ true → min self.old.most_names (length (names_at self.old k) + more) ≤ capacity_at self.new k) }
         ensures capacity { (k : Key) → capacity_at self.old k ≤ capacity_at self.new k }
     {
@@ -159,13 +167,13 @@ impl Entities {
         let alloc = *self.names.allocator();
         let more = more.min(self.most_names);
         match self.names.get_mut(key) {
-            Some(list) => match list.reserve(more) {
+            Some(names) => match names.texts.reserve(more) {
                 Ok(()) => Ok(()),
                 Err(_) => Err(NoMemory),
             },
             None => {
-                let list = Vec::with_capacity(alloc, more)?;
-                match self.names.insert(copy_key(key)?, list) {
+                let texts = Vec::with_capacity(alloc, more)?;
+                match self.names.insert(copy_key(key)?, Names { texts, saved: 0 }) {
                     Ok(_) => Ok(()),
                     Err(_) => Err(NoMemory),
                 }
@@ -179,7 +187,7 @@ impl Entities {
         ensures some { IfSome result (λ list. list.now ≢ []) }
     {
         match self.names.get(key) {
-            Some(list) if !list.is_empty() => Some(list.as_slice()),
+            Some(names) if !names.texts.is_empty() => Some(names.texts.as_slice()),
             _ => None,
         }
     }
@@ -193,48 +201,89 @@ impl Entities {
         ensures rest { self.new ≡ record self.old { names = self.new.names } }
         ensures room { HasPlace self.old key → IsOk result }
         ensures capacity { (k : Key) → capacity_at self.old k ≤ capacity_at self.new k }
+        ensures saved { (k : Key) → saved_at self.new k ≡ saved_at self.old k }
     {
         equal_keys_are_one();
+        if !self.has_need(&key, text.as_slice()) {
+            return Ok(());
+        }
         let alloc = *self.names.allocator();
-        let most = self.most_names;
+        self.saved = set_apart(&mut self.names, self.saved, &key);
         match self.names.get_mut(&key) {
-            Some(list) => match add_text(list, text, most) {
+            Some(names) => match names.texts.push(text) {
                 Ok(()) => Ok(()),
-                Err(fault) => Err(fault),
+                Err(_) => Err(NoMemory),
             },
-            None if most == 0 => Ok(()),
             None => {
-                let list = one_name(alloc, text, most)?;
-                match self.names.insert(key, list) {
+                let texts = one_text(alloc, text)?;
+                match self.names.insert(key, Names { texts, saved: 0 }) {
                     Ok(_) => Ok(()),
                     Err(_) => Err(NoMemory),
                 }
             }
         }
     }
+
+    /// Whether a key lacks this name and has a place for it.
+    fn has_need(&self, key: &Key, text: &[u8]) -> bool
+        ensures { not result
+            ≡ list_any (pointwise nat_eq text.now) (names_at self.now key.now)
+            || nat_le self.now.most_names (length (names_at self.now key.now)) }
+    {
+        match self.names.get(key) {
+            Some(names) => {
+                names.texts.len() < self.most_names && !is_listed(names.texts.as_slice(), text)
+            }
+            None => self.most_names > 0,
+        }
+    }
+
+    /// The names of each key that came since the mark, in the order in which they came.
+    pub fn new_names(&self) -> Result<List<Named>, NoMemory>
+        ensures { IfOk result (λ found. AreNew self.now (pairs_of found)) }
+    {
+        names_from(&self.names, self.saved)
+    }
+
+    /// Moves the mark to now: all names of each key are there at the mark. It takes no memory.
+    pub fn mark_saved(&mut self)
+        ensures names { (k : Key) → names_at self.new k ≡ names_at self.old k }
+        ensures saved { (k : Key) → saved_at self.new k ≡ length (names_at self.new k) }
+        ensures capacity { (k : Key) → capacity_at self.new k ≡ capacity_at self.old k }
+        ensures rest { self.new ≡ record self.old { names = self.new.names } }
+    {
+        save_from(&mut self.names, self.saved);
+        self.saved = self.names.len();
+    }
+
+    /// The keys of the objects from this number on.
+    pub fn copy_from(&self, first: u32) -> Result<List<Key>, NoMemory>
+        ensures { IfOk result (λ keys. keys ≡ drop first self.now.keys) }
+    {
+        let alloc = *self.names.allocator();
+        let first = self.keys.len().min(first as usize);
+        copy_keys(alloc, &self.keys.as_slice()[first..])
+    }
 }
 
-/// The first name of a key.
-fn one_name(alloc: Global, text: Bytes, most: usize) -> Result<Vec<Bytes>, NoMemory>
-    ensures { IfOk result (λ list. list.items ≡ with_name_within most [] text) }
+/// Copies of these keys.
+fn copy_keys(alloc: Global, keys: &[Key]) -> Result<List<Key>, NoMemory>
+    ensures { IfOk result (λ copies. copies ≡ keys.now) }
+{
+    let mut copies = List::new(alloc);
+    for key in keys {
+        copies.push(copy_key(key)?)?;
+    }
+    Ok(copies)
+}
+
+/// A list of one name.
+fn one_text(alloc: Global, text: Bytes) -> Result<Vec<Bytes>, NoMemory>
+    ensures { IfOk result (λ list. list.items ≡ text ∷ []) }
 {
     let mut list = Vec::new(alloc);
-    add_text(&mut list, text, most)?;
-    Ok(list)
-}
-
-/// Puts a name last where it is new and there is a place for it.
-fn add_text(list: &mut Vec<Bytes>, text: Bytes, most: usize) -> Result<(), NoMemory>
-    ensures ok { OnOk result (list.new.items ≡ with_name_within most list.old.items text) }
-    ensures err { OnErr result (list.new.items ≡ list.old.items) }
-    ensures room { (length list.old.items < vec_capacity list.old) ⊎ (most ≤ length list.old.items) → IsOk result }
-    ensures capacity { vec_capacity list.old ≤ vec_capacity list.new }
-{
-    if is_listed(list.as_slice(), text.as_slice()) || list.len() >= most {
-        return Ok(());
-    }
     list.push(text)?;
-    Ok(())
+    Ok(list)
 }
 
 /// Whether these bytes are among the names.

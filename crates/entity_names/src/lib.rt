@@ -6,9 +6,12 @@
 
 mod entities;
 mod fault;
+mod key_names;
+mod saving;
 
 pub use entities::Entities;
 pub use fault::EnterFault;
+pub use key_names::Named;
 
 #[cfg(test)]
 mod tests;

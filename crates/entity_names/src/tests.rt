@@ -72,3 +72,39 @@ fn names_come_before_their_key_and_stop_at_their_limit(rt: HostRuntime) -> Resul
     }
     Ok(())
 }
+
+#[test]
+fn names_since_the_mark_are_handed_out_with_their_keys(rt: HostRuntime) -> Result<(), Fail> {
+    let alloc = rt.alloc();
+    let mut entities = Entities::new(alloc, &small());
+    for pid in [7, 5, 3] {
+        entities.add_name(process(pid), Bytes::from_slice(alloc, b"/a".as_slice())?)?;
+    }
+    assert_eq!(rt; entities.new_names()?.as_slice().len(), 3);
+    entities.mark_saved();
+    assert!(rt; entities.new_names()?.as_slice().is_empty());
+    entities.add_name(process(7), Bytes::from_slice(alloc, b"/a".as_slice())?)?;
+    entities.add_name(process(5), Bytes::from_slice(alloc, b"/b".as_slice())?)?;
+    match entities.new_names()?.as_slice() {
+        [one] => {
+            assert!(rt; one.key == process(5));
+            assert_eq!(rt; one.text.as_slice(), b"/b".as_slice());
+        }
+        _ => assert!(rt; false),
+    }
+    assert!(rt; entities.has_name(&process(5), b"/a".as_slice()));
+    Ok(())
+}
+
+#[test]
+fn the_last_keys_are_copied(rt: HostRuntime) -> Result<(), Fail> {
+    let mut entities = Entities::new(rt.alloc(), &small());
+    assert!(rt; is_number(&entities.enter(process(7)), 0));
+    assert!(rt; is_number(&entities.enter(process(5)), 1));
+    match entities.copy_from(1)?.as_slice() {
+        [key] => assert!(rt; *key == process(5)),
+        _ => assert!(rt; false),
+    }
+    assert!(rt; entities.copy_from(3)?.as_slice().is_empty());
+    Ok(())
+}

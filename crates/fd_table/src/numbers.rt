@@ -14,7 +14,7 @@ use crate::tree::Tree;
 use crate::trees::{find, put};
 
 /// Descriptors below this have short paths.
-const FEW: u32 = 4096;
+pub const FEW: u32 = 4096;
 
 /// The digits of a number below 4,096.
 fn short_path(fd: u32) -> [u8; 3]

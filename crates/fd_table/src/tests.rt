@@ -2,6 +2,7 @@
 use crate::*;
 use acts::{Held, Object};
 use flow_base::Bytes;
+use std::test::Fail;
 
 // Sockets go by the act that made them.
 #[derive(Clone, Copy)]
@@ -223,4 +224,43 @@ fn an_address_is_that_of_its_socket_alone(rt: HostRuntime) {
     }
     assert!(rt; has_address(&fds, 6, b"\x02\x00\x01\xbb".as_slice()));
     assert!(rt; fds.address(3).is_none());
+}
+
+fn stands(entry: &FdEntry, fd: u32, act: u64, cloexec: bool) -> bool {
+    match entry.held.object {
+        Object::Sock(made) => entry.fd == fd && made == act && entry.held.cloexec == cloexec,
+        _ => false,
+    }
+}
+
+#[test]
+fn what_a_process_holds_is_listed_in_ascending_order(rt: HostRuntime) -> Result<(), Fail> {
+    let mut fds = Fds::new(rt.alloc());
+    assert!(rt;
+        all_answer(
+            &mut fds,
+            [
+                Step::Sets(7, 4_294_967_295, 1, true),
+                Step::Sets(7, 4096, 2, false),
+                Step::Sets(7, 4095, 3, true),
+                Step::Sets(7, 0, 4, false),
+                Step::Sets(7, 5, 5, true),
+                Step::Sets(8, 6, 6, true),
+                Step::Closes(7, 5),
+            ]
+            .as_slice(),
+        )
+    );
+    match fds.entries(7)?.as_slice() {
+        [first, second, third, fourth] => {
+            assert!(rt; stands(first, 0, 4, false));
+            assert!(rt; stands(second, 4095, 3, true));
+            assert!(rt; stands(third, 4096, 2, false));
+            assert!(rt; stands(fourth, 4_294_967_295, 1, true));
+        }
+        _ => assert!(rt; false),
+    }
+    assert_eq!(rt; fds.marked(7)?.as_slice(), [4095, 4_294_967_295].as_slice());
+    assert!(rt; fds.entries(9)?.as_slice().is_empty());
+    Ok(())
 }

@@ -1,0 +1,52 @@
+use Rattle.std.proofs.Common.{◌∙◌, ap, sym, subst, refl}
+use Rattle.std.specs.Map.{lookup}
+use Rattle.flow_base.specs.declared.types.Key.{Key}
+use Rattle.flow_base.specs.contracts.types.KeyPartialEq.TheImpl.{ghosts}
+use Rattle.entity_names.specs.declared.key_names.Names.{Names}
+use Rattle.entity_names.specs.Known.{AreSaved}
+use Rattle.entity_names.proofs.SavedLemmas.{saved_kept, saved_added}
+use Rattle.entity_names.proofs.entities.Entities.make_room.Goals as goal
+
+pub invariant_of-self : goal.invariant_of-self
+invariant_of-self c =
+    let w : Names = record { texts = c.reserve.new.self; saved = c.in-Some.names.now.saved } in (
+      c.self.invariant.0,
+      (
+        c.self.invariant.1.0,
+        (
+          c.self.invariant.1.1.0,
+          subst (AreSaved c.self.inside.saved) (sym (c.get_mut.follows.holds w).0)
+              (saved_kept _ c.self.inside.names.entries c.self.inside.saved c.in-Some.names.now w c.self.invariant.1.1.1 c.in-Some.ensures.value refl c.reserve.ensures.items),
+        ),
+      ),
+    )
+
+pub invariant_of-self-in-Some : goal.invariant_of-self-in-Some
+invariant_of-self-in-Some c =
+    let w : Names = record { texts = c.reserve.new.self; saved = c.in-Some.names.now.saved } in (
+      c.self.invariant.0,
+      (
+        c.self.invariant.1.0,
+        (
+          c.self.invariant.1.1.0,
+          subst (AreSaved c.self.inside.saved) (sym (c.get_mut.follows.holds w).0)
+              (saved_kept _ c.self.inside.names.entries c.self.inside.saved c.in-Some.names.now w c.self.invariant.1.1.1 c.in-Some.ensures.value refl c.reserve.ensures.items),
+        ),
+      ),
+    )
+
+pub invariant_of-self-in-Ok-insert : goal.invariant_of-self-in-Ok-insert
+invariant_of-self-in-Ok-insert c =
+    let w : Names = record { texts = c.in_ok-texts-in-None.texts; saved = 0 } in
+    let same = c.get_mut.follows.holds-at-none in (
+      c.self.invariant.0,
+      (
+        c.self.invariant.1.0,
+        (
+          c.self.invariant.1.1.0,
+          subst (AreSaved c.self.inside.saved) (sym c.in-Ok-insert.ensures.entries)
+              (saved_added c.in_ok-copy_key-in-None.field-0 c.self.inside.names.entries c.get_mut.follows.lender-at-none.entries c.self.inside.saved w (λ i. (same i).entries) c.self.invariant.1.1.1
+              (ap (λ (k : Key). lookup (ghosts.eq k) c.self.inside.names.entries) c.in_ok-copy_key-in-None.ensures ∙ sym c.in-None.ensures.value)),
+        ),
+      ),
+    )
