@@ -1,21 +1,29 @@
 -- Tables that remember what changed since a mark. Every list of acts has the newest first.
-use Rattle.std.specs.Prelude.{◌≡◌, ◌++◌, ℕ, List, [], Option, reverse}
+use Rattle.std.specs.Prelude.{◌≡◌, ◌++◌, ℕ, List, [], length, Option, reverse}
 use Rattle.acts.specs.declared.act.Act.{Act}
 use Rattle.acts.specs.declared.act.Taken.{Taken}
 use Rattle.acts.specs.Flows.{acts_of}
 use Rattle.acts.specs.Holding.{address_of}
 use Rattle.proc_table.specs.Table.{Table as Procs, StandsFor as LivesAs}
 use Rattle.fd_table.specs.Table.{Table as Fds, AddressesAs}
+use Rattle.flow_base.specs.declared.types.Key.{Key}
+use Rattle.entity_names.specs.Known.{Known, saved_at}
+use Rattle.stored.specs.Batch.{names_at}
 use Rattle.flow_events.specs.declared.plan.NewAddress.{NewAddress}
 use Rattle.flow_events.specs.declared.plan.Plan.{Plan}
 use Rattle.flow_events.specs.declared.tables.Tables.{Tables}
 use Rattle.flow_events.specs.Since.{Memory, Remembers}
 use Rattle.flow_events.specs.Standing.{StandsFor, IsPlanOf, readdressed}
 
+-- each key had as many names at the mark as acts gave it before
+abbrev pub AreSavedNames : (List ℕ → List ℕ) → Known → List Taken → Type 0
+AreSavedNames address_text table before = (key : Key) → saved_at table key ≡ length (names_at address_text table.most_names before key)
+
 -- the tables stand for acts, and remember those of them that came after the mark
 pub record StandsSince (address_text : List ℕ → List ℕ) (tables : Tables) (before now : List Taken) : Type 0 where
   pub stands : StandsFor address_text tables (now ++ before)
   pub since : Remembers tables.since (acts_of before) (acts_of now)
+  pub saved : AreSavedNames address_text tables.entities before
 
 -- the tables stand for the same acts and remember the same
 abbrev pub StaysSince : Tables → Tables → Type 0

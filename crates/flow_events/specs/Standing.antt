@@ -15,7 +15,7 @@ use Rattle.flow_events.specs.declared.tables.Tables.{Tables}
 use Rattle.flow_events.specs.Births.{BornAs}
 use Rattle.flow_events.specs.Changes.{changed, need}
 use Rattle.flow_events.specs.Since.{HasRoomFor, RemembersTheSame}
-use Rattle.flow_events.specs.Entering.{Covers, SameNames, entered, pairs_of}
+use Rattle.flow_events.specs.Entering.{Covers, SameNames, SavedAlike, entered, pairs_of}
 
 -- the tables say what these acts say, where an address has this text
 pub record StandsFor (address_text : List ℕ → List ℕ) (tables : Tables) (taken : List Taken) : Type 0 where
@@ -89,6 +89,7 @@ pub record DiffersInRoom (old new : Tables) : Type 0 where
   pub limit : new.entities.limit ≡ old.entities.limit
   pub most_names : new.entities.most_names ≡ old.entities.most_names
   pub names : (key : Key) → names_at new.entities key ≡ names_at old.entities key
+  pub saved : SavedAlike old.entities new.entities
   pub flows : new.flows ≡ old.flows
   pub acts : new.acts ≡ old.acts
   pub limits : new.limits ≡ old.limits

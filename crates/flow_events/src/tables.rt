@@ -116,6 +116,7 @@ impl Tables {
         ensures since { BeginsToRemember self.old self.new }
         ensures limits { (limits : Limits) → HasLimits limits self.old → HasLimits limits self.new }
     {
+        self.entities.mark_saved();
         self.since = Some(Since::new(alloc));
     }
 
@@ -124,6 +125,7 @@ impl Tables {
         ensures since { BeginsAnew self.old self.new }
         ensures limits { (limits : Limits) → HasLimits limits self.old → HasLimits limits self.new }
     {
+        self.entities.mark_saved();
         mark_event(&mut self.since);
     }
 

@@ -3,6 +3,7 @@ use Rattle.std.proofs.lemmas.List.{map-append, append_cancel_right}
 use Rattle.acts.specs.declared.act.Act.{Act}
 use Rattle.acts.specs.declared.act.Taken.{Taken}
 use Rattle.acts.specs.Holding.{address_of}
+use Rattle.entity_names.specs.Known.{Known, saved_at}
 use Rattle.fd_table.specs.Table.{AddressesAs}
 use Rattle.flow_events.specs.Since.{Remembers}
 use Rattle.flow_events.specs.Standing.{readdressed}
@@ -12,7 +13,7 @@ use Rattle.proc_table.specs.Table.{StandsFor as LivesAs}
 use Rattle.flow_events.specs.Births.{BornAs}
 use Rattle.flow_events.specs.Entering.{entered}
 use Rattle.flow_events.proofs.Applying.{held_after, addresses_after, names_kept, same_kept}
-use Rattle.flow_events.proofs.Rooming.{stands_joined}
+use Rattle.flow_events.proofs.Rooming.{saved_still, stands_joined}
 use Rattle.flow_events.proofs.tables.Tables.apply.Goals as goal
 
 pub returns-clause-next : goal.returns-clause-next
