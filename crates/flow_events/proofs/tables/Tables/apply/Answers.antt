@@ -57,6 +57,10 @@ returns-clause-since c = λ text before now fresh stands plan. record {
       (turned ∙ ap reverse (sym c.as_slice.ensures))
       (λ s. ap (λ (l : List Act). address_of l s) (sym later) ∙ plan.addresses_are s ∙ ap (λ (l : List Act). readdressed c.args.plan.address (address_of l) s) joined)
       stands.since);
+  saved = saved_still text c.args.self.now.entities c.enter_all.new.entities before
+      (ap (λ e. e.most_names) c.enter_all.ensures.rest ∙ ap (λ e. e.most_names) c.give_all.ensures.rest)
+      (λ key. ap (λ (e : Known). saved_at e key) c.enter_all.ensures.rest ∙ c.give_all.ensures.saved key)
+      stands.saved;
 }
 
 pub returns-clause-limits : goal.returns-clause-limits
