@@ -1,5 +1,5 @@
 #!/usr/bin/env python3
-"""Holds the built program against the plain reading of the formats over logs whose lines were changed by chance.
+"""Holds the built program against the plain reading of the formats over logs whose lines were changed at random.
 
     bench/mutated.py [--program ./audit_cli] [--logs 80] [--seed 1] [--paths]
 
@@ -40,7 +40,7 @@ def change(rng, at, tokens, token):
     tokens[at] = token
 
 
-# What may happen to the tokens behind a header, where `at` is one of them.
+# What may happen to the tokens after a header, where `at` is one of them.
 CHANGES = [
     lambda rng, at, tokens: rng.shuffle(tokens),
     lambda rng, at, tokens: tokens.pop(at),
@@ -56,7 +56,7 @@ CHANGES = [
 
 
 def changed(rng, line):
-    """The line, changed by chance."""
+    """The line, changed at random."""
     way = rng.random()
     if way < 0.35 or not line:
         return line

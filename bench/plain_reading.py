@@ -451,7 +451,7 @@ class Host:
 # ---- how many rows each mode keeps
 
 def merged(flows):
-    """A flow makes a row unless an earlier one of its pair has no flow into the source and none out of the target behind it."""
+    """A flow makes a row unless an earlier one of its pair has no flow into the source and none out of the target after it."""
     rows, last, into, out = 0, {}, {}, {}
     for place, (source, target, *_) in enumerate(flows):
         before = last.get((source, target))
@@ -461,7 +461,7 @@ def merged(flows):
 
 
 def linked(flows):
-    """A flow is kept unless a kept one of its pair has no kept flow into the source behind it."""
+    """A flow is kept unless a kept one of its pair has no kept flow into the source after it."""
     rows, last, into = 0, {}, {}
     for place, (source, target, *_) in enumerate(flows):
         if into.get(source, -1) >= last.get((source, target), -1) or (source, target) not in last:

@@ -15,9 +15,9 @@ _autrail() {
     local options='-if -m -q --program --help'
     case $command in
         '') options="back fore why find show stat ask rules $options --version" ;;
-        back) options="$options --at -a --hide --each --tree --json --dot --svg --png" ;;
-        fore) options="$options --since -a --hide --each --tree --json --dot --svg --png" ;;
-        why) options="$options --at --lines --each --json" ;;
+        back) options="$options --at -a --hide --each --paths --tree --json --dot --svg --png" ;;
+        fore) options="$options --since -a --hide --each --paths --tree --json --dot --svg --png" ;;
+        why) options="$options --at --lines -i --interpret --each --json" ;;
         find | show) options="$options --each --json" ;;
         stat) options="$options --json" ;;
     esac

@@ -21,6 +21,7 @@ import re
 import shlex
 import shutil
 import signal
+import struct
 import subprocess
 import sys
 import tempfile
@@ -69,7 +70,7 @@ def asked(log: Path | str, questions: str) -> str:
 
 
 def call(serial: int, number: int, pid: int = 100, at: int | None = None, arch: str = 'c000003e', exit: int = 5, a0: str = '3', more: str = '', node: str = '') -> str:
-    """The SYSCALL line of an event, one second after the one of the serial number before, if no time is given."""
+    """The SYSCALL line of an event. If no time is given it is one second later for each serial number."""
     return (f'{node}type=SYSCALL msg=audit({1780992000 + serial if at is None else at}.000:{serial}): arch={arch} syscall={number} success=yes exit={exit} '
             f'a0={a0} a1=0 a2=0 a3=0 items=1 ppid=1 pid={pid} auid=1000 uid=1001 gid=0 tty=pts0 ses=7 comm="p" exe="/usr/bin/p"{more}\n')
 
@@ -122,7 +123,7 @@ class Answers(unittest.TestCase):
 
     def check_edges(self, dot: str) -> None:
         pids = {int(number): pid for number, pid in re.findall(r'^  n(\d+) \[.*tooltip="process (\d+) 0', dot, re.M)}
-        edges = re.findall(r'^  n(\d+) -> n(\d+) \[label="(\w+)\\n(\S+ \S+)", tooltip="serial (\d+)"(, style=dashed)?\]', dot, re.M)
+        edges = re.findall(r'^  n(\d+) -> n(\d+) \[label="(\w+)\\n([\d :.-]+)", tooltip="serial (\d+)"(, style=dashed)?\]', dot, re.M)
         self.assertGreater(len(edges), 3)
         for source, target, how, _, serial, dashed in edges:
             ends = {pids[it] for it in (int(source), int(target)) if it in pids}
@@ -163,7 +164,7 @@ class Answers(unittest.TestCase):
         early = {json.loads(it)['id'] for it in done.stdout.splitlines()}
         self.assertIn(26, early)
         self.assertNotIn(36, early)
-        # No progress either, since this is no terminal.
+        # No progress either, since this isn't a terminal.
         self.assertEqual(done.stderr, b'autrail: flows up to 2026-06-09 08:01:55.440 UTC+0000\n')
 
     def test_sessions_of_the_documents_are_as_printed(self) -> None:
@@ -189,12 +190,12 @@ class Names(Scratch):
         text = call(1, 59, exit=0, a0='0') + f'type=EXECVE msg=audit(1780992001.000:1): argc=2 a0="p" a1={HOSTILE["escape"].hex()}\n'
         for place, name in enumerate(HOSTILE.values()):
             text += opened_and(0, name.hex().upper(), 50 + place, 10 + 10 * place) + call(15 + 10 * place, 3, exit=0)
-        text += opened_and(1, '"/tmp/out"', 90, 200, 'CREATE')
+        text += opened_and(1, '"/tmp/out"', 90, 200, 'CREATE').replace('comm="p"', 'comm="\x1b[32m\x9b"')
         self.file = self.log(text)
 
     def test_nothing_raw_reaches_the_output(self) -> None:
         questions = ['back /tmp/out', 'back /tmp/out --tree', 'back /tmp/out --json', 'back /tmp/out --dot', 'find *', 'show *a* --each', 'show pid:100', 'stat',
-                     'find nosuch', 'back *']
+                     'find nosuch', 'back *', 'why pid:100 /tmp/out --lines', 'why pid:100 /tmp/out --lines --json']
         done = run('-if', self.file, 'ask', stdin='\n'.join(questions))
         for text in (done.stdout, done.stderr):
             self.assertIsNone(RAW.search(text), RAW.search(text))
@@ -247,6 +248,15 @@ class Trees(Scratch):
         self.assertEqual(len([it for it in lines if ' fork  ' in it]), 1500)
         self.assertIn('p[1001]  #', lines[1500])
 
+    def test_a_tree_of_too_many_paths_says_what_it_left_out(self) -> None:
+        text = ''.join(opened_and(0, f'"/tmp/f{it}"', 50 + it, 10 * it) for it in range(1, 11))
+        text += call(200, 41, exit=3) + call(201, 42) + 'type=SOCKADDR msg=audit(1780992201.000:201): saddr=02001F907F0000010000000000000000\n' + call(202, 0)
+        text += opened_and(1, '"/tmp/out"', 9, 900, 'CREATE')
+        lines = asked(self.log(text), 'back /tmp/out --tree --paths 3').splitlines()
+        self.assertEqual([it.split()[-2] for it in lines if '─ read ' in it], ['127.0.0.1:8080', '/tmp/f2', '/tmp/f1'])
+        self.assertIn('one path for each of 4 objects', lines)
+        self.assertIn('8 objects of the answer left out, since 3 paths were asked for; --paths N asks for more', lines)
+
     def test_times_along_each_branch_go_one_way(self) -> None:
         """Two objects reach the target over one process, which wrote it after each of them was read."""
         text = opened_and(0, '"/a"', 7, 10) + opened_and(1, '"/out"', 9, 20, 'CREATE') + call(22, 3, exit=0) + opened_and(0, '"/b"', 8, 30)
@@ -257,7 +267,7 @@ class Trees(Scratch):
 
 
 class Rotated(Scratch):
-    """A log in parts, packed in several ways, in a folder with a blank in its name."""
+    """A log in parts, packed in several ways, in a folder whose name has a blank."""
 
     def parts(self, count: int) -> list[bytes]:
         lines = EXAMPLE.read_bytes().splitlines(keepends=True)
@@ -320,9 +330,14 @@ class Rotated(Scratch):
         self.assertEqual((done.returncode, done.stdout), (0, b'#47     file     /customers.csv   file fe:00 19130 0\n'))
         self.assertFalse(list(Path(tempfile.gettempdir()).glob('autrail-*')))
 
+    def test_a_pipe_is_a_log(self) -> None:
+        command = f'{shlex.quote(str(AUTRAIL))} -q -if <(cat {shlex.quote(str(EXAMPLE))}) stat --json'
+        done = subprocess.run(['bash', '-c', command], capture_output=True, env=environment(), check=False)
+        self.assertEqual((json.loads(done.stdout)['lines'], json.loads(done.stdout)['malformed']), (1519, 0))
+
 
 class Fitness(Scratch):
-    """What a log isn't fit for is told before the answer."""
+    """A warning before the answer says what a log isn't fit for."""
 
     def test_each_fault_is_told(self) -> None:
         good = opened_and(0, '"/a"', 7, 1) + opened_and(1, '"/b"', 8, 3, 'CREATE') + call(5, 57, exit=101) + call(6, 59, exit=0)
@@ -345,6 +360,11 @@ class Fitness(Scratch):
                 self.assertIn(want, done.stderr.decode())
                 self.assertTrue(done.stderr.startswith(b'autrail: warning: '))
         self.assertEqual(json.loads(run('-if', self.log(good, 'good.log'), 'stat', '--json').stdout)['warnings'], [])
+
+    def test_a_few_malformed_lines_are_no_warning(self) -> None:
+        good = opened_and(0, '"/a"', 7, 1) + opened_and(1, '"/b"', 8, 3, 'CREATE') + call(5, 57, exit=101) + call(6, 59, exit=0)
+        told = json.loads(run('-if', self.log(good + 'garbage\n'), 'stat', '--json').stdout)
+        self.assertEqual((told['malformed'], told['warnings']), (1, []))
 
     def test_users_and_arguments_are_read_from_the_lines(self) -> None:
         text = call(1, 59, exit=0) + 'type=EXECVE msg=audit(1780992001.000:1): argc=3 a0="p" a1_len=4 a1[0]=6162 a1[1]=6364 a2="x"\n' + opened_and(1, '"/tmp/o"', 9, 10, 'CREATE')
@@ -426,7 +446,7 @@ class Words(Scratch):
     def test_wrong_words_give_one_line(self) -> None:
         wrong = ['', 'frob', 'back', 'fore', 'why a', 'find', 'show', 'stat x', 'ask x', 'rules x', 'back x y', 'back x --at', 'back x --at soon', 'fore x --since 25:00',
                  'back x --since today', 'back x --tree --dot', 'back x --svg x.png', 'back x --png x.svg', '-m fast stat', '--no-such stat', '-if', 'why a b --at never',
-                 '-if - ask', 'show x --frob', 'find x --tree', 'rules --json']
+                 '-if - ask', 'back x --paths 0', 'back x --paths many', 'show x --frob', 'find x --tree', 'rules --json']
         for words in wrong:
             with self.subTest(words), self.assertRaises(self.autrail.Refused) as refused:
                 self.autrail.run(shlex.split(words))
@@ -438,7 +458,7 @@ class Words(Scratch):
     def test_faults_of_the_log_and_the_program(self) -> None:
         empty = self.log('')
         cases = [(['-if', self.folder / 'none', 'stat'], {}, 4, 'no such log'), (['-if', empty, 'stat'], {'AUDIT_CLI': '/no/such'}, 2, "doesn't start"),
-                 (['-if', empty, 'stat'], {'AUDIT_CLI': "'"}, 2, "can't be parted"),
+                 (['-if', empty, 'stat'], {'AUDIT_CLI': "'"}, 2, "can't be split into words"),
                  (['-if', empty, 'stat'], {'AUDIT_CLI': "sh -c 'echo full >&2; exit 9'"}, 9, 'the program says: full'),
                  (['-if', EXAMPLE, 'find', 'nosuch.c'], {}, 1, 'nothing in the log is called nosuch.c'), (['-if', EXAMPLE, 'show', '#99'], {}, 1, 'no object'),
                  (['-if', EXAMPLE, 'find', 'customers'], {}, 1, 'there is /customers.csv')]
@@ -448,6 +468,33 @@ class Words(Scratch):
                 self.assertEqual((done.returncode, done.stdout), (status, b''))
                 self.assertIn(want, done.stderr.decode())
 
+    def test_a_program_that_does_not_know_a_question(self) -> None:
+        counts = {it: 0 for it in ('lines', 'used', 'other', 'blank', 'malformed', 'events', 'late', 'unmapped', 'excess', 'flows', 'kept', 'known')}
+        older = self.log(f'''#!{sys.executable}
+import sys
+for line in sys.stdin:
+    reply = {{'take': '{{"take":0}}', 'settle': '{{"settle":0}}', 'stat': """{json.dumps(counts)}"""}}.get(line.split()[0], '{{"error":"BadQuestion"}}')
+    print(reply, flush=True)
+''', 'older')
+        older.chmod(0o755)
+        done = run('-q', '-if', self.log(''), 'find', '/a', AUDIT_CLI=shlex.quote(str(older)))
+        self.assertEqual((done.returncode, done.stdout, done.stderr),
+                         (2, b'', b"autrail: this program doesn't answer 'find'; autrail 0.3.0 needs a later one\n"))
+
+    def test_lines_in_words(self) -> None:
+        ausearch = self.log("#!/bin/sh\nsed 's/^/in words: /; 1i----'\n", 'ausearch')
+        ausearch.chmod(0o755)
+        there = f'{self.folder}:{os.environ["PATH"]}'
+        done = run('-q', '-if', EXAMPLE, 'why', '/customers.csv', '/tmp/.loot.tar', '-i', PATH=there)
+        self.assertEqual((done.returncode, done.stderr), (0, b''))
+        self.assertEqual(done.stdout.count(b'      in words: type=SYSCALL'), 2)
+        self.assertNotIn(b'----', done.stdout)
+        if not shutil.which('ausearch', path=ADMIN_FOLDERS):
+            done = run('-q', '-if', EXAMPLE, 'why', '/customers.csv', '/tmp/.loot.tar', '--interpret')
+            self.assertEqual(done.returncode, 0)
+            self.assertIn(b"ausearch isn't on this machine", done.stderr)
+            self.assertEqual(done.stdout.count(b'      type=SYSCALL'), 2)
+
     def test_a_folder_that_may_not_be_read(self) -> None:
         with unittest.mock.patch('os.listdir', side_effect=PermissionError), self.assertRaises(self.autrail.Refused) as refused:
             self.autrail.logs_of([str(self.folder / 'audit.log')], contextlib.ExitStack())
@@ -455,7 +502,7 @@ class Words(Scratch):
         self.assertIn('run autrail by sudo', str(refused.exception))
 
     def test_help_and_version(self) -> None:
-        self.assertEqual(run('--version').stdout, b'autrail 0.2.0\n')
+        self.assertEqual(run('--version').stdout, b'autrail 0.3.0\n')
         for command in ([], ['back'], ['fore'], ['why'], ['find'], ['show'], ['stat'], ['ask'], ['rules']):
             self.assertEqual(run(*command, '--help').returncode, 0)
 
@@ -492,16 +539,18 @@ class Pictures(Scratch):
     def test_graphs_are_drawn_where_graphviz_is(self) -> None:
         if not shutil.which('dot'):
             self.skipTest('graphviz (dot) is not on this machine')
-        text = opened_and(0, HOSTILE['feed'].hex(), 50, 10) + opened_and(0, '"/tmp/<b>&amp;"', 51, 20) + opened_and(0, HOSTILE['quote'].hex(), 52, 30)
-        text += opened_and(1, HOSTILE['slash'].hex(), 53, 40, 'CREATE')
-        hostile = self.log(text)
-        for log, what, shapes in ((EXAMPLE, '127.0.0.1:4445', 15), (hostile, 'inode:08:01:53', 5)):
+        text = ''.join(opened_and(0, name.hex(), 50 + place, 10 + 10 * place) for place, name in enumerate([*HOSTILE.values(), b'/tmp/<b>&amp;']))
+        hostile = self.log(text + opened_and(1, HOSTILE['slash'].hex(), 90, 300, 'CREATE'))
+        for log, what, shapes in ((EXAMPLE, '127.0.0.1:4445', 15), (hostile, 'inode:08:01:90', 2 + len(HOSTILE) + 1)):
             svg, png = self.folder / 'a b.svg', self.folder / 'a b.png'
             for option, file in (('--svg', svg), ('--png', png)):
                 done = run('-q', '-if', log, 'back', what, option, file)
                 self.assertEqual(done.returncode, 0, done.stderr)
             self.assertEqual(svg.read_text().count('class="node"'), shapes)
-            self.assertTrue(png.read_bytes().startswith(b'\x89PNG'))
+            # In a PNG the width and the height follow the magic and the head of the first part.
+            self.assertTrue(png.read_bytes().startswith(b'\x89PNG\r\n\x1a\n'))
+            self.assertGreater(min(struct.unpack('>II', png.read_bytes()[16:24])), 100)
+            self.assertIsNone(RAW.search(svg.read_bytes()))
 
     def test_without_graphviz_it_says_what_to_install(self) -> None:
         for name, file in {'python3': sys.executable, 'sh': shutil.which('sh'), 'bash': shutil.which('bash')}.items():
@@ -518,32 +567,96 @@ class Pictures(Scratch):
 
 
 class Terminal(Scratch):
-    def test_a_session_at_a_terminal(self) -> None:
+    """What is seen at a terminal of 110 columns and 40 lines."""
+
+    def setUp(self) -> None:
+        super().setUp()
         if not shutil.which('tmux'):
             self.skipTest('tmux is not on this machine')
-        tmux = ['tmux', '-L', f'autrail-{os.getpid()}', '-f', '/dev/null']
-        start = ' '.join(shlex.quote(it) for it in ('env', f'AUDIT_CLI={PROGRAM}', 'TZ=UTC', 'LC_ALL=C.UTF-8', str(AUTRAIL), '-if', str(EXAMPLE), 'ask'))
-        subprocess.run([*tmux, '-u', 'new-session', '-d', '-x', '110', '-y', '40', start + '; echo status $?; sleep 60'], check=True, cwd=TOP)
-        self.addCleanup(subprocess.run, [*tmux, 'kill-server'], check=False)
+        # Each test has a server of its own, since a server that was told to end takes a while.
+        self.tmux = ['tmux', '-L', f'autrail-{os.getpid()}-{self._testMethodName}', '-f', '/dev/null']
 
-        def keys(*words: str) -> None:
-            subprocess.run([*tmux, 'send-keys', *words], check=True)
+    def start(self, *words: str | Path, **more: str) -> None:
+        """Starts autrail at the terminal. Its status is shown when it ends."""
+        variables = {'AUDIT_CLI': PROGRAM, 'TZ': 'UTC', 'LC_ALL': 'C.UTF-8', 'PYTHONDONTWRITEBYTECODE': '1', **more}
+        line = ' '.join(shlex.quote(str(it)) for it in ('env', *(f'{key}={value}' for key, value in variables.items()), AUTRAIL, *words))
+        subprocess.run([*self.tmux, '-u', 'new-session', '-d', '-x', '110', '-y', '40', f'trap : INT; {line}; echo status $?; sleep 60'], check=True, cwd=TOP)
+        self.addCleanup(subprocess.run, [*self.tmux, 'kill-server'], check=False)
 
-        def wait_for(want: str) -> str:
-            for _ in range(300):
-                screen = subprocess.run([*tmux, 'capture-pane', '-p'], capture_output=True, check=True).stdout.decode()
-                if want in screen:
-                    return screen
-                time.sleep(0.1)
-            self.fail(f'{want!r} did not come:\n{screen}')
+    def keys(self, *words: str) -> None:
+        subprocess.run([*self.tmux, 'send-keys', *words], check=True)
 
-        wait_for('autrail>')
-        keys('fore /cust', 'Tab', ' --tree', 'Enter')
-        wait_for('└─ write 2026-06-09 08:01:56.184:1148  127.0.0.1:4445  #49')
-        keys('frob', 'Enter')
-        wait_for("invalid choice: 'frob'")
-        keys('C-d')
-        wait_for('status 0')
+    def screen(self) -> str:
+        return subprocess.run([*self.tmux, 'capture-pane', '-p'], capture_output=True, check=True).stdout.decode()
+
+    def wait_for(self, want: str) -> str:
+        for _ in range(600):
+            screen = self.screen()
+            if re.search(want, screen):
+                return screen
+            time.sleep(0.05)
+        self.fail(f'{want!r} did not come:\n{self.screen()}')
+
+    def test_a_session_at_a_terminal(self) -> None:
+        self.start('-if', EXAMPLE, 'ask')
+        self.wait_for('autrail>')
+        self.keys('fore /cust', 'Tab', ' --tree', 'Enter')
+        self.wait_for('└─ write 2026-06-09 08:01:56.184:1148  127.0.0.1:4445  #49')
+        self.keys('frob', 'Enter')
+        self.wait_for("invalid choice: 'frob'")
+        self.keys('C-d')
+        self.wait_for('status 0')
+
+    def test_progress_and_an_interrupt_over_a_long_log(self) -> None:
+        long = self.folder / 'long.log'
+        with open(long, 'wb') as file:
+            subprocess.run([sys.executable, TOP / 'bench' / 'repeat_log.py', EXAMPLE, '42000000'], stdout=file, check=True)
+        # A program that takes its time, so that the interrupt comes while the log is read.
+        pids = self.folder / 'pids'
+        slow = self.log(f'''#!{sys.executable}
+import os, sys, time
+print(os.getpid(), file=open({str(pids)!r}, 'w'), flush=True)
+log = open(sys.argv[3], 'rb')
+for line in sys.stdin:
+    taken = len(log.read(int(line.split()[1])))
+    time.sleep(1)
+    print('{{"take":%d}}' % taken, flush=True)
+''', 'slow')
+        slow.chmod(0o755)
+        self.start('-if', long, 'stat', AUDIT_CLI=shlex.quote(str(slow)))
+        self.wait_for(r'\d MB of the log read')
+        self.keys('C-c')
+        self.wait_for('status 130')
+        with self.assertRaises(ProcessLookupError):
+            os.kill(int(pids.read_text()), 0)
+
+    def test_long_answers_go_through_a_pager(self) -> None:
+        text = ''.join(opened_and(0, f'"/tmp/f{it}"', 50 + it, 10 * it) for it in range(1, 61)) + opened_and(1, '"/tmp/out"', 9, 900, 'CREATE')
+        log, noted = self.log(text), self.folder / 'noted'
+        pager = self.log(f'#!/bin/sh\nhead -n 1 >{shlex.quote(str(noted))}\necho the pager is closed\n', 'pager')
+        pager.chmod(0o755)
+        self.start('-q', '-if', log, 'back', '/tmp/out', PAGER=shlex.quote(str(pager)))
+        self.wait_for('the pager is closed\nstatus 0')
+        self.assertEqual(noted.read_text(), '/tmp/out  #61  can have come from:\n')
+
+    def test_short_answers_do_not(self) -> None:
+        self.start('-q', '-if', EXAMPLE, 'find', '/customers.csv', PAGER='false')
+        self.wait_for('#47     file     /customers.csv   file fe:00 19130 0\nstatus 0')
+
+    def test_less_shows_a_long_answer(self) -> None:
+        if not shutil.which('less'):
+            self.skipTest('less is not on this machine')
+        text = ''.join(opened_and(0, f'"/tmp/f{it}"', 50 + it, 10 * it) for it in range(1, 61)) + opened_and(1, '"/tmp/out"', 9, 900, 'CREATE')
+        self.start('-q', '-if', self.log(text), 'back', '/tmp/out', PAGER='less -FRX')
+        self.wait_for('/tmp/f30\n')
+        # An interrupt is for the pager, which stays. It may drop keys that follow at once.
+        self.keys('C-c')
+        for _ in range(20):
+            self.keys('q')
+            time.sleep(0.3)
+            if 'status' in self.screen():
+                break
+        self.wait_for('status 0')
 
 
 class Rules(unittest.TestCase):

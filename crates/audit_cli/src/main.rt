@@ -8,6 +8,10 @@
 //! ones, says on standard error how a run ended that wasn't done, and ends with the status's number.
 #![tactic(auto)]
 
+ghost use Rattle.std.specs.Prelude.{◌≡◌, ◌⊎◌, ◌<ℤ◌, pos, None, IfErr, IfSome, map, string_bytes};
+ghost use Rattle.std.specs.Fd.{file_raw_fd};
+ghost use Rattle.audit_cli.specs.Words.{job_of};
+
 mod back;
 mod command_line;
 mod halt;
@@ -46,7 +50,11 @@ fn main(rt: HostRuntime) -> ExitCode {
 }
 
 // Does what the words say, with the log and the questions that their job has.
-fn audited(rt: &HostRuntime, words: &[String]) -> Status {
+fn audited(rt: &HostRuntime, words: &[String]) -> Status
+    ensures bad_words { result ≡ Status.BadWords → job_of (map string_bytes words.now) ≡ None }
+    ensures refuses { job_of (map string_bytes words.now) ≡ None
+        → (result ≡ Status.BadWords) ⊎ (result ≡ Status.NoMemory) }
+{
     let alloc = rt.alloc();
     let mut out = Writing::new(rt.stdout());
     match read_words(alloc, words) {
@@ -75,7 +83,10 @@ fn audited(rt: &HostRuntime, words: &[String]) -> Status {
 }
 
 // The file of this name, opened for reading.
-fn log_named(rt: &HostRuntime, name: &Bytes) -> Reading<File> {
+fn log_named(rt: &HostRuntime, name: &Bytes) -> Reading<File>
+    ensures unused { result.faults ≡ 0 }
+    ensures apart { IfSome result.inner (λ file. pos 2 <ℤ file_raw_fd file) }
+{
     match str::from_utf8(name.as_slice()) {
         Ok(path) => open_log(rt, path),
         Err(_) => Reading::unopened(),
@@ -83,7 +94,10 @@ fn log_named(rt: &HostRuntime, name: &Bytes) -> Reading<File> {
 }
 
 // The words after the program's own name. Words that aren't UTF-8 name no job.
-fn arguments(rt: &HostRuntime) -> Result<Vec<String>, Status> {
+fn arguments(rt: &HostRuntime) -> Result<Vec<String>, Status>
+    ensures { IfErr result (λ status.
+        (status ≡ Status.BadWords) ⊎ (status ≡ Status.NoMemory)) }
+{
     let mut words = Vec::new(rt.alloc());
     let args = match env::args(rt) {
         Ok(args) => args,

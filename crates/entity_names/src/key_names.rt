@@ -30,7 +30,8 @@ fn new_texts(names: &Names) -> &[Bytes]
 
 /// Appends the names of a key that came since the mark.
 pub fn push_new(found: &mut List<Named>, key: &Key, names: &Names) -> Result<(), NoMemory>
-    ensures { OnOk result (pairs_of found.new ≡ pairs_of found.old ++ new_pairs (key.now, names.now)) }
+    ensures { OnOk result
+        (pairs_of found.new ≡ pairs_of found.old ++ new_pairs (key.now, names.now)) }
 {
     for text in new_texts(names) {
         found.push(Named {

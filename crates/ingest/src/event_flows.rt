@@ -17,6 +17,7 @@ ghost use Rattle.ingest.specs.Asking.{WalkHasCauses};
 ghost use Rattle.ingest.specs.Bounds.{IsFew, IsBounded, StaysFew, OneMore};
 ghost use Rattle.ingest.specs.EventActs.{is_unmapped};
 ghost use Rattle.ingest.specs.Events.{flows_in, objects_in};
+ghost use Rattle.ingest.specs.Faults.{of_refused};
 ghost use Rattle.ingest.specs.Following.{HasTaken, MayComeAt, KeepTaken, KeptWith};
 ghost use Rattle.ingest.specs.Following.{IsPlanFor, IsFullWith};
 ghost use Rattle.ingest.specs.GoingOn.{EntersOne, ClosesAll, ReleasesAll, ReleasesNext};
@@ -26,7 +27,6 @@ ghost use Rattle.ingest.specs.Owing.{NextPasses};
 ghost use Rattle.ingest.specs.Replies.{KeepsSoMany};
 ghost use Rattle.ingest.specs.StandsFor.{JoinedStandsFor, WhereJoined, WhereWaiting};
 ghost use Rattle.ingest.specs.declared.stop.StopWhy.TheVariants as why;
-ghost use Rattle.flow_events.specs.declared.fault.PrepareFault.TheVariants as fault;
 
 use crate::event_counts::EventCounts;
 use crate::stop::StopWhy;
@@ -350,7 +350,7 @@ fn plan_event(alloc: Global, tables: &mut Tables, event: &EventView<'_>) -> Resu
 
 // Why an event was refused.
 fn why_of(refused: PrepareFault) -> StopWhy
-    ensures full { (full : Full) → result ≡ why.Full full → refused ≡ fault.Full full }
+    ensures { result ≡ of_refused refused }
 {
     match refused {
         PrepareFault::NoMemory => StopWhy::NoMemory,

@@ -1,0 +1,139 @@
+-- How the reading of a log goes on.
+use Rattle.std.proofs.Common.{◌≡◌, ◌+◌, ◌∙◌, sym, refl, ap, subst, ℕ, false, List, [], ◌∷◌, ◌++◌, length, take, drop, Option, None, Some, map, append_assoc, append-nil, Ok, Err, Result, OnOk, ◌-◌}
+use Rattle.std.specs.List.Sorted.{IsPermutation}
+use Rattle.std.specs.Io.KnownBytes.{Appends, Consumes, IsAtEnd}
+use Rattle.std.proofs.Math.Seq.{take-add}
+use Rattle.std.proofs.lemmas.List.{map-append, take_rest}
+use Rattle.audit_order.specs.declared.halt.Halt.{Halt}
+use Rattle.audit_order.specs.declared.halt.Halt.TheVariants as halt
+use Rattle.audit_order.specs.Statuses.{status_for, AtDone}
+use Rattle.std.proofs.lemmas.Option.{same_Some}
+use Rattle.audit_lex.specs.History.{History, Step, Byte, lines_of, with_bytes, is_long, short_text}
+use Rattle.audit_lex.specs.LineCut.{StandsFor, Cutter, Gives}
+use Rattle.audit_lex.specs.declared.line_cut.Line.{Line}
+use Rattle.order_text.specs.Undo.{undone}
+use Rattle.audit_order.specs.Course.{Course}
+use Rattle.audit_order.specs.Sorted.{Sorts}
+use Rattle.audit_order.specs.Reads.{Took, TakesAlso, TakesNext, log_lines, Orders}
+use Rattle.audit_order.specs.declared.sorter.Sorter.{Sorter}
+
+short : (limit : ℕ) (text : List ℕ) → is_long limit text ≡ false → short_text limit text ≡ text
+short limit text e = rw e refl
+
+pub next_took : (limit : ℕ) (before was now : Option (List ℕ)) (old new : Sorter) (from to : History) (line : Option Line)
+    → Gives limit from to line → TakesNext was old now new line → Sorts before was old (lines_of from) → Sorts before now new (lines_of to)
+next_took limit before was now old new from to None same goes s =
+    subst (λ (lines : List (List ℕ)). Sorts before now new lines) (sym same) (goes before (lines_of from) s)
+next_took limit before was now old new from to (Some line) gives takes s =
+    let is = gives.2 in
+    let long : is_long limit gives.0 ≡ false = sym (ap (λ (l : Line). l.long) is) ∙ takes.0 in
+    let whole : line.text ≡ gives.0 = ap (λ (l : Line). l.text) is ∙ short limit gives.0 long in
+    subst (λ (lines : List (List ℕ)). Sorts before now new lines)
+        (ap (λ (t : List ℕ). lines_of from ++ t ∷ []) whole ∙ sym gives.1) (takes.1 before (lines_of from) s)
+
+pub joined_bytes : (history : History) (piece : List ℕ) (a n : ℕ)
+    → (history ++ map Byte (take a piece)) ++ map Byte (take n (drop a piece)) ≡ history ++ map Byte (take (a + n) piece)
+joined_bytes history piece a n =
+    append_assoc history (map Byte (take a piece)) (map Byte (take n (drop a piece)))
+    ∙ ap (λ (t : List Step). history ++ t) (sym (map-append Byte (take a piece) (take n (drop a piece))))
+    ∙ ap (λ (t : List ℕ). history ++ map Byte t) (sym (take-add a n piece))
+
+pub joined_parts : (history : History) (first second : List ℕ) → (history ++ map Byte first) ++ map Byte second ≡ history ++ map Byte (first ++ second)
+joined_parts history first second =
+    append_assoc history (map Byte first) (map Byte second) ∙ ap (λ (t : List Step). history ++ t) (sym (map-append Byte first second))
+
+-- some of a log was taken, and the rest is left
+pub record InLog (bytes : List ℕ) (left was : Option (List ℕ)) (cut : Cutter) (s : Sorter) (now : Option (List ℕ)) (cut2 : Cutter) (s2 : Sorter) : Type 0 where
+  pub part : List ℕ
+  pub rest : List ℕ
+  pub told : left ≡ Some rest
+  pub whole : bytes ≡ part ++ rest
+  pub takes : TakesAlso was cut s now cut2 s2 (map Byte part)
+
+pub begins_log : (bytes : List ℕ) (left was : Option (List ℕ)) (cut : Cutter) (s : Sorter) → left ≡ Some bytes → InLog bytes left was cut s was cut s
+begins_log bytes left was cut s told = record {
+  part = [];
+  rest = bytes;
+  told = told;
+  whole = refl;
+  takes = λ before history took. subst (λ (h : History). Took before was cut s h) (sym (append-nil history)) took;
+}
+
+consumed : (old new : Option (List ℕ)) (rest piece : List ℕ) → old ≡ Some rest → Consumes old new piece → (later : List ℕ) × (new ≡ Some later) × (rest ≡ piece ++ later)
+consumed None new rest piece told e = absurd (cc told)
+consumed (Some xs) None rest piece told e = absurd e
+consumed (Some xs) (Some ys) rest piece told e = (ys, refl, sym (same_Some _ _ told) ∙ e)
+
+pub goes_on_log : (bytes : List ℕ) (left later was now next : Option (List ℕ)) (cut cut2 cut3 : Cutter) (s s2 s3 : Sorter) (piece : List ℕ)
+    → InLog bytes left was cut s now cut2 s2 → Consumes left later piece → TakesAlso now cut2 s2 next cut3 s3 (map Byte piece)
+    → InLog bytes later was cut s next cut3 s3
+goes_on_log bytes left later was now next cut cut2 cut3 s s2 s3 piece log read takes =
+    let is = consumed left later log.rest piece log.told read in
+    record {
+      part = log.part ++ piece;
+      rest = is.0;
+      told = is.1;
+      whole = log.whole ∙ ap (λ (t : List ℕ). log.part ++ t) is.2 ∙ sym (append_assoc log.part piece is.0);
+      takes = λ before history took. subst (λ (h : History). Took before next cut3 s3 h) (joined_parts history log.part piece)
+          (takes before (history ++ map Byte log.part) (log.takes before history took));
+    }
+
+at_end : (later : Option (List ℕ)) (rest : List ℕ) → later ≡ Some rest → IsAtEnd later → rest ≡ []
+at_end None rest told e = absurd (cc told)
+at_end (Some xs) rest told e = sym (same_Some _ _ told) ∙ e
+
+pub record Ended (bytes : List ℕ) (later was : Option (List ℕ)) (cut : Cutter) (s : Sorter) (now : Option (List ℕ)) (cut2 : Cutter) (s2 : Sorter) : Type 0 where
+  pub takes : TakesAlso was cut s now cut2 s2 (map Byte bytes)
+  pub none : later ≡ Some []
+
+pub ends_log : (bytes : List ℕ) (left later was now : Option (List ℕ)) (cut cut2 : Cutter) (s s2 : Sorter) (piece : List ℕ) → piece ≡ []
+    → InLog bytes left was cut s now cut2 s2 → Consumes left later piece → IsAtEnd later → Ended bytes later was cut s now cut2 s2
+ends_log bytes left later was now cut cut2 s s2 piece empty log read ended =
+    let is = consumed left later log.rest piece log.told read in
+    let none = at_end later is.0 is.1 ended in
+    let all : bytes ≡ log.part = log.whole ∙ ap (λ (t : List ℕ). log.part ++ t) (is.2 ∙ ap (λ (p : List ℕ). p ++ is.0) empty ∙ none) ∙ append-nil log.part in
+    record {
+      takes = subst (λ (b : List ℕ). TakesAlso was cut s now cut2 s2 (map Byte b)) (sym all) log.takes;
+      none = is.1 ∙ ap (λ (r : List ℕ). Some r) none;
+    }
+
+-- what was written at the end orders the log
+pub orders : (bytes : List ℕ) (before now : Option (List ℕ)) (pending : List ℕ) (ms : ℕ) (waits lines : List (List ℕ)) → pending ≡ [] → waits ≡ []
+    → lines ≡ log_lines bytes → Course before now pending ms waits lines → Orders bytes before now
+orders bytes before now pending ms waits lines flushed none are c = record {
+  outs = c.outs;
+  added = c.added;
+  written = subst (λ (t : List ℕ). Appends before now t) (sym (append-nil c.done) ∙ ap (λ (p : List ℕ). c.done ++ p) (sym flushed) ∙ c.text) c.appends;
+  same = subst (λ (l : List (List ℕ)). IsPermutation (c.added ++ l) (map undone c.outs)) are
+      (subst (λ (w : List (List ℕ)). IsPermutation (c.added ++ lines) (w ++ map undone c.outs)) none c.same);
+  rises = c.rises;
+  ends = c.ends;
+}
+
+-- ---- slices, and results
+
+-- a part of the rest of a piece
+pub joined_slice : (history : History) (piece : List ℕ) (a n : ℕ)
+    → (history ++ map Byte (take a piece)) ++ map Byte (take n (take (length piece - a) (drop a piece))) ≡ history ++ map Byte (take (a + n) piece)
+joined_slice history piece a n =
+    ap (λ (t : List ℕ). (history ++ map Byte (take a piece)) ++ map Byte (take n t)) (take_rest piece a) ∙ joined_bytes history piece a n
+
+pub on_ok_three : {T E P Q R S : Type 0} (r : Result T E) → OnOk r P → OnOk r Q → OnOk r R → (P → Q → R → S) → OnOk r S
+on_ok_three (Ok x) p q r f = f p q r
+on_ok_three (Err e) p q r f = tt
+
+pub at_done : (r : Result Unit Halt) (P : Type 0) → OnOk r P → AtDone (status_for r) P
+at_done (Ok x) P p = p
+at_done (Err halt.NoMemory) P p = tt
+at_done (Err halt.ReadFault) P p = tt
+at_done (Err halt.WriteFault) P p = tt
+
+-- a part of the log was cut, and the line that ended in it is taken
+pub part_took : (was now : Option (List ℕ)) (cut cut2 : Cutter) (old new : Sorter) (bytes : List ℕ) (line : Option Line)
+    → ((history : History) → StandsFor cut history → Gives cut.limit history (with_bytes history bytes) line)
+    → ((history : History) → StandsFor cut history → StandsFor cut2 (with_bytes history bytes))
+    → TakesNext was old now new line → TakesAlso was cut old now cut2 new (map Byte bytes)
+part_took was now cut cut2 old new bytes line gives stands takes before history took = record {
+  stands = stands history took.stands;
+  sorts = next_took cut.limit before was now old new history (with_bytes history bytes) line (gives history took.stands) takes took.sorts;
+}

@@ -1,0 +1,32 @@
+-- How far the ordering of a log has come.
+use Rattle.std.specs.Prelude.{◌≡◌, ℕ, ◌≤◌, List, ◌∷◌, ◌++◌, Option, map, IsPermutation}
+use Rattle.std.specs.List.{All}
+use Rattle.std.specs.List.Sorted.{IsNonDecreasing}
+use Rattle.std.specs.Io.KnownBytes.{Appends}
+use Rattle.order_text.specs.Undo.{undone}
+use Rattle.audit_order.specs.Lines.{text_of, times_of, IsEnd, Written}
+
+-- Of the lines of the log so far, each is written or waits, and none is lost, doubled or made up: what was written is undone
+-- to them and to the ends that were added. Times don't fall in what is written.
+pub record Course (before now : Option (List ℕ)) (pending : List ℕ) (ms : ℕ) (waits lines : List (List ℕ)) : Type 0 where
+  pub outs : List (List ℕ)
+  pub added : List (List ℕ)
+  pub done : List ℕ
+  pub appends : Appends before now done
+  pub text : done ++ pending ≡ text_of outs
+  pub same : IsPermutation (added ++ lines) (waits ++ map undone outs)
+  pub rises : IsNonDecreasing (times_of outs)
+  pub below : All (λ time. time ≤ ms) (times_of outs)
+  pub ends : All IsEnd added
+
+-- whatever waits, what is written besides loses nothing
+abbrev pub Keeps : Written → Written → Type 0
+Keeps old new =
+    (before now : Option (List ℕ)) (waits lines : List (List ℕ))
+    → Course before now old.pending old.ms waits lines → Course before now new.pending new.ms waits lines
+
+-- a line that waited is written
+abbrev pub Gives : Written → Written → List ℕ → Type 0
+Gives old new line =
+    (before now : Option (List ℕ)) (waits lines : List (List ℕ))
+    → Course before now old.pending old.ms (line ∷ waits) lines → Course before now new.pending new.ms waits lines

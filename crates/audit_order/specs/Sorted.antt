@@ -1,0 +1,27 @@
+-- What a sorter stands for.
+use Rattle.std.specs.Prelude.{ℕ, List, [], ◌∷◌, ◌++◌, Option}
+use Rattle.order_queue.specs.Queue.{texts_of}
+use Rattle.audit_order.specs.Course.{Course}
+use Rattle.audit_order.specs.declared.sorter.Sorter.{Sorter}
+
+-- the sorter holds the lines that wait, after these lines of the log
+abbrev pub Sorts : (before now : Option (List ℕ)) → Sorter → List (List ℕ) → Type 0
+Sorts before now s lines = Course before now s.writer.pending s.writer.ms (texts_of s.queue.waits) lines
+
+-- a step of the sorter alone loses nothing
+abbrev pub Moves : Sorter → Sorter → Type 0
+Moves old new = (before now : Option (List ℕ)) (lines : List (List ℕ)) → Sorts before now old lines → Sorts before now new lines
+
+-- one more line of the log waits
+abbrev pub Holds : Sorter → Sorter → List ℕ → Type 0
+Holds old new line =
+    (before now : Option (List ℕ)) (lines : List (List ℕ)) → Sorts before now old lines → Sorts before now new (lines ++ line ∷ [])
+
+-- steps that also write lose nothing
+abbrev pub Goes : (was : Option (List ℕ)) → Sorter → (now : Option (List ℕ)) → Sorter → Type 0
+Goes was old now new = (before : Option (List ℕ)) (lines : List (List ℕ)) → Sorts before was old lines → Sorts before now new lines
+
+-- steps that also write take one more line of the log
+abbrev pub Takes : (was : Option (List ℕ)) → Sorter → (now : Option (List ℕ)) → Sorter → List (List ℕ) → Type 0
+Takes was old now new more =
+    (before : Option (List ℕ)) (lines : List (List ℕ)) → Sorts before was old lines → Sorts before now new (lines ++ more)

@@ -1,0 +1,65 @@
+//! The line that ends an event.
+ghost use Rattle.std.specs.Prelude.{◌≡◌, IfOk, IfSome};
+ghost use Rattle.audit_order.specs.Lines.{IsEnd};
+
+use flow_base::{Bytes, NoMemory};
+use order_text::Stamp;
+use std::alloc::Global;
+use std::marker::Model;
+
+/// The line that ends an event, which is added where the log has none.
+#[derive(Drop)]
+pub struct End {
+    line: Bytes,
+}
+
+impl Model for End {
+    ghost use Rattle.std.specs.Prelude.{List, ℕ};
+    ghost use Rattle.audit_order.specs.Lines.{IsEnd};
+
+    ghost Value = { List ℕ };
+
+    ghost view = { λ a. a.line };
+
+    ghost invariant = { λ a. IsEnd a.line };
+}
+
+impl End {
+    /// The line.
+    pub fn line(&self) -> &[u8]
+        ensures line { result.now ≡ self.now }
+        ensures end { IsEnd result.now }
+    {
+        self.line.as_slice()
+    }
+
+    /// The line that ends the event of a call, if this is the stamp of a call's record.
+    pub fn of_call(alloc: Global, stamp: &Stamp<'_>) -> Result<Option<End>, NoMemory> {
+        match stamp.front.strip_suffix(b"type=SYSCALL msg=audit") {
+            None => Ok(None),
+            Some(node) => {
+                let line = end_line(alloc, node, stamp.time, stamp.serial)?;
+                Ok(Some(End { line }))
+            }
+        }
+    }
+}
+
+// The line that ends an event of this node, time and serial number.
+fn end_line(alloc: Global, node: &[u8], time: &[u8], serial: &[u8]) -> Result<Bytes, NoMemory>
+    ensures { IfOk result IsEnd }
+{
+    let mut line = Bytes::from_slice(alloc, node)?;
+    line.append(b"type=EOE msg=audit(")?;
+    line.append(time)?;
+    line.append(b":")?;
+    line.append(serial)?;
+    line.append(b"): ")?;
+    Ok(line)
+}
+
+/// Whether a record ends its event.
+pub fn ends_event(stamp: &Stamp<'_>) -> bool {
+    stamp.front.ends_with(b"type=PROCTITLE msg=audit")
+        || stamp.front.ends_with(b"type=EOE msg=audit")
+}

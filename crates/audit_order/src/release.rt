@@ -1,0 +1,123 @@
+//! Lines that are written since their turn has come.
+ghost use Rattle.std.specs.Prelude.{◌≡◌, ◌-◌, ◌≤◌, ◌^◌, ◌∷◌, [], length, OnOk, IfErr};
+ghost use Rattle.outside.specs.Cause.{Rose};
+ghost use Rattle.audit_order.specs.Halts.{HasCauses, GoesUp};
+ghost use Rattle.audit_order.specs.Sorted.{Goes, Takes};
+
+use crate::halt::Halt;
+use crate::sorter::{Sorter, hold, is_over, is_ripe, write_end, write_least};
+use flow_base::Bytes;
+use outside::Sink;
+
+/// How many bytes wait at most before they are handed on.
+const CHUNK: usize = 65_536;
+
+// Hands on what was written, if it is much.
+fn flush_much<O: Sink>(sorter: &mut Sorter, sink: &mut O) -> Result<(), Halt>
+    ensures goes { OnOk result
+        (Goes (O.written sink.old) sorter.old (O.written sink.new) sorter.new) }
+    ensures waits { sorter.new.queue ≡ sorter.old.queue }
+    ensures causes { IfErr result (HasCauses ⊥
+        (Rose (O.faults sink.old) (O.faults sink.new) (O.spent sink.new))) }
+    ensures counts { GoesUp
+        (O.faults sink.old) (O.faults sink.new) (O.spent sink.old) (O.spent sink.new) }
+{
+    if sorter.writer.pending() < CHUNK {
+        return Ok(());
+    }
+    sorter.writer.flush(sink)
+}
+
+// Writes the line of the least place, and hands on what was written if it is much.
+fn release_least<O: Sink>(sorter: &mut Sorter, sink: &mut O) -> Result<(), Halt>
+    ensures goes { OnOk result
+        (Goes (O.written sink.old) sorter.old (O.written sink.new) sorter.new) }
+    ensures fewer { OnOk result
+        (length sorter.new.queue.waits ≡ length sorter.old.queue.waits - 1) }
+    ensures causes { IfErr result (HasCauses ⊥
+        (Rose (O.faults sink.old) (O.faults sink.new) (O.spent sink.new))) }
+    ensures counts { GoesUp
+        (O.faults sink.old) (O.faults sink.new) (O.spent sink.old) (O.spent sink.new) }
+{
+    write_least(sorter)?;
+    flush_much(sorter, sink)
+}
+
+// Makes room for so many bytes: the least places are written first.
+fn make_room<O: Sink>(sorter: &mut Sorter, sink: &mut O, more: u64) -> Result<(), Halt>
+    ensures goes { OnOk result
+        (Goes (O.written sink.old) sorter.old (O.written sink.new) sorter.new) }
+    ensures room { OnOk result (sorter.new.queue.bytes ≤ 2 ^ 26) }
+    ensures causes { IfErr result (HasCauses ⊥
+        (Rose (O.faults sink.old) (O.faults sink.new) (O.spent sink.new))) }
+    ensures counts { GoesUp
+        (O.faults sink.old) (O.faults sink.new) (O.spent sink.old) (O.spent sink.new) }
+{
+    while is_over(&sorter.queue, more) {
+        release_least(sorter, sink)?;
+    }
+    Ok(())
+}
+
+// Writes the lines whose places are past.
+fn release_past<O: Sink>(sorter: &mut Sorter, sink: &mut O) -> Result<(), Halt>
+    ensures goes { OnOk result
+        (Goes (O.written sink.old) sorter.old (O.written sink.new) sorter.new) }
+    ensures causes { IfErr result (HasCauses ⊥
+        (Rose (O.faults sink.old) (O.faults sink.new) (O.spent sink.new))) }
+    ensures counts { GoesUp
+        (O.faults sink.old) (O.faults sink.new) (O.spent sink.old) (O.spent sink.new) }
+{
+    while is_ripe(sorter) {
+        release_least(sorter, sink)?;
+    }
+    Ok(())
+}
+
+/// Takes a line of the log: it waits for its turn, and lines whose turn has come are written.
+pub fn take_line<O: Sink>(sorter: &mut Sorter, sink: &mut O, line: Bytes) -> Result<(), Halt>
+    requires short { length line ≤ 2 ^ 60 }
+    ensures takes { OnOk result (Takes
+        (O.written sink.old) sorter.old (O.written sink.new) sorter.new (line ∷ [])) }
+    ensures causes { IfErr result (HasCauses ⊥
+        (Rose (O.faults sink.old) (O.faults sink.new) (O.spent sink.new))) }
+    ensures counts { GoesUp
+        (O.faults sink.old) (O.faults sink.new) (O.spent sink.old) (O.spent sink.new) }
+{
+    let place = sorter.places.place_of(line.as_slice())?;
+    make_room(sorter, sink, line.as_slice().len() as u64)?;
+    hold(sorter, place, line)?;
+    release_past(sorter, sink)
+}
+
+// Writes all lines that wait.
+fn release_all<O: Sink>(sorter: &mut Sorter, sink: &mut O) -> Result<(), Halt>
+    ensures goes { OnOk result
+        (Goes (O.written sink.old) sorter.old (O.written sink.new) sorter.new) }
+    ensures none { OnOk result (sorter.new.queue.waits ≡ []) }
+    ensures causes { IfErr result (HasCauses ⊥
+        (Rose (O.faults sink.old) (O.faults sink.new) (O.spent sink.new))) }
+    ensures counts { GoesUp
+        (O.faults sink.old) (O.faults sink.new) (O.spent sink.old) (O.spent sink.new) }
+{
+    while sorter.queue.len() > 0 {
+        release_least(sorter, sink)?;
+    }
+    Ok(())
+}
+
+/// Writes all that waits, at the end of the log.
+pub fn finish<O: Sink>(sorter: &mut Sorter, sink: &mut O) -> Result<(), Halt>
+    ensures goes { OnOk result
+        (Goes (O.written sink.old) sorter.old (O.written sink.new) sorter.new) }
+    ensures none { OnOk result (sorter.new.queue.waits ≡ []) }
+    ensures written { OnOk result (sorter.new.writer.pending ≡ []) }
+    ensures causes { IfErr result (HasCauses ⊥
+        (Rose (O.faults sink.old) (O.faults sink.new) (O.spent sink.new))) }
+    ensures counts { GoesUp
+        (O.faults sink.old) (O.faults sink.new) (O.spent sink.old) (O.spent sink.new) }
+{
+    release_all(sorter, sink)?;
+    write_end(sorter)?;
+    sorter.writer.flush(sink)
+}

@@ -1,0 +1,12 @@
+//! The place of a line: the time at which the effect of its event counts.
+//!
+//! The time that an event bears is that of its call's entry, and its records are written when the call returns. What a
+//! call gives (a write, a fork, an exit) counts at its entry. What it takes (a read, a receive, an accept) it may have
+//! waited for, so it counts at the greatest entry that was seen when its record was written. The calls of a process keep
+//! their order. All lines of an event have the place of its first line.
+#![tactic(auto)]
+
+mod call;
+mod places;
+
+pub use places::{Place, Places};
