@@ -16,3 +16,5 @@ pub mod Rooms
 pub mod Sockets
 pub mod UnderWays
 pub mod Unmapped
+pub mod Filling
+pub mod SinceLaws

@@ -1,5 +1,5 @@
 -- Room changes nothing that the tables stand for.
-use Rattle.std.proofs.Common.{◌∙◌, ap, sym, ℕ, List, take}
+use Rattle.std.proofs.Common.{◌≡◌, ◌≤◌, ◌∙◌, ◌++◌, length, ap, sym, subst, append_assoc, ℕ, List, take}
 use Rattle.std.specs.Prelude.{unwrap_or, nat_eq}
 use Rattle.std.specs.Map.{lookup}
 use Rattle.flow_base.specs.contracts.types.FileIdPartialEq.TheImpl.{ghosts}
@@ -9,6 +9,14 @@ use Rattle.acts.specs.Flows.{acts_of}
 use Rattle.proc_table.specs.Table.{standing_of}
 use Rattle.flow_base.specs.declared.limits.Limits.{Limits}
 use Rattle.flow_events.specs.declared.tables.Tables.{Tables}
+use Rattle.flow_base.specs.declared.types.Key.{Key}
+use Rattle.proc_table.specs.Table.{StandsFor as LivesAs}
+use Rattle.fd_table.specs.Table.{HoldsAs, AddressesAs}
+use Rattle.entity_names.specs.Known.{Known, NamesAs, saved_at, names_at as known_at}
+use Rattle.stored.specs.Batch.{names_at}
+use Rattle.flow_events.specs.Births.{BornAs}
+use Rattle.flow_events.specs.Entering.{SavedAlike}
+use Rattle.flow_events.specs.Remembering.{AreSavedNames, StandsSince, StaysSince}
 use Rattle.flow_events.specs.Standing.{StandsFor, DiffersInRoom}
 
 pub stands_still : (text : List ℕ → List ℕ) (old new : Tables) (taken : List Taken) → DiffersInRoom old new → StandsFor text old taken → StandsFor text new taken
@@ -24,3 +32,34 @@ stands_still text old new taken same stands = record {
   limit_is = ap (λ (l : Limits). l.entities) same.limits ∙ stands.limit_is ∙ sym same.limit;
   objects_fit = rw (same.keys, same.limit) stands.objects_fit;
 }
+
+pub saved_still : (text : List ℕ → List ℕ) (old new : Known) (before : List Taken) → new.most_names ≡ old.most_names → SavedAlike old new → AreSavedNames text old before → AreSavedNames text new before
+saved_still text old new before most alike saved key = alike key ∙ saved key ∙ ap (λ n. length (names_at text n before key)) (sym most)
+
+-- a mark saves all names
+pub all_saved : (text : List ℕ → List ℕ) (old new : Known) (taken : List Taken) → new.most_names ≡ old.most_names → NamesAs old (all_given text (acts_of taken)) → ((key : Key) → known_at new key ≡ known_at old key)
+    → ((key : Key) → saved_at new key ≡ length (known_at new key)) → AreSavedNames text new taken
+all_saved text old new taken most names same saved key =
+    saved key ∙ ap length (same key ∙ names.each key) ∙ ap (λ n. length (names_at text n taken key)) (sym most)
+
+-- with other marks of names and other memory the tables stand for the same
+pub stands_marked : (text : List ℕ → List ℕ) (old new : Tables) (taken : List Taken) → new.procs ≡ old.procs → new.fds ≡ old.fds → new.births ≡ old.births → new.entities ≡ record old.entities { names = new.entities.names } → ((key : Key) → known_at new.entities key ≡ known_at old.entities key)
+    → new.flows ≡ old.flows → new.acts ≡ old.acts → new.limits ≡ old.limits → StandsFor text old taken → StandsFor text new taken
+stands_marked text old new taken procs fds births rest names flows acts limits stands = record {
+  lives_are = subst (λ t. LivesAs t (acts_of taken)) (sym procs) stands.lives_are;
+  held_are = subst (λ t. HoldsAs t (acts_of taken)) (sym fds) stands.held_are;
+  addresses_are = subst (λ t. AddressesAs t (acts_of taken)) (sym fds) stands.addresses_are;
+  births_are = subst (λ t. BornAs t (acts_of taken)) (sym births) stands.births_are;
+  objects_are = ap (λ (e : Known). e.keys) rest ∙ stands.objects_are;
+  names_are = record { each = λ key. names key ∙ stands.names_are.each key ∙ ap (λ most. take most (names_of key (all_given text (acts_of taken)))) (sym (ap (λ (e : Known). e.most_names) rest)) };
+  flows_are = flows ∙ stands.flows_are;
+  acts_are = acts ∙ stands.acts_are;
+  limit_is = ap (λ (l : Limits). l.entities) limits ∙ stands.limit_is ∙ sym (ap (λ (e : Known). e.limit) rest);
+  objects_fit = subst (λ (e : Known). length e.keys ≤ e.limit) (sym rest) stands.objects_fit;
+}
+
+pub since_stays : (old new : Tables) → DiffersInRoom old new → StaysSince old new
+since_stays old new same text before now stands = record { stands = stands_still text old new (now ++ before) same stands.stands; since = same.since (acts_of before) (acts_of now) stands.since; saved = saved_still text old.entities new.entities before same.most_names same.saved stands.saved }
+
+pub stands_joined : (text : List ℕ → List ℕ) (tables : Tables) (fresh now before : List Taken) → StandsFor text tables (fresh ++ (now ++ before)) → StandsFor text tables ((fresh ++ now) ++ before)
+stands_joined text tables fresh now before stands = subst (StandsFor text tables) (sym (append_assoc fresh now before)) stands

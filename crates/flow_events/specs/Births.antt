@@ -1,5 +1,5 @@
 -- The table of births, and what it stands for. Every list of acts has the newest first.
-use Rattle.std.specs.Prelude.{◌≡◌, ◌<◌, ℕ, List, unwrap_or}
+use Rattle.std.specs.Prelude.{◌≡◌, ◌<◌, ℕ, List, unwrap_or, if◌then◌else◌}
 use Rattle.std.specs.List.{sum_by}
 use Rattle.std.specs.Map.{lookup}
 use Rattle.flow_base.specs.declared.types.FileId.{FileId}
@@ -20,6 +20,10 @@ born_at table id = unwrap_or (lookup (ghosts.eq id) table.all) 0
 -- each number has in the table the births that the acts have
 pub record BornAs (table : Table) (acts : List Act) : Type 0 where
   pub each : (id : FileId) → born_at table id ≡ born acts id
+
+-- the file number was born this often, and the others as often as before
+abbrev pub SetsBirths : Table → Table → FileId → ℕ → Type 0
+SetsBirths old new id count = (f : FileId) → born_at new f ≡ (if ghosts.eq f id then count else born_at old f)
 
 -- no number has so many births
 abbrev pub BornBelow : Table → ℕ → Type 0

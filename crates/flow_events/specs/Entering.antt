@@ -4,7 +4,7 @@ use Rattle.std.specs.List.{list_any}
 use Rattle.flow_base.specs.declared.types.Key.{Key}
 use Rattle.flow_base.specs.contracts.types.KeyPartialEq.TheImpl.{ghosts}
 use Rattle.acts.specs.Keys.{put_new, names_of}
-use Rattle.entity_names.specs.Known.{Known, NamesAs, names_at, capacity_at}
+use Rattle.entity_names.specs.Known.{Known, NamesAs, names_at, saved_at, capacity_at}
 use Rattle.flow_events.specs.declared.given.Given.{Given}
 
 -- the objects after these keys, each of which goes last where it is new
@@ -36,3 +36,7 @@ CoversKey table given key = min table.most_names (length (names_at table key) + 
 -- there is room for each of these names
 pub record Covers (table : Known) (given : List Given) : Type 0 where
   pub each : (key : Key) → list_any (ghosts.eq key) (map (λ g. g.key) given) ≡ true → CoversKey table given key
+
+-- each key had as many names at the mark as before
+abbrev pub SavedAlike : Known → Known → Type 0
+SavedAlike old new = (key : Key) → saved_at new key ≡ saved_at old key

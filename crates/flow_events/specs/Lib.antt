@@ -8,3 +8,6 @@ pub mod Added
 pub mod Drafts
 pub mod Working
 pub mod Following
+pub mod Filling
+pub mod Since
+pub mod Remembering

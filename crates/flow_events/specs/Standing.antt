@@ -14,7 +14,8 @@ use Rattle.flow_events.specs.declared.plan.Plan.{Plan}
 use Rattle.flow_events.specs.declared.tables.Tables.{Tables}
 use Rattle.flow_events.specs.Births.{BornAs}
 use Rattle.flow_events.specs.Changes.{changed, need}
-use Rattle.flow_events.specs.Entering.{Covers, SameNames, entered, pairs_of}
+use Rattle.flow_events.specs.Since.{HasRoomFor, RemembersTheSame}
+use Rattle.flow_events.specs.Entering.{Covers, SameNames, SavedAlike, entered, pairs_of}
 
 -- the tables say what these acts say, where an address has this text
 pub record StandsFor (address_text : List ℕ → List ℕ) (tables : Tables) (taken : List Taken) : Type 0 where
@@ -60,6 +61,7 @@ pub record IsReady (tables : Tables) (plan : Plan) : Type 0 where
   pub objects_fit : length (entered tables.entities.keys plan.keys) ≤ tables.entities.limit
   pub flows_fit : tables.flows + length plan.flows < 2 ^ 64
   pub acts_fit : tables.acts + length plan.acts < 2 ^ 64 - 1
+  pub since : HasRoomFor tables.since (length plan.acts)
 
 -- the tables stand for some acts
 pub record Stands (tables : Tables) : Type 0 where
@@ -75,6 +77,7 @@ pub record HasRooms (tables : Tables) (plan : Plan) : Type 0 where
   pub addresses : 1 ≤ tables.fds.address_spare
   pub names : Covers tables.entities plan.given
   pub keys : length plan.keys ≤ tables.entities.spare
+  pub since : HasRoomFor tables.since (length plan.acts)
 
 -- the tables differ at most in their room
 pub record DiffersInRoom (old new : Tables) : Type 0 where
@@ -86,9 +89,11 @@ pub record DiffersInRoom (old new : Tables) : Type 0 where
   pub limit : new.entities.limit ≡ old.entities.limit
   pub most_names : new.entities.most_names ≡ old.entities.most_names
   pub names : (key : Key) → names_at new.entities key ≡ names_at old.entities key
+  pub saved : SavedAlike old.entities new.entities
   pub flows : new.flows ≡ old.flows
   pub acts : new.acts ≡ old.acts
   pub limits : new.limits ≡ old.limits
+  pub since : RemembersTheSame old.since new.since
 
 -- the tables were made with these limits
 pub record HasLimits (limits : Limits) (tables : Tables) : Type 0 where

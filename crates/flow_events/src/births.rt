@@ -3,7 +3,7 @@ ghost use Rattle.std.specs.Prelude.{◌≡◌, ◌≤◌, ◌<◌, ◌+◌, ◌-
 ghost use Rattle.flow_base.specs.declared.types.FileId.{FileId};
 ghost use Rattle.acts.specs.declared.act.Act.{Act};
 ghost use Rattle.acts.specs.Births.{same_file};
-ghost use Rattle.flow_events.specs.Births.{BornAs, born_at, BornBelow, births_of, births_in};
+ghost use Rattle.flow_events.specs.Births.{BornAs, SetsBirths, born_at, BornBelow, births_of, births_in};
 
 use acts::Act;
 use flow_base::{FileId, NoMemory, equal_files_are_one};
@@ -65,6 +65,18 @@ impl Births {
     {
         equal_files_are_one();
         let count = self.count(id) + 1;
+        match self.counts.insert(id, count) {
+            Ok(_) => {}
+            Err(_) => unreachable!(),
+        }
+    }
+
+    /// Sets how often a file number was born. It takes no memory.
+    pub fn put(&mut self, id: FileId, count: u64)
+        requires room { 1 ≤ self.old.spare }
+        ensures put { SetsBirths self.old self.new id count }
+        ensures spare { self.old.spare ≤ self.new.spare + 1 }
+    {
         match self.counts.insert(id, count) {
             Ok(_) => {}
             Err(_) => unreachable!(),

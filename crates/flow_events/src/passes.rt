@@ -7,7 +7,7 @@ ghost use Rattle.flow_base.specs.contracts.types.KeyPartialEq.TheImpl.{ghosts};
 ghost use Rattle.proc_table.specs.Table.{StandsFor};
 ghost use Rattle.entity_names.specs.Known.{NamesAs, HasPlace, names_at, capacity_at};
 ghost use Rattle.flow_events.specs.Births.{BornAs};
-ghost use Rattle.flow_events.specs.Entering.{Covers, entered, pair_of, pairs_of};
+ghost use Rattle.flow_events.specs.Entering.{Covers, SavedAlike, entered, pair_of, pairs_of};
 
 use crate::births::Births;
 use crate::given::Given;
@@ -46,6 +46,7 @@ fn give(entities: &mut Entities, given: Given)
     ensures next { (all : List (Key × List ℕ)) → NamesAs entities.old all → NamesAs entities.new (all ++ pair_of given ∷ []) }
     ensures more { (key : Key) → length (names_at entities.new key) ≤ length (names_at entities.old key) + 1 }
     ensures capacity { (key : Key) → capacity_at entities.old key ≤ capacity_at entities.new key }
+    ensures saved { SavedAlike entities.old entities.new }
     ensures rest { entities.new ≡ record entities.old { names = entities.new.names } }
 {
     match entities.add_name(given.key, given.text) {
@@ -58,6 +59,7 @@ fn give(entities: &mut Entities, given: Given)
 pub fn give_all(entities: &mut Entities, given: List<Given>)
     requires room { Covers entities.old given }
     ensures next { (all : List (Key × List ℕ)) → NamesAs entities.old all → NamesAs entities.new (all ++ pairs_of given) }
+    ensures saved { SavedAlike entities.old entities.new }
     ensures rest { entities.new ≡ record entities.old { names = entities.new.names } }
 {
     equal_keys_are_one();
@@ -67,8 +69,8 @@ pub fn give_all(entities: &mut Entities, given: List<Given>)
     }
 }
 
-// Enters a key for which there is room.
-fn enter(entities: &mut Entities, key: Key)
+/// Enters a key for which there is room.
+pub fn enter(entities: &mut Entities, key: Key)
     requires room { 1 ≤ entities.old.spare }
     requires fits { length (put_new ghosts.eq entities.old.keys key) ≤ entities.old.limit }
     ensures keys { entities.new.keys ≡ put_new ghosts.eq entities.old.keys key }

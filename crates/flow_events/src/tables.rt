@@ -16,15 +16,20 @@ ghost use Rattle.flow_events.specs.Drafts.{turned};
 ghost use Rattle.flow_events.specs.Entering.{entered};
 ghost use Rattle.flow_events.specs.Following.{MayFollow, MayComeAfter, PlansEvent, EventFits, EventPasses};
 ghost use Rattle.call_acts.specs.Events.{IsEvent};
+ghost use Rattle.store_check.specs.Store.{keys};
+ghost use Rattle.flow_events.specs.Filling.{AreRestored};
+ghost use Rattle.flow_events.specs.Remembering.{BeginsAnew, BeginsToRemember, GoesOnSince, StaysSince};
 ghost use Rattle.flow_events.specs.Standing.{StandsFor, Stands, HasLimits, IsPlanOf, IsReady, HasRooms, DiffersInRoom};
 
 use crate::births::Births;
 use crate::change::{make_change, need};
 use crate::draft::Ground;
 use crate::fault::PrepareFault;
+use crate::filled::{Filled, fill_all};
 use crate::parts::named_keys;
 use crate::passes::{bear_through, enter_all, give_all, live_through};
 use crate::plan::{Plan, plan_of, readdress};
+use crate::since::{Since, mark_event, note_event, reserve_event};
 use crate::work::work_event;
 use acts::{Act, each_beginning_is_an_act};
 use call_acts::{acts_are_of_one_event, is_unmapped};
@@ -33,6 +38,7 @@ use fd_table::Fds;
 use flow_base::{Flow, Full, Limit, Limits, List, NoMemory};
 use proc_table::Procs;
 use record_join::EventView;
+use row_codec::StoreRow;
 use std::alloc::Global;
 
 // Whether an event with these acts has a call that is not in the table. One that does has its see alone, so the call
@@ -57,6 +63,8 @@ pub struct Tables {
     flows: u64,
     acts: u64,
     limits: Limits,
+    /// What is remembered since the last mark, if anything is.
+    since: Option<Since>,
 }
 
 impl Tables {
@@ -73,7 +81,52 @@ impl Tables {
             flows: 0,
             acts: 0,
             limits: *limits,
+            since: None,
         }
+    }
+
+    /// The tables that the rows of a store say. Its rows of flows aren't needed.
+    pub fn restore(alloc: Global, limits: &Limits, rows: &[StoreRow]) -> Result<Tables, NoMemory>
+        requires fits { length (keys rows.now) ≤ limits.now.entities }
+        ensures stands { IfOk result (AreRestored limits.now rows.now) }
+        ensures limits { IfOk result (HasLimits limits.now) }
+    {
+        let Filled {
+            procs,
+            fds,
+            births,
+            entities,
+            flows,
+            acts,
+        } = fill_all(alloc, limits, rows)?;
+        Ok(Tables {
+            procs,
+            fds,
+            births,
+            entities,
+            flows,
+            acts,
+            limits: *limits,
+            since: None,
+        })
+    }
+
+    /// From now on it is remembered what acts are about, and the mark is now. Till then nothing is, and it costs nothing.
+    pub fn remember(&mut self, alloc: Global)
+        ensures since { BeginsToRemember self.old self.new }
+        ensures limits { (limits : Limits) → HasLimits limits self.old → HasLimits limits self.new }
+    {
+        self.entities.mark_saved();
+        self.since = Some(Since::new(alloc));
+    }
+
+    /// All of it is saved: the mark is now. It takes no memory.
+    pub fn mark_saved(&mut self)
+        ensures since { BeginsAnew self.old self.new }
+        ensures limits { (limits : Limits) → HasLimits limits self.old → HasLimits limits self.new }
+    {
+        self.entities.mark_saved();
+        mark_event(&mut self.since);
     }
 
     /// The objects by number, and the names of keys.
@@ -106,6 +159,7 @@ impl Tables {
         ensures unmapped { IfOk result (λ plan. plan.unmapped ≡ is_unmapped event.now.records.now) }
         ensures ready { IfOk result (λ plan. IsReady self.new plan) }
         ensures same { (text : List ℕ → List ℕ) (taken : List Taken) → StandsFor text self.old taken → StandsFor text self.new taken }
+        ensures since { StaysSince self.old self.new }
         ensures limits { (limits : Limits) → HasLimits limits self.old → HasLimits limits self.new }
         ensures fits { OnOk result (EventFits self.old event.now) }
         ensures full { (full : Full) → result ≡ Err (fault.Full full) → EventPasses self.old event.now full }
@@ -116,7 +170,7 @@ impl Tables {
         self.prepare_acts(alloc, acts, event.ms, event.key.serial, unmapped)
     }
 
-    #[tactic(auto, using(crate::proofs::Rooming::stands_still))]
+    #[tactic(auto, using(crate::proofs::Rooming::stands_still, crate::proofs::Rooming::since_stays))]
     /// Works out what these acts of one event, the oldest first, will do, and takes all the memory for it. The tables
     /// stand for the same acts as before.
     pub fn prepare_acts(
@@ -133,6 +187,7 @@ impl Tables {
         ensures unmapped { IfOk result (λ plan. plan.unmapped ≡ unmapped) }
         ensures ready { IfOk result (λ plan. IsReady self.new plan) }
         ensures same { (text : List ℕ → List ℕ) (taken : List Taken) → StandsFor text self.old taken → StandsFor text self.new taken }
+        ensures since { StaysSince self.old self.new }
         ensures limits { (limits : Limits) → HasLimits limits self.old → HasLimits limits self.new }
         ensures fits { IfOk result (λ plan. (limits : Limits) → HasLimits limits self.old → (before : List Taken) → MayFollow self.old before (length acts) → full_at limits.entities limits.flows (turned ms serial acts ++ before) ≡ None) }
         ensures full { (full : Full) → result ≡ Err (fault.Full full) → (limits : Limits) → HasLimits limits self.old → (before : List Taken) → MayFollow self.old before (length acts) → full_at limits.entities limits.flows (turned ms serial acts ++ before) ≡ Some full }
@@ -192,6 +247,7 @@ impl Tables {
         self.procs.reserve(acts)?;
         self.births.reserve(acts)?;
         self.fds.reserve(need(&plan.see) + need(&plan.last), 1)?;
+        reserve_event(&mut self.since, acts)?;
         self.entities
             .reserve(plan.keys.as_slice().len(), named.as_slice())?;
         Ok(())
@@ -204,6 +260,7 @@ impl Tables {
         ensures next { (text : List ℕ → List ℕ) (before now : List Taken) → StandsFor text self.old before → IsPlanOf text plan before now → StandsFor text self.new (now ++ before) }
         ensures flows { (text : List ℕ → List ℕ) (before now : List Taken) → IsPlanOf text plan before now → flows (now ++ before) ≡ flows before ++ result }
         ensures limits { (limits : Limits) → HasLimits limits self.old → HasLimits limits self.new }
+        ensures since { GoesOnSince self.old self.new plan }
     {
         let Plan {
             acts,
@@ -215,6 +272,13 @@ impl Tables {
             flows,
             unmapped: _,
         } = plan;
+        note_event(
+            &mut self.since,
+            &self.procs,
+            &self.fds,
+            acts.as_slice(),
+            &address,
+        );
         live_through(&mut self.procs, acts.as_slice());
         bear_through(&mut self.births, acts.as_slice());
         make_change(&mut self.fds, see);

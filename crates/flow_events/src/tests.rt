@@ -3,22 +3,26 @@
 ghost use Rattle.std.specs.Prelude.{◌≡◌, ⊤};
 ghost use Rattle.acts.specs.LookBack.{opens};
 
+use crate::filled::Filled;
 use crate::parts::newest_first;
 use crate::{PrepareFault, Tables};
 use How::{Alter, Exec, Fork, Make, Read, Write};
 use Known::{AtAddress, Inode, Lost, Made, Process};
 use NameKind::{Create, Delete, Normal};
 use Said::{Address, Pair, Path};
-use acts::{Act, Plain, Refused, Taken};
+use acts::{Act, Held, Object, Plain, Refused, Taken};
 use audit_lex::EventKey;
 use audit_record::{Body, NameKind, PathItem, Record, Syscall};
 use call_acts::{acts, acts_are_few, event_acts_are_admitted};
 use flow_base::{
     Bytes, Device, EntityId, FileId, Flow, Full, How, Key, Limit, Limits, List, NoMemory, Stamp,
 };
+use proc_table::Life;
 use record_join::EventView;
+use row_codec::{StateRow, StoreRow};
 use std::alloc::Global;
 use std::marker::Model;
+use std::test::Fail;
 
 // What a record beside that of the call says.
 #[derive(Clone, Copy)]
@@ -683,4 +687,105 @@ fn long_runs_make_the_flows_of_the_plain_program(rt: HostRuntime) {
     for seed in [1, 2, 3] {
         assert!(rt; run_agrees(rt.alloc(), seed));
     }
+}
+
+fn state(alloc: Global, flows: u64, acts: u64) -> StateRow {
+    StateRow {
+        taken: 0,
+        part: 0,
+        lines: 0,
+        used: 0,
+        other: 0,
+        blank: 0,
+        malformed: 0,
+        excess: 0,
+        events: 0,
+        late: 0,
+        unmapped: 0,
+        flows,
+        acts,
+        seen: false,
+        greatest: 0,
+        released: false,
+        released_ms: 0,
+        released_serial: 0,
+        effective: 0,
+        long: false,
+        tail: Bytes::new(alloc),
+        bad: List::new(alloc),
+    }
+}
+
+fn life_of(number: u64) -> Life {
+    Life {
+        life: number,
+        live: true,
+        awaits: Some(1),
+        linked: false,
+    }
+}
+
+fn pipe_at(pid: u32, fd: u32, act: u64) -> StoreRow {
+    let held = Held {
+        object: Object::Pipe(act),
+        cloexec: false,
+    };
+    StoreRow::Held {
+        pid,
+        fd,
+        held: Some(held),
+    }
+}
+
+fn is_pipe(filled: &Filled, pid: u32, fd: u32, act: u64) -> bool {
+    match filled.fds.held(pid, fd) {
+        Some(Object::Pipe(made)) => *made == act,
+        _ => false,
+    }
+}
+
+// Descriptor 3 of pid 101 is of a life before the last one.
+#[test]
+fn rows_of_each_kind_are_taken(rt: HostRuntime) -> Result<(), Fail> {
+    let alloc = rt.alloc();
+    let mut filled = Filled::new(alloc, &Limits::standard());
+    let key = Key::Process { pid: 100, life: 0 };
+    let text = Bytes::from_slice(alloc, b"/p".as_slice())?;
+    let bytes = Bytes::from_slice(alloc, b"here".as_slice())?;
+    filled.fill(&StoreRow::Name { key, text })?;
+    for (pid, life) in [(100, 0), (101, 0)] {
+        filled.fill(&StoreRow::Life {
+            pid,
+            life: life_of(life),
+        })?;
+        filled.fill(&pipe_at(pid, 3, 2))?;
+    }
+    for (pid, life) in [(100, 0), (101, 1)] {
+        filled.fill(&StoreRow::Life {
+            pid,
+            life: life_of(life),
+        })?;
+    }
+    filled.fill(&StoreRow::Address { act: 5, bytes })?;
+    for born in [1, 2] {
+        filled.fill(&StoreRow::Born {
+            file: file(7),
+            born,
+        })?;
+    }
+    filled.fill(&StoreRow::State(state(alloc, 3, 9)))?;
+    assert!(rt; is_pipe(&filled, 100, 3, 2));
+    assert!(rt; filled.fds.held(101, 3).is_none());
+    assert!(rt; filled.procs.at(101) == Some(&life_of(1)));
+    assert!(rt; filled.fds.address(5).is_some());
+    assert!(rt; filled.fds.address(4).is_none());
+    assert_eq!(rt; filled.births.count(file(7)), 2);
+    assert!(rt;
+        filled
+            .entities
+            .has_name(&Key::Process { pid: 100, life: 0 }, b"/p".as_slice())
+    );
+    assert_eq!(rt; filled.flows, 3);
+    assert_eq!(rt; filled.acts, 9);
+    Ok(())
 }

@@ -1,0 +1,267 @@
+//! What is remembered of the acts since a mark, so that a commit writes what changed and not all tables.
+//!
+//! A pid that an act names is remembered with the last life that it had at the mark: whether its life goes on since then
+//! decides whether its descriptors are written anew.
+ghost use Rattle.std.specs.Prelude.{◌≡◌, ◌≤◌, ◌+◌, ◌==◌, ◌||◌, ◌++◌, ◌∷◌, ℕ, [], List, Some, false, OnOk, length, option_copied, reverse};
+ghost use Rattle.flow_base.specs.declared.types.FileId.{FileId};
+ghost use Rattle.acts.specs.declared.act.Act.{Act};
+ghost use Rattle.acts.specs.Births.{has_number, is_birth_of};
+ghost use Rattle.proc_table.specs.Table.{StandsFor as LivesAs};
+ghost use Rattle.fd_table.specs.Table.{address_at};
+ghost use Rattle.stored.specs.Batch.{names_pid};
+ghost use Rattle.flow_events.specs.Since.{ArePids, AreFiles, DiffersInFiles, DiffersInNamed, DiffersInPids, DiffersInSockets, HasRoom, HasRoomFor, IsMarked, IsSameMemory, IsSince, NotesPid, NotesFile, NotesSocket, RemembersTheSame, changes_address, is_address};
+ghost use Rattle.flow_events.specs.Remembering.{NotesEvent};
+
+use crate::plan::NewAddress;
+use acts::Act;
+use fd_table::Fds;
+use flow_base::{Bytes, FileId, NoMemory, equal_files_are_one};
+use indexmap::{IndexMap, IndexSet};
+use proc_table::{Life, Procs};
+use std::alloc::Global;
+use std::marker::Model;
+
+/// What is remembered of the acts since a mark.
+#[derive(Drop)]
+pub struct Since {
+    /// Each pid that was named, with its last life at the mark.
+    pids: IndexMap<u32, Option<Life>>,
+    /// The file numbers that were born.
+    files: IndexSet<FileId>,
+    /// The sockets that got another address.
+    sockets: IndexSet<u64>,
+}
+
+impl Model for Since {
+    ghost use Rattle.flow_events.specs.Since.{Memory};
+    ghost use Rattle.indexmap.specs.IndexMap as map;
+    ghost use Rattle.indexmap.specs.IndexSet as set;
+
+    ghost Value = { Memory };
+
+    ghost view = { λ a. record {
+      pids = a.pids.entries;
+      files = a.files.keys;
+      sockets = a.sockets.keys;
+      pid_spare = map.spare a.pids;
+      file_spare = set.spare a.files;
+      socket_spare = set.spare a.sockets;
+    } };
+}
+
+impl Since {
+    /// Nothing is remembered: the mark is now.
+    pub fn new(alloc: Global) -> Since
+        ensures { (before : List Act) → IsSince result before [] }
+    {
+        Since {
+            pids: IndexMap::new(alloc),
+            files: IndexSet::new(alloc),
+            sockets: IndexSet::new(alloc),
+        }
+    }
+
+    /// Nothing is remembered any more: the mark is now. It takes no memory.
+    pub fn mark(&mut self)
+        ensures { (before : List Act) → IsSince self.new before [] }
+    {
+        self.pids.clear();
+        self.files.clear();
+        self.sockets.clear();
+    }
+
+    /// Makes room for this many acts, and for one address.
+    pub fn reserve(&mut self, acts: usize) -> Result<(), NoMemory>
+        ensures same { IsSameMemory self.old self.new }
+        ensures room { OnOk result (HasRoom self.new acts) }
+        ensures address { OnOk result (1 ≤ self.new.socket_spare) }
+    {
+        let Some(pids) = acts.checked_mul(2) else {
+            return Err(NoMemory);
+        };
+        self.pids.reserve(pids)?;
+        self.files.reserve(acts)?;
+        self.sockets.reserve(1)?;
+        Ok(())
+    }
+
+    // Remembers a pid as it stands, unless it is remembered already.
+    fn note_pid(&mut self, procs: &Procs, pid: u32)
+        requires room { 1 ≤ self.old.pid_spare }
+        ensures pids { NotesPid self.old self.new procs.now (λ p. pid == p) }
+        ensures spare { self.old.pid_spare ≤ self.new.pid_spare + 1 }
+        ensures rest { DiffersInPids self.old self.new }
+    {
+        if self.pids.contains_key(&pid) {
+            return;
+        }
+        let last = procs.at(pid).copied();
+        if self.pids.insert(pid, last).is_err() {
+            unreachable!();
+        }
+    }
+
+    // Remembers that a file number was born.
+    fn note_file(&mut self, id: FileId)
+        requires room { 1 ≤ self.old.file_spare }
+        ensures files { NotesFile self.old self.new (λ f. has_number (Some id) f) }
+        ensures spare { self.old.file_spare ≤ self.new.file_spare + 1 }
+        ensures rest { DiffersInFiles self.old self.new }
+    {
+        equal_files_are_one();
+        match self.files.insert_full(id) {
+            Ok(_) => {}
+            Err(_) => unreachable!(),
+        }
+    }
+
+    #[tactic(auto, using(crate::proofs::SinceLaws::both_noted))]
+    // Remembers two pids.
+    fn note_both(&mut self, procs: &Procs, first: u32, second: u32)
+        requires room { 2 ≤ self.old.pid_spare }
+        ensures pids { NotesPid self.old self.new procs.now (λ p. first == p || second == p) }
+        ensures spare { self.old.pid_spare ≤ self.new.pid_spare + 2 }
+        ensures rest { DiffersInPids self.old self.new }
+    {
+        self.note_pid(procs, first);
+        self.note_pid(procs, second);
+    }
+
+    // Remembers the pids that an act names.
+    fn note_pids(&mut self, procs: &Procs, act: &Act)
+        requires room { 2 ≤ self.old.pid_spare }
+        ensures pids { NotesPid self.old self.new procs.now (names_pid act.now) }
+        ensures spare { self.old.pid_spare ≤ self.new.pid_spare + 2 }
+        ensures rest { DiffersInPids self.old self.new }
+    {
+        match act {
+            Act::See { pid, ppid, .. } => self.note_both(procs, *pid, *ppid),
+            Act::Fork { pid, child } => self.note_both(procs, *pid, *child),
+            Act::End { pid } => self.note_pid(procs, *pid),
+            Act::Exec { pid } => self.note_pid(procs, *pid),
+            Act::Set { pid, .. } => self.note_pid(procs, *pid),
+            Act::SetBoth { pid, .. } => self.note_pid(procs, *pid),
+            Act::Copy { pid, .. } => self.note_pid(procs, *pid),
+            Act::Close { pid, .. } => self.note_pid(procs, *pid),
+            Act::Mark { pid, .. } => self.note_pid(procs, *pid),
+            Act::Address { pid, .. } => self.note_pid(procs, *pid),
+            Act::Birth { .. } => {}
+            Act::Move { pid, .. } => self.note_pid(procs, *pid),
+        }
+    }
+
+    // Remembers the file number of a birth.
+    fn note_birth(&mut self, act: &Act)
+        requires room { 1 ≤ self.old.file_spare }
+        ensures files { NotesFile self.old self.new (is_birth_of act.now) }
+        ensures spare { self.old.file_spare ≤ self.new.file_spare + 1 }
+        ensures rest { DiffersInFiles self.old self.new }
+    {
+        if let Act::Birth { file } = act {
+            if let Some(id) = file.file {
+                self.note_file(id);
+            }
+        }
+    }
+
+    // Remembers what an act is about.
+    fn note_act(&mut self, procs: &Procs, act: &Act)
+        requires room { HasRoom self.old 1 }
+        ensures pids { NotesPid self.old self.new procs.now (names_pid act.now) }
+        ensures files { NotesFile self.old self.new (is_birth_of act.now) }
+        ensures room { (acts : ℕ) → HasRoom self.old (acts + 1) → HasRoom self.new acts }
+        ensures rest { DiffersInNamed self.old self.new }
+    {
+        self.note_pids(procs, act);
+        self.note_birth(act);
+    }
+
+    /// Remembers what these acts, the oldest first, are about. The lives are those before the acts.
+    pub fn note_acts(&mut self, procs: &Procs, acts: &[Act])
+        requires room { HasRoom self.old (length acts.now) }
+        ensures pids { (before now : List Act) → LivesAs procs.now (now ++ before)
+            → ArePids self.old before now → ArePids self.new before (reverse acts.now ++ now) }
+        ensures files { (before now : List Act)
+            → AreFiles self.old before now → AreFiles self.new before (reverse acts.now ++ now) }
+        ensures rest { DiffersInNamed self.old self.new }
+    {
+        for act in acts {
+            self.note_act(procs, act);
+        }
+    }
+
+    // Remembers that a socket got another address.
+    fn note_socket(&mut self, socket: u64)
+        requires room { 1 ≤ self.old.socket_spare }
+        ensures sockets { NotesSocket self.old self.new (λ s. s == socket) }
+        ensures rest { DiffersInSockets self.old self.new }
+    {
+        match self.sockets.insert_full(socket) {
+            Ok(_) => {}
+            Err(_) => unreachable!(),
+        }
+    }
+
+    /// Remembers the socket of a new address, unless it has this address already.
+    pub fn note_address(&mut self, fds: &Fds, address: &Option<NewAddress>)
+        requires room { 1 ≤ self.old.socket_spare }
+        ensures sockets { NotesSocket self.old self.new
+            (changes_address (address_at fds.now) address.now) }
+        ensures rest { DiffersInSockets self.old self.new }
+    {
+        if let Some(new) = address {
+            if !has_address(fds.address(new.socket), &new.bytes) {
+                self.note_socket(new.socket);
+            }
+        }
+    }
+}
+
+/// Remembers these acts, the oldest first, with the address that they give, if anything is remembered. Lives and
+/// descriptors are those before the acts.
+pub fn note_event(
+    since: &mut Option<Since>,
+    procs: &Procs,
+    fds: &Fds,
+    acts: &[Act],
+    address: &Option<NewAddress>,
+)
+    requires room { HasRoomFor since.old (length acts.now) }
+    ensures { NotesEvent since.old since.new procs.now fds.now acts.now address.now }
+{
+    if let Some(since) = since {
+        since.note_acts(procs, acts);
+        since.note_address(fds, address);
+    }
+}
+
+#[tactic(auto, using(crate::proofs::SinceLaws::since_still))]
+/// Makes room for this many acts, and for one address, if anything is remembered.
+pub fn reserve_event(since: &mut Option<Since>, acts: usize) -> Result<(), NoMemory>
+    ensures same { RemembersTheSame since.old since.new }
+    ensures room { OnOk result (HasRoomFor since.new acts) }
+{
+    match since {
+        Some(since) => since.reserve(acts),
+        None => Ok(()),
+    }
+}
+
+/// Makes the mark now, if anything is remembered. It takes no memory.
+pub fn mark_event(since: &mut Option<Since>)
+    ensures { IsMarked since.old since.new }
+{
+    if let Some(since) = since {
+        since.mark();
+    }
+}
+
+// Whether this is the address.
+fn has_address(address: Option<&Bytes>, bytes: &Bytes) -> bool
+    ensures { result ≡ is_address (option_copied address.entry) bytes.now }
+{
+    match address {
+        Some(address) => address == bytes,
+        None => false,
+    }
+}
