@@ -49,7 +49,7 @@ pub gives : (old new : Written) (line : List ℕ) → Writes old new line → Gi
 gives old new line w before now waits lines c =
     let rising = rising_more old.ms (times_of c.outs) (time_in line) (record { rises = c.rises; below = c.below }) in
     let times : times_of (c.outs ++ w.out ∷ []) ≡ times_of c.outs ++ option_to_list (option_map (max old.ms) (time_in line)) =
-        times_more c.outs w.out ∙ ap (λ (t : Option ℕ). times_of c.outs ++ option_to_list t) w.time in
+    times_more c.outs w.out ∙ ap (λ (t : Option ℕ). times_of c.outs ++ option_to_list t) w.time in
     let there : Rising new.ms (times_of (c.outs ++ w.out ∷ [])) = rw (times, w.ms) rising in
     record {
       outs = c.outs ++ w.out ∷ [];

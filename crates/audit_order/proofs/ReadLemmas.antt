@@ -29,7 +29,7 @@ next_took limit before was now old new from to (Some line) gives takes s =
     let long : is_long limit gives.0 ≡ false = sym (ap (λ (l : Line). l.long) is) ∙ takes.0 in
     let whole : line.text ≡ gives.0 = ap (λ (l : Line). l.text) is ∙ short limit gives.0 long in
     subst (λ (lines : List (List ℕ)). Sorts before now new lines)
-        (ap (λ (t : List ℕ). lines_of from ++ t ∷ []) whole ∙ sym gives.1) (takes.1 before (lines_of from) s)
+    (ap (λ (t : List ℕ). lines_of from ++ t ∷ []) whole ∙ sym gives.1) (takes.1 before (lines_of from) s)
 
 pub joined_bytes : (history : History) (piece : List ℕ) (a n : ℕ)
     → (history ++ map Byte (take a piece)) ++ map Byte (take n (drop a piece)) ≡ history ++ map Byte (take (a + n) piece)

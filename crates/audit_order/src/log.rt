@@ -33,11 +33,7 @@ fn take_cut<O: Sink>(sorter: &mut Sorter, sink: &mut O, line: Line) -> Result<()
 }
 
 // Takes a line that was cut out of the log, if there is one.
-fn take_next<O: Sink>(
-    sorter: &mut Sorter,
-    sink: &mut O,
-    line: Option<Line>,
-) -> Result<(), Halt>
+fn take_next<O: Sink>(sorter: &mut Sorter, sink: &mut O, line: Option<Line>) -> Result<(), Halt>
     ensures takes { OnOk result (TakesNext
         (O.written sink.old) sorter.old (O.written sink.new) sorter.new line) }
     ensures causes { IfErr result (HasCauses ⊥
@@ -137,11 +133,7 @@ pub fn take_log<L: Source, O: Sink>(
 }
 
 /// Takes the bytes after the last line feed as a line, if there are any.
-pub fn take_tail<O: Sink>(
-    cut: &mut LineCut,
-    sorter: &mut Sorter,
-    sink: &mut O,
-) -> Result<(), Halt>
+pub fn take_tail<O: Sink>(cut: &mut LineCut, sorter: &mut Sorter, sink: &mut O) -> Result<(), Halt>
     requires limit { cut.old.limit ≡ 2 ^ 60 }
     ensures takes { OnOk result (TakesAlso (O.written sink.old) cut.old sorter.old
         (O.written sink.new) cut.new sorter.new (Settle ∷ [])) }

@@ -17,7 +17,6 @@ pub const MEMORY: u64 = 64 << 20;
 /// How far the time has to be past a place, in milliseconds, before its lines are written.
 pub const WINDOW: u64 = 20_000;
 
-
 /// The event whose lines are written now, and the line that ends it, if it is a call's event without an end so far.
 #[derive(Drop)]
 pub struct Turn {

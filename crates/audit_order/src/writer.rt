@@ -8,7 +8,9 @@ ghost use Rattle.audit_order.specs.Lines.{Writes, risen};
 
 use crate::halt::Halt;
 use flow_base::{Bytes, NoMemory};
-use order_text::{read_stamp, write_after, written_lines_are_undone, written_lines_bear_their_stamp};
+use order_text::{
+    read_stamp, write_after, written_lines_are_undone, written_lines_bear_their_stamp,
+};
 use outside::{Sink, put_all};
 use std::alloc::Global;
 use std::marker::Model;

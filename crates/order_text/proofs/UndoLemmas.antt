@@ -101,10 +101,10 @@ marked_again rest time serial ms n is number =
     let numbered : last_cut 29 serial ≡ None = never_in is_stamp_byte 29 serial refl (number_bytes serial n number) in
     let ending : last_cut 29 (serial ++ codes ") }") ≡ None = never_in_both 29 serial (codes ") }") numbered refl in
     let after : last_cut 29 (time ++ 58 ∷ (serial ++ codes ") }")) ≡ None =
-        never_in_both 29 time (58 ∷ (serial ++ codes ") }")) timed (never_in_both 29 (58 ∷ []) (serial ++ codes ") }") refl ending) in
+    never_in_both 29 time (58 ∷ (serial ++ codes ") }")) timed (never_in_both 29 (58 ∷ []) (serial ++ codes ") }") refl ending) in
     let none : last_cut 29 (mark_of time serial) ≡ None = never_in_both 29 (codes "WAS={ audit(") (time ++ 58 ∷ (serial ++ codes ") }")) refl after in
     let kept : kept_time (mark_of time serial) ≡ Some time =
-        ap (option_map (λ (parts : List ℕ × List ℕ). parts.0)) (first_after is_stamp_byte 58 time (serial ++ codes ") }") refl (time_bytes time ms is)) in
+    ap (option_map (λ (parts : List ℕ × List ℕ). parts.0)) (first_after is_stamp_byte 58 time (serial ++ codes ") }") refl (time_bytes time ms is)) in
     ap (option_and_then marked_by) (last_before 29 rest (mark_of time serial) none)
     ∙ ap (option_map (λ (kept : List ℕ). (rest, kept))) kept
 
@@ -125,10 +125,10 @@ undone_stamped : (time : List ℕ) (ms : ℕ) (line : List ℕ) (s : Stamp) → 
 undone_stamped time ms line s is stamped =
     let has = has_parts line s stamped in
     by_test (nat_lt s.ms ms)
-        (λ less. rw less (raised_undone line s has time ms is))
-        (λ more. by_test (is_marked s)
-            (λ marked. rw (more, marked) (raised_undone line s has s.time s.ms has.time))
-            (λ plain. rw (more, plain) (ap (undone_of line) stamped ∙ unmarked s line (last_mark s.rest) plain)))
+    (λ less. rw less (raised_undone line s has time ms is))
+    (λ more. by_test (is_marked s)
+    (λ marked. rw (more, marked) (raised_undone line s has s.time s.ms has.time))
+    (λ plain. rw (more, plain) (ap (undone_of line) stamped ∙ unmarked s line (last_mark s.rest) plain)))
 
 undone_written : (time : List ℕ) (ms : ℕ) (line : List ℕ) (found : Option Stamp) → time_of time ≡ Some ms → stamp_of line ≡ found
     → undone (written_of time ms line found) ≡ line
@@ -153,22 +153,22 @@ bears time ms line s is stamped =
     let lifted = read_again line s has time (s.rest ++ 29 ∷ mark_of s.time s.serial) ms is in
     let kept = read_again line s has s.time (s.rest ++ 29 ∷ mark_of s.time s.serial) s.ms has.time in
     by_test (nat_lt s.ms ms)
-        (λ less. rw less (record {
-            time = ap (option_map (λ (t : Stamp). t.ms)) lifted ∙ ap Some (max_less s.ms ms (ltb-true _ _ less));
-            number = ap (option_map (λ (t : Stamp). t.number)) lifted;
-            front = ap (option_map (λ (t : Stamp). t.front)) lifted;
-        }))
-        (λ more. by_test (is_marked s)
-            (λ marked. rw (more, marked) (record {
-                time = ap (option_map (λ (t : Stamp). t.ms)) kept ∙ ap Some (max_more s.ms ms (ltb-false _ _ more));
-                number = ap (option_map (λ (t : Stamp). t.number)) kept;
-                front = ap (option_map (λ (t : Stamp). t.front)) kept;
-            }))
-            (λ plain. rw (more, plain) (record {
-                time = ap (option_map (λ (t : Stamp). t.ms)) stamped ∙ ap Some (max_more s.ms ms (ltb-false _ _ more));
-                number = ap (option_map (λ (t : Stamp). t.number)) stamped;
-                front = ap (option_map (λ (t : Stamp). t.front)) stamped;
-            })))
+    (λ less. rw less (record {
+      time = ap (option_map (λ (t : Stamp). t.ms)) lifted ∙ ap Some (max_less s.ms ms (ltb-true _ _ less));
+      number = ap (option_map (λ (t : Stamp). t.number)) lifted;
+      front = ap (option_map (λ (t : Stamp). t.front)) lifted;
+    }))
+    (λ more. by_test (is_marked s)
+    (λ marked. rw (more, marked) (record {
+      time = ap (option_map (λ (t : Stamp). t.ms)) kept ∙ ap Some (max_more s.ms ms (ltb-false _ _ more));
+      number = ap (option_map (λ (t : Stamp). t.number)) kept;
+      front = ap (option_map (λ (t : Stamp). t.front)) kept;
+    }))
+    (λ plain. rw (more, plain) (record {
+      time = ap (option_map (λ (t : Stamp). t.ms)) stamped ∙ ap Some (max_more s.ms ms (ltb-false _ _ more));
+      number = ap (option_map (λ (t : Stamp). t.number)) stamped;
+      front = ap (option_map (λ (t : Stamp). t.front)) stamped;
+    })))
 
 written_bears : (time : List ℕ) (ms : ℕ) (line : List ℕ) (found : Option Stamp) → time_of time ≡ Some ms → stamp_of line ≡ found
     → StaysAfter ms line (written_of time ms line found)

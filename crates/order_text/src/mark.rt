@@ -40,12 +40,7 @@ fn write_stamped(
 }
 
 // Appends the line of a stamp with this time, and the mark that keeps the one before.
-fn write_raised(
-    out: &mut Bytes,
-    time: &[u8],
-    ms: u64,
-    stamp: &Stamp<'_>,
-) -> Result<(), NoMemory>
+fn write_raised(out: &mut Bytes, time: &[u8], ms: u64, stamp: &Stamp<'_>) -> Result<(), NoMemory>
     ensures { IfOk result (λ _. out.new
         ≡ out.old ++ line_of (raised (stamp_seen stamp.now) time.now ms)) }
 {
@@ -103,7 +98,14 @@ pub fn write_undone(out: &mut Bytes, line: &[u8]) -> Result<(), NoMemory>
     };
     match last_mark(stamp.rest) {
         None => out.append(line),
-        Some((rest, time)) => write_parts(out, &Stamp { time, rest, ..stamp }),
+        Some((rest, time)) => write_parts(
+            out,
+            &Stamp {
+                time,
+                rest,
+                ..stamp
+            },
+        ),
     }
 }
 

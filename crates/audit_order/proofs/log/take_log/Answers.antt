@@ -15,17 +15,17 @@ pub returns-then-count-eq0-clause-takes : goal.returns-then-count-eq0-clause-tak
 returns-then-count-eq0-clause-takes g c = λ bytes told.
     let some : 0 < length c.read.new.buf = omega (arith, c.loop.invariant.some, c.read.auto.buf) in
     (ends_log bytes (g.L.Source.left c.loop.log) (g.L.Source.left c.read.new.self) (g.O.Sink.written c.args.sink.now) (g.O.Sink.written c.loop.sink)
-        c.args.cut.now c.loop.cut c.args.sorter.now c.loop.sorter (take c.in-Ok.count c.read.new.buf)
-        (ap (λ (n : ℕ). take n c.read.new.buf) c.if-count-eq0.true) (c.loop.invariant.takes bytes told) c.in-Ok.ensures.bytes.0
-        (c.in-Ok.ensures.bytes.1 c.if-count-eq0.true some)).takes
+    c.args.cut.now c.loop.cut c.args.sorter.now c.loop.sorter (take c.in-Ok.count c.read.new.buf)
+    (ap (λ (n : ℕ). take n c.read.new.buf) c.if-count-eq0.true) (c.loop.invariant.takes bytes told) c.in-Ok.ensures.bytes.0
+    (c.in-Ok.ensures.bytes.1 c.if-count-eq0.true some)).takes
 
 pub returns-then-count-eq0-clause-whole : goal.returns-then-count-eq0-clause-whole
 returns-then-count-eq0-clause-whole g c = λ bytes told.
     let some : 0 < length c.read.new.buf = omega (arith, c.loop.invariant.some, c.read.auto.buf) in
     (ends_log bytes (g.L.Source.left c.loop.log) (g.L.Source.left c.read.new.self) (g.O.Sink.written c.args.sink.now) (g.O.Sink.written c.loop.sink)
-        c.args.cut.now c.loop.cut c.args.sorter.now c.loop.sorter (take c.in-Ok.count c.read.new.buf)
-        (ap (λ (n : ℕ). take n c.read.new.buf) c.if-count-eq0.true) (c.loop.invariant.takes bytes told) c.in-Ok.ensures.bytes.0
-        (c.in-Ok.ensures.bytes.1 c.if-count-eq0.true some)).none
+    c.args.cut.now c.loop.cut c.args.sorter.now c.loop.sorter (take c.in-Ok.count c.read.new.buf)
+    (ap (λ (n : ℕ). take n c.read.new.buf) c.if-count-eq0.true) (c.loop.invariant.takes bytes told) c.in-Ok.ensures.bytes.0
+    (c.in-Ok.ensures.bytes.1 c.if-count-eq0.true some)).none
 
 pub loop-preserved : goal.loop-preserved
 loop-preserved g c = record {
@@ -36,11 +36,11 @@ loop-preserved g c = record {
       c.args.cut.now c.loop.cut c.take_piece.new.cut c.args.sorter.now c.loop.sorter c.take_piece.new.sorter (take c.in-Ok.count c.read.new.buf)
       (c.loop.invariant.takes bytes told) c.in-Ok.ensures.bytes.0 c.in_ok-take_piece.ensures.takes;
   counts = record {
-      later = omega (arith, c.loop.invariant.counts.later, c.take_piece.ensures.counts.later);
-      stays = λ s. c.take_piece.ensures.counts.stays (c.loop.invariant.counts.stays s);
+    later = omega (arith, c.loop.invariant.counts.later, c.take_piece.ensures.counts.later);
+    stays = λ s. c.take_piece.ensures.counts.stays (c.loop.invariant.counts.stays s);
   };
   reads = record {
-      later = omega (arith, c.loop.invariant.reads.later, c.read.ensures.cause.later);
-      stays = λ s. c.read.ensures.cause.stays (c.loop.invariant.reads.stays s);
+    later = omega (arith, c.loop.invariant.reads.later, c.read.ensures.cause.later);
+    stays = λ s. c.read.ensures.cause.stays (c.loop.invariant.reads.stays s);
   };
 }
