@@ -1,0 +1,154 @@
+//! The rows of a store, and what is known of their objects.
+//!
+//! The conditions on a store don't ask that no two rows have one last place, and the laws of rows
+//! do. So the rows are lawful or not, as they were when the store was opened, and what is said of
+//! rows is said of lawful ones.
+ghost use Rattle.std.specs.Prelude.{◌≡◌, ◌-◌, ◌+◌, ◌<◌, ◌∷◌, ◌++◌, [], ℕ, true, map, length, vec_len, vec_capacity};
+ghost use Rattle.reach_model.specs.Numbers.{known};
+ghost use Rattle.reach_model.specs.Rows.{firsts, row_of};
+ghost use Rattle.reach_rows.specs.Kept.{AreRows, GoesOn, row_of_kept};
+ghost use Rattle.store_check.specs.Store.{changed_at, extended};
+ghost use Rattle.reduced_store.specs.Held.{Held, HasRoom, AreHeld, told_if};
+
+use crate::objects::{Object, enter, last_from_of, last_into_of, leave};
+use flow_base::{EntityId, Flow, NoMemory};
+use reach_rows::{First, Keep, Mark, Row, RowFault, Rows};
+use std::alloc::Global;
+use std::marker::Model;
+
+/// The rows of a store.
+#[derive(Drop)]
+pub struct StoreRows {
+    rows: Vec<Row>,
+    objects: Vec<Object>,
+    lawful: bool,
+}
+
+impl Model for StoreRows {
+    ghost Value = { Held };
+
+    ghost view = { λ a. record {
+      rows = map row_of_kept a.rows.items;
+      lawful = a.lawful;
+      rows_room = vec_capacity a.rows - vec_len a.rows;
+      objects_room = vec_capacity a.objects - vec_len a.objects;
+    } };
+
+    ghost invariant = { λ a. AreHeld a.lawful a.rows.items a.objects.items };
+}
+
+impl StoreRows {
+    /// No rows.
+    pub fn new(alloc: Global) -> StoreRows
+        ensures rows { result.rows ≡ [] }
+        ensures lawful { result.lawful ≡ true }
+    {
+        StoreRows {
+            rows: Vec::new(alloc),
+            objects: Vec::new(alloc),
+            lawful: true,
+        }
+    }
+
+    // Puts a row last whose first and last flow are this one.
+    fn push(&mut self, flow: &Flow)
+        requires room { (n : ℕ) × HasRoom self.old (n + 1) }
+        requires numbered { GoesOn (known (firsts self.old.rows)) flow.now }
+        requires lawful { self.old.lawful ≡ true → AreRows self.old.rows
+            → AreRows (self.old.rows ++ row_of flow.now ∷ []) }
+        ensures rows { self.new.rows ≡ self.old.rows ++ row_of flow.now ∷ [] }
+        ensures lawful { self.new.lawful ≡ self.old.lawful }
+        ensures room { (n : ℕ) → HasRoom self.old (n + 1) → HasRoom self.new n }
+    {
+        let row = self.rows.len() as u64;
+        let mark = mark_of(flow);
+        let kept = Row {
+            from: flow.from,
+            to: flow.to,
+            first: mark,
+            last: mark,
+            before_to: last_into_of(&self.objects, flow.to),
+            before_from: last_from_of(&self.objects, flow.from),
+        };
+        self.rows.push_reserved(kept);
+        leave(&mut self.objects, flow, row);
+        enter(&mut self.objects, flow, row);
+    }
+
+    // Gives the last flow of a row this mark.
+    fn set_last(&mut self, row: u64, mark: Mark)
+        requires row { row < length self.old.rows }
+        requires lawful { self.old.lawful ≡ true → AreRows self.old.rows
+            → AreRows (changed_at row (extended mark) self.old.rows) }
+        ensures { self.new
+            ≡ record self.old { rows = changed_at row (extended mark) self.old.rows } }
+    {
+        self.rows[row as usize].last = mark;
+    }
+}
+
+impl Rows for StoreRows {
+    ghost rows = { λ s. told_if s.lawful s.rows };
+
+    ghost count = { λ s. length s.rows };
+
+    ghost known = { λ s. known (firsts s.rows) };
+
+    ghost faults = { λ _. 0 };
+
+    ghost spent = { λ _. ⊥ };
+
+    fn count(&self) -> u64 {
+        self.rows.len() as u64
+    }
+
+    fn known(&self) -> u32 {
+        self.objects.len() as u32
+    }
+
+    fn first(&self, id: EntityId) -> First {
+        self.objects[id.0 as usize].first
+    }
+
+    fn last_into(&self, id: EntityId) -> Option<u64> {
+        self.objects[id.0 as usize].last_into
+    }
+
+    fn last_from(&self, id: EntityId) -> Option<u64> {
+        self.objects[id.0 as usize].last_from
+    }
+
+    fn row(&mut self, index: u64) -> Result<Row, RowFault> {
+        Ok(self.rows[index as usize])
+    }
+}
+
+impl Keep for StoreRows {
+    ghost has_room = { HasRoom };
+
+    fn reserve(&mut self, flows: usize) -> Result<(), NoMemory> {
+        self.rows.reserve(flows)?;
+        // Two objects a flow. The room for rows holds fewer than 2^63 flows, so the product doesn't overflow.
+        self.objects.reserve(2 * flows)?;
+        Ok(())
+    }
+
+    fn add(&mut self, flow: &Flow) {
+        self.push(flow);
+    }
+
+    fn extend(&mut self, row: u64, flow: &Flow) {
+        self.set_last(row, mark_of(flow));
+    }
+}
+
+/// The mark of a flow.
+fn mark_of(flow: &Flow) -> Mark
+    ensures { result ≡ record { at = flow.now.at; how = flow.now.how; serial = flow.now.serial } }
+{
+    Mark {
+        at: flow.at,
+        how: flow.how,
+        serial: flow.serial,
+    }
+}
