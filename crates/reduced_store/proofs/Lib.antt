@@ -1,2 +1,3 @@
 pub mod ObjectLemmas
 pub mod HeldLemmas
+pub mod FillLemmas

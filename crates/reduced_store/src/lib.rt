@@ -1,6 +1,7 @@
 //! Rows of a store.
 #![tactic(auto)]
 
+mod apart;
 mod objects;
 mod rows;
 

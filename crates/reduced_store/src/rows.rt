@@ -3,16 +3,19 @@
 //! The conditions on a store don't ask that no two rows have one last place, and the laws of rows
 //! do. So the rows are lawful or not, as they were when the store was opened, and what is said of
 //! rows is said of lawful ones.
-ghost use Rattle.std.specs.Prelude.{◌≡◌, ◌-◌, ◌+◌, ◌<◌, ◌∷◌, ◌++◌, [], ℕ, true, map, length, vec_len, vec_capacity};
+ghost use Rattle.std.specs.Prelude.{◌≡◌, ◌-◌, ◌+◌, ◌<◌, ◌∷◌, ◌++◌, ◌↔◌, [], ℕ, true, false, map, fold, length, vec_len, vec_capacity, OnOk};
 ghost use Rattle.reach_model.specs.Numbers.{known};
 ghost use Rattle.reach_model.specs.Rows.{firsts, row_of};
 ghost use Rattle.reach_rows.specs.Kept.{AreRows, GoesOn, row_of_kept};
-ghost use Rattle.store_check.specs.Store.{changed_at, extended};
+ghost use Rattle.store_check.specs.Store.{changed_at, extended, grown, flow_of as row_flow};
+ghost use Rattle.reduced_store.specs.Filling.{GoesOnWith, AllGoOn, AreInOrder, AreApart};
 ghost use Rattle.reduced_store.specs.Held.{Held, HasRoom, AreHeld, told_if};
 
+use crate::apart::are_apart;
 use crate::objects::{Object, enter, last_from_of, last_into_of, leave};
 use flow_base::{EntityId, Flow, NoMemory};
 use reach_rows::{First, Keep, Mark, Row, RowFault, Rows};
+use row_codec::{KeptRow, StoreRow};
 use std::alloc::Global;
 use std::marker::Model;
 
@@ -48,6 +51,60 @@ impl StoreRows {
             objects: Vec::new(alloc),
             lawful: true,
         }
+    }
+
+    // Makes room for so many more flows.
+    fn make_room(&mut self, flows: usize) -> Result<(), NoMemory>
+        ensures room { OnOk result (HasRoom self.new flows) }
+        ensures same { (self.new.rows ≡ self.old.rows) × (self.new.lawful ≡ self.old.lawful) }
+    {
+        self.rows.reserve(flows)?;
+        // Two objects a flow. The room for rows holds fewer than 2^63 flows, so the product doesn't
+        // overflow.
+        self.objects.reserve(2 * flows)?;
+        Ok(())
+    }
+
+    /// Takes in what a row of a store says of its kept rows. They aren't lawful before they are
+    /// judged.
+    pub(crate) fn take_row(&mut self, row: &StoreRow) -> Result<(), NoMemory>
+        requires unjudged { self.old.lawful ≡ false }
+        requires next { GoesOnWith self.old.rows row.now }
+        ensures rows { OnOk result (self.new.rows ≡ grown self.old.rows row.now) }
+        ensures unjudged { self.new.lawful ≡ false }
+    {
+        match row {
+            StoreRow::Kept(kept) => {
+                self.make_room(1)?;
+                self.push(&flow_of(kept));
+            }
+            StoreRow::Extend(extend) => self.set_last(extend.row, extend.mark),
+            _ => {}
+        }
+        Ok(())
+    }
+
+    /// Takes in what the rows of a batch say.
+    pub(crate) fn take_rows(&mut self, rows: &[StoreRow]) -> Result<(), NoMemory>
+        requires unjudged { self.old.lawful ≡ false }
+        requires next { AllGoOn self.old.rows rows.now }
+        ensures rows { OnOk result (self.new.rows ≡ fold grown self.old.rows rows.now) }
+        ensures unjudged { self.new.lawful ≡ false }
+    {
+        for row in rows {
+            self.take_row(row)?;
+        }
+        Ok(())
+    }
+
+    /// Judges rows that are in order: they are lawful if no two of them have one last place.
+    pub(crate) fn judge(&mut self, alloc: Global) -> Result<(), NoMemory>
+        requires { AreInOrder self.old.rows }
+        ensures rows { self.new.rows ≡ self.old.rows }
+        ensures lawful { OnOk result ((self.new.lawful ≡ true) ↔ AreApart self.old.rows) }
+    {
+        self.lawful = are_apart(alloc, self.rows.as_slice())?;
+        Ok(())
     }
 
     // Puts a row last whose first and last flow are this one.
@@ -127,10 +184,7 @@ impl Keep for StoreRows {
     ghost has_room = { HasRoom };
 
     fn reserve(&mut self, flows: usize) -> Result<(), NoMemory> {
-        self.rows.reserve(flows)?;
-        // Two objects a flow. The room for rows holds fewer than 2^63 flows, so the product doesn't overflow.
-        self.objects.reserve(2 * flows)?;
-        Ok(())
+        self.make_room(flows)
     }
 
     fn add(&mut self, flow: &Flow) {
@@ -139,6 +193,19 @@ impl Keep for StoreRows {
 
     fn extend(&mut self, row: u64, flow: &Flow) {
         self.set_last(row, mark_of(flow));
+    }
+}
+
+/// The flow of a Kept row.
+fn flow_of(row: &KeptRow) -> Flow
+    ensures { result ≡ row_flow row.now }
+{
+    Flow {
+        from: row.from,
+        to: row.to,
+        how: row.mark.how,
+        at: row.mark.at,
+        serial: row.mark.serial,
     }
 }
 
