@@ -29,7 +29,7 @@ use Rattle.row_codec.specs.declared.rows.StoreRow.TheVariants.{Entity, Kept, Ext
 use Rattle.store_check.specs.Conditions.{Bounds, IsLater, IsNextKept, MayStand, EachAfter}
 use Rattle.store_check.specs.Store.{keys, flow_of, extended, changed_at, grown, rows_of}
 use Rattle.store_check.proofs.Growing.{keys_push, rows_push, firsts_same}
-use Rattle.reduced_store.specs.Filling.{GoesOnWith, AllGoOn, IsRun, AreInOrder, AreApart, last_place}
+use Rattle.reduced_store.specs.Filling.{GoesOnWith, AllGoOn, IsRun, AreInOrder, AreApart, AreSound, last_place}
 
 -- ---- lists in which B holds between each two
 
@@ -84,10 +84,6 @@ order_change R e a later =
     }
 
 -- ---- rows of a store, in order and with objects that can be counted
-
-pub record AreSound (entities : ℕ) (before : List StoreRow) : Type 0 where
-  pub order : AreInOrder (rows_of before)
-  pub few : length (keys before) ≤ entities
 
 pub none_sound : (entities : ℕ) → AreSound entities []
 none_sound entities = record {

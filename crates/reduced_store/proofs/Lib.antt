@@ -1,3 +1,5 @@
 pub mod ObjectLemmas
 pub mod HeldLemmas
 pub mod FillLemmas
+pub mod PickLemmas
+pub mod ReadLemmas

@@ -9,7 +9,7 @@ use Rattle.reach_rows.specs.Kept.{GoesOn}
 use Rattle.reach_rows.specs.declared.rows.Row.{Row as KeptRow}
 use Rattle.row_codec.specs.declared.rows.StoreRow.{StoreRow}
 use Rattle.row_codec.specs.declared.rows.StoreRow.TheVariants.{Entity, Kept, Extend, Name, Life, Held, Address, Born, Waiting, State}
-use Rattle.store_check.specs.Store.{flow_of, grown}
+use Rattle.store_check.specs.Store.{keys, flow_of, grown, rows_of}
 
 -- what the kept rows R ask of a row of the store: a Kept row goes on with their numbering, and an Extend row names one of them
 abbrev pub GoesOnWith : List Row → StoreRow → Type 0
@@ -49,3 +49,8 @@ AreApart R = (i j : ℕ) (d : Flow) → i < j → j < length (lasts R) → place
 -- the place of a row's last flow
 abbrev pub last_place : KeptRow → ℕ
 last_place r = r.last.at.place
+
+-- the kept rows of these rows of a store are in order, and no more objects are known than may be
+pub record AreSound (entities : ℕ) (before : List StoreRow) : Type 0 where
+  pub order : AreInOrder (rows_of before)
+  pub few : length (keys before) ≤ entities

@@ -1,3 +1,4 @@
 pub mod Objects
 pub mod Held
 pub mod Filling
+pub mod Reading

@@ -3,6 +3,8 @@
 
 mod apart;
 mod objects;
+mod picking;
+mod reading;
 mod rows;
 
 pub use rows::StoreRows;

@@ -41,15 +41,15 @@ impl Model for StoreRows {
 }
 
 impl StoreRows {
-    /// No rows.
-    pub fn new(alloc: Global) -> StoreRows
+    /// No rows, not judged yet.
+    pub(crate) fn unjudged(alloc: Global) -> StoreRows
         ensures rows { result.rows ≡ [] }
-        ensures lawful { result.lawful ≡ true }
+        ensures unjudged { result.lawful ≡ false }
     {
         StoreRows {
             rows: Vec::new(alloc),
             objects: Vec::new(alloc),
-            lawful: true,
+            lawful: false,
         }
     }
 
