@@ -3,3 +3,4 @@ pub mod HeldLemmas
 pub mod FillLemmas
 pub mod PickLemmas
 pub mod ReadLemmas
+pub mod OpenLemmas

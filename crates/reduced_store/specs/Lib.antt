@@ -2,3 +2,4 @@ pub mod Objects
 pub mod Held
 pub mod Filling
 pub mod Reading
+pub mod Opening
