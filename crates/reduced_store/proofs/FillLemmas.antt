@@ -1,9 +1,8 @@
 -- What the conditions on a store give of its kept rows.
-use Rattle.std.proofs.Common.{◌≡◌, ◌≢◌, ℕ, zero, suc, ◌^◌, ◌+◌, ◌<◌, ◌≤◌, max, List, [], ◌∷◌, ◌++◌, length, get_or, set, map, take, drop, drop-cons, Option, Some, None, refl, sym, ap, subst, ◌∙◌, arith, inl, inr, append_assoc}
-use Rattle.std.specs.Prelude.{slice_get, nat_eq, fold, Bool, true, false, not, ◌||◌}
+use Rattle.std.proofs.Common.{◌≡◌, ◌≢◌, ℕ, zero, suc, ◌^◌, ◌<◌, ◌≤◌, max, List, [], ◌∷◌, ◌++◌, length, get_or, set, map, take, drop, drop-cons, Some, refl, sym, ap, subst, ◌∙◌, arith, inl, inr, append_assoc}
+use Rattle.std.specs.Prelude.{slice_get, nat_eq, Bool, true, false, not, ◌||◌}
 use Rattle.std.specs.List.{Contains, AllByRecursion, IsDistinct, list_any}
-use Rattle.std.proofs.lemmas.List.{get_or_append_left, get_or_push, length-append, length-set, length-map, get_or-set_same, get_or-set_other, map-append, map-set, append-nil, take_more, take-append-drop}
-use Rattle.std.proofs.lemmas.Grind.{fold-append}
+use Rattle.std.proofs.lemmas.List.{get_or_append_left, get_or_push, length-append, length-set, length-map, get_or-set_same, get_or-set_other, map-append, map-set, append-nil, take-append-drop}
 use Rattle.std.proofs.lemmas.Map.Keys.{apart_from_distinct, IsDistinct-from_apart, IsDistinct-head, IsDistinct-tail}
 use Rattle.std.proofs.lemmas.Bool.Decides.{nat_tests}
 use Rattle.std.proofs.lemmas.List.Elements.{All-nil, All-push, All-contains, Contains-get_or, recursion_from_All, All-from_recursion}
@@ -13,8 +12,8 @@ use Rattle.flow_base.specs.declared.types.Key.{Key}
 use Rattle.reach_model.specs.declared.modes.Mode.{Mode}
 use Rattle.reach_model.specs.declared.modes.Verdict.TheVariants.{Drop, Add, Extend as Extends}
 use Rattle.reach_model.specs.Flows.{source, target, time, place, IsLawful}
-use Rattle.reach_model.specs.Numbers.{known, IsNumbered, beyond}
-use Rattle.reach_model.specs.Rows.{Row, SamePair, Keeps, none, more, firsts, lasts, row_of}
+use Rattle.reach_model.specs.Numbers.{known, IsNumbered}
+use Rattle.reach_model.specs.Rows.{Row, Keeps, none, more, firsts, lasts, row_of}
 use Rattle.reach_model.proofs.Lawful.{lawful_front}
 use Rattle.reach_model.proofs.Members.{from_map}
 use Rattle.reach_model.proofs.Numbering.{numbered_push}
@@ -22,12 +21,11 @@ use Rattle.reach_model.proofs.RowFacts.{carries}
 use Rattle.reach_rows.specs.Kept.{AreRows, row_of_kept}
 use Rattle.reach_rows.specs.declared.rows.Row.{Row as MemoryRow}
 use Rattle.reach_rows.proofs.NextFlow.{comes_after}
-use Rattle.row_codec.specs.declared.rows.KeptRow.{KeptRow}
 use Rattle.row_codec.specs.declared.rows.ExtendRow.{ExtendRow}
 use Rattle.row_codec.specs.declared.rows.StoreRow.{StoreRow}
 use Rattle.row_codec.specs.declared.rows.StoreRow.TheVariants.{Entity, Kept, Extend, Name, Life, Held, Address, Born, Waiting, State}
-use Rattle.store_check.specs.Conditions.{Bounds, IsLater, IsNextKept, MayStand, EachAfter}
-use Rattle.store_check.specs.Store.{keys, flow_of, extended, changed_at, grown, rows_of}
+use Rattle.store_check.specs.Conditions.{Bounds, IsLater, MayStand, EachAfter}
+use Rattle.store_check.specs.Store.{keys, flow_of, extended, changed_at, rows_of}
 use Rattle.store_check.proofs.Growing.{keys_push, rows_push, firsts_same}
 use Rattle.reduced_store.specs.Filling.{GoesOnWith, AllGoOn, IsRun, AreInOrder, AreApart, AreSound, last_place}
 
@@ -217,9 +215,9 @@ distinct_rows (r ∷ rest) apart =
     let rows = r ∷ rest in
     let any : Flow = (row_of_kept r).last in
     IsDistinct-from_apart nat_eq (map last_place rows) (λ i j d low h.
-      let hj : j < length rows = simp length-map at h in
-      let hi : i < length rows = omega arith in
-      no_test _ _ (λ e. apart i j any low (simp (length-map, length-map) hj) (place_at rows i any d hi ∙ e ∙ sym (place_at rows j any d hj))))
+    let hj : j < length rows = simp length-map at h in
+    let hi : i < length rows = omega arith in
+    no_test _ _ (λ e. apart i j any low (simp (length-map, length-map) hj) (place_at rows i any d hi ∙ e ∙ sym (place_at rows j any d hj))))
 
 at_middle : (P : ℕ → Type 0) (xs : List ℕ) (y : ℕ) (ys : List ℕ) → AllByRecursion P (xs ++ y ∷ ys) → P y
 at_middle P [] y ys all = all.0

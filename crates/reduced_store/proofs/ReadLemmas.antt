@@ -17,7 +17,7 @@ use Rattle.store_check.specs.Tables.{Tables, Goes, StandsFor}
 use Rattle.stored.specs.Stored.{AllContinue, last_of}
 use Rattle.stored.specs.Words.{all_of}
 use Rattle.reduced_store.specs.Filling.{AllGoOn, AreSound}
-use Rattle.reduced_store.specs.Reading.{is_of_table, closes, table_rows, closing_rows, IsRead, AreNoStore, IsChecker, AreChecked, IsChecked, IsOfOther, IsOfMode, HasRead}
+use Rattle.reduced_store.specs.Reading.{is_of_table, closes, IsRead, AreNoStore, IsChecker, AreChecked, IsChecked, IsOfOther, IsOfMode, HasRead}
 use Rattle.reduced_store.specs.declared.reading.Checked.{Checked}
 use Rattle.reduced_store.specs.declared.reading.Reading.{Reading}
 use Rattle.reduced_store.proofs.FillLemmas.{batch_goes_on}
@@ -129,7 +129,7 @@ module _ (bounds : Bounds) (payloads : List (List ℕ)) (bytes : List ℕ) where
       let both = apart m mode l.rows rows bytes l.spelled spelled in
       let front : l.front ≡ batches = one_reading apart mode l.front batches payloads (subst (λ (n : Mode). AllZip (IsPayload n) l.front payloads) both.0 l.read.spelled) read.spelled in
       stop (subst (λ (n : Mode). Continues bounds n (all_of batches) rows) both.0
-        (subst (λ (bs : List (List StoreRow)). Continues bounds m (all_of bs) rows) front (subst (λ (rs : List StoreRow). Continues bounds m (all_of l.front) rs) both.1 l.goes_on)))
+      (subst (λ (bs : List (List StoreRow)). Continues bounds m (all_of bs) rows) front (subst (λ (rs : List StoreRow). Continues bounds m (all_of l.front) rs) both.1 l.goes_on)))
 
   -- ---- a payload that goes on
 

@@ -53,12 +53,7 @@ impl Reading {
     }
 
     /// Reads the next payload, and says whether the payloads still make a store.
-    pub fn take(
-        &mut self,
-        alloc: Global,
-        limits: &Limits,
-        bytes: &[u8],
-    ) -> Result<bool, NoMemory>
+    pub fn take(&mut self, alloc: Global, limits: &Limits, bytes: &[u8]) -> Result<bool, NoMemory>
         requires { (payloads : List (List ℕ)) × HasRead (bounds_of limits.now) payloads self.old }
         ensures { IfOk result (λ goes. (payloads : List (List ℕ))
             → HasRead (bounds_of limits.now) payloads self.old
@@ -151,7 +146,11 @@ fn check_for(
         None => Some(StoreCheck::new(alloc, limits, mode)),
         Some(checked) => {
             let Checked { mode: kept, check } = checked;
-            if is_same(kept, mode) { Some(check) } else { None }
+            if is_same(kept, mode) {
+                Some(check)
+            } else {
+                None
+            }
         }
     }
 }

@@ -1,8 +1,8 @@
 //! The rows of a store, and what is known of their objects.
 //!
 //! The conditions on a store don't ask that no two rows have one last place, and the laws of rows
-//! do. So the rows are lawful or not, as they were when the store was opened, and what is said of
-//! rows is said of lawful ones.
+//! do. So the rows are judged once, when the store is opened, and are lawful or not from then on. What
+//! is said of rows is said of lawful ones.
 ghost use Rattle.std.specs.Prelude.{◌≡◌, ◌-◌, ◌+◌, ◌<◌, ◌∷◌, ◌++◌, ◌↔◌, [], ℕ, true, false, map, fold, length, vec_len, vec_capacity, OnOk};
 ghost use Rattle.reach_model.specs.Numbers.{known};
 ghost use Rattle.reach_model.specs.Rows.{firsts, row_of};

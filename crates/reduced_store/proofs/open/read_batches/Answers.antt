@@ -1,8 +1,7 @@
-use Rattle.std.proofs.Common.{◌≡◌, ◌≤◌, ◌+◌, ◌∙◌, ◌∷◌, ◌++◌, [], ℕ, suc, List, length, take, get_or, true, false, Err, arith, refl, sym, ap, subst}
+use Rattle.std.proofs.Common.{◌≡◌, ◌≤◌, ◌+◌, ◌∙◌, ◌∷◌, ◌++◌, [], ℕ, suc, List, length, take, get_or, arith, refl, sym, ap, subst}
 use Rattle.std.proofs.lemmas.Result.{err_from_is_err_and}
 use Rattle.outside.proofs.Moments.{looks_in_a_row, uses_in_a_row}
 use Rattle.batch_log.specs.declared.find.Batch.{Batch}
-use Rattle.batch_log.specs.declared.open.LogFault.TheVariants as fault
 use Rattle.batch_log.specs.Payloads.{IsPayloadOf}
 use Rattle.store_check.specs.Conditions.{bounds_of}
 use Rattle.reduced_store.specs.Reading.{HasRead, Further, AreNoStore}
@@ -42,7 +41,7 @@ returns-then-not-branch-clause-bad g c = λ told payloads there place is.
     let d : Batch = record { gate = 0; length = 0 } in
     let h = so_far.known told payloads there in
     let read : IsPayloadOf (get_or listed i d) reads c.as_slice.result.now =
-        subst (IsPayloadOf (get_or listed i d) reads) (sym c.as_slice.ensures) (subst (λ (r : List ℕ). IsPayloadOf (get_or listed i d) r c.in_ok-payload.payload) (so_far.looks.same told) (c.in_ok-payload.ensures.payload (so_far.looks.tells told))) in
+    subst (IsPayloadOf (get_or listed i d) reads) (sym c.as_slice.ensures) (subst (λ (r : List ℕ). IsPayloadOf (get_or listed i d) r c.in_ok-payload.payload) (so_far.looks.same told) (c.in_ok-payload.ensures.payload (so_far.looks.tells told))) in
     let none = subst (λ b. Further b bounds (take i payloads) c.as_slice.result.now c.take.new.self) c.if-not-branch.true (c.in_ok-take.ensures (take i payloads) h) in
     let more = more_taken reads listed payloads there i d c.as_slice.result.now c.loop-batch-test.true read in
     let next : i + 1 ≡ suc i = omega arith in
@@ -69,7 +68,7 @@ loop-batch-preserved g c =
       known = λ told payloads there.
           let h = so_far.known told payloads there in
           let read : IsPayloadOf (get_or listed i d) old.reads c.as_slice.result.now =
-              subst (IsPayloadOf (get_or listed i d) old.reads) (sym c.as_slice.ensures) (subst (λ (r : List ℕ). IsPayloadOf (get_or listed i d) r c.in_ok-payload.payload) (so_far.looks.same told) (c.in_ok-payload.ensures.payload (so_far.looks.tells told))) in
+          subst (IsPayloadOf (get_or listed i d) old.reads) (sym c.as_slice.ensures) (subst (λ (r : List ℕ). IsPayloadOf (get_or listed i d) r c.in_ok-payload.payload) (so_far.looks.same told) (c.in_ok-payload.ensures.payload (so_far.looks.tells told))) in
           let further = subst (λ b. Further b bounds (take i payloads) c.as_slice.result.now c.take.new.self) c.if-not-branch.false (c.in_ok-take.ensures (take i payloads) h) in
           subst (λ ps. HasRead bounds ps c.take.new.self) (sym (more_taken old.reads listed payloads there i d c.as_slice.result.now c.loop-batch-test.true read)) further;
       looks = looks_in_a_row old (state c.loop-batch.disk) (state c.read_payload.new.disk) so_far.looks c.read_payload.ensures.looks;

@@ -1,4 +1,4 @@
-use Rattle.std.proofs.Common.{◌≡◌, ◌∙◌, inr, sym, subst}
+use Rattle.std.proofs.Common.{◌∙◌, inr, sym, subst}
 use Rattle.std.proofs.lemmas.Result.{err_from_is_err_and}
 use Rattle.store_check.specs.Conditions.{bounds_of}
 use Rattle.reduced_store.specs.Opening.{AreThere, StopsAt}

@@ -1,4 +1,3 @@
-use Rattle.std.proofs.Common.{sym, ◌∙◌}
 use Rattle.store_check.specs.Conditions.{bounds_of}
 use Rattle.reduced_store.proofs.ReadLemmas.{same_mode, other_mode}
 use Rattle.reduced_store.proofs.reading.check_for.Goals as goal

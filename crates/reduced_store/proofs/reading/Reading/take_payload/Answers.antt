@@ -1,4 +1,4 @@
-use Rattle.std.proofs.Common.{◌≡◌, ◌<◌, ◌^◌, ◌∙◌, ◌++◌, List, arith, refl, sym, ap, subst}
+use Rattle.std.proofs.Common.{◌<◌, ◌^◌, ◌∙◌, ◌++◌, List, arith, refl, sym, ap, subst}
 use Rattle.std.specs.Prelude.{filter, fold}
 use Rattle.row_codec.specs.declared.rows.StoreRow.{StoreRow}
 use Rattle.store_check.specs.Conditions.{bounds_of, Continues}
@@ -29,7 +29,7 @@ returns-in_default-2 c = λ payloads bytes h spelled.
     let stop = told_none _ _ c.in_ok-check.field-0 c.in_default-2.is (c.in_ok-check.ensures before both.1.stands) in
     stopped_is_none bounds payloads bytes c.payloads_are_apart.ensures p.mode p.rows h.batches both.0 spelled
     (λ goes. stop (subst (λ (rs : List StoreRow). Continues k.bounds k.mode before rs) (sym c.as_slice.ensures)
-      (subst (λ m. Continues k.bounds m before p.rows) (sym both.1.mode_is) (subst (λ b. Continues b p.mode before p.rows) (sym both.1.bounds_are) goes))))
+    (subst (λ m. Continues k.bounds m before p.rows) (sym both.1.mode_is) (subst (λ b. Continues b p.mode before p.rows) (sym both.1.bounds_are) goes))))
 
 pub take_rows-requires-clause-next : goal.take_rows-requires-clause-next
 take_rows-requires-clause-next c =

@@ -20,7 +20,7 @@ invariant_of-self c =
     let held = c.self.invariant in
     let goes : GoesOn (known K) f = subst (λ (h : Held). GoesOn (known (firsts h.rows)) f) (sym c.self.view_is) c.requires.numbered in
     let still : lawful ≡ true → AreRows (map row_of_kept rows) → AreRows (map row_of_kept rows ++ row_of f ∷ []) =
-        subst (λ (h : Held). h.lawful ≡ true → AreRows h.rows → AreRows (h.rows ++ row_of f ∷ [])) (sym c.self.view_is) c.requires.lawful in
+    subst (λ (h : Held). h.lawful ≡ true → AreRows h.rows → AreRows (h.rows ++ row_of f ∷ [])) (sym c.self.view_is) c.requires.lawful in
     let row : KeptRow = record { from = f.from; to = f.to; first = c.mark_of-mark.result; last = c.mark_of-mark.result; before_to = c.last_into_of.result; before_from = c.last_from_of.result } in
     let is : row_of_kept row ≡ row_of f = ap (λ m. row_of_kept (record { from = f.from; to = f.to; first = m; last = m; before_to = c.last_into_of.result; before_from = c.last_from_of.result })) c.mark_of-mark.ensures in
     let links : HasLinks K row = record {

@@ -14,7 +14,7 @@ invariant_of-self c =
     let all : length rows ≡ length c.args.self.now.rows = sym (all_rows lawful rows objects held) ∙ ap (λ (h : Held). length h.rows) c.self.view_is in
     let within : c.args.row < length rows = omega (arith, c.requires.row, all) in
     let still : lawful ≡ true → AreRows (map row_of_kept rows) → AreRows (changed_at c.args.row (extended c.args.mark) (map row_of_kept rows)) =
-        subst (λ (h : Held). h.lawful ≡ true → AreRows h.rows → AreRows (changed_at c.args.row (extended c.args.mark) h.rows)) (sym c.self.view_is) c.requires.lawful in
+    subst (λ (h : Held). h.lawful ≡ true → AreRows h.rows → AreRows (changed_at c.args.row (extended c.args.mark) h.rows)) (sym c.self.view_is) c.requires.lawful in
     held_set lawful rows objects held c.args.row c.index_mut.result.now c.args.mark within c.index_mut.ensures.value (λ so. still so (held.lawful_are so))
 
 pub returns : goal.returns

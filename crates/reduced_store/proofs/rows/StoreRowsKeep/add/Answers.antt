@@ -1,6 +1,6 @@
-use Rattle.std.proofs.Common.{◌∷◌, ◌++◌, [], ap, ◌∙◌}
+use Rattle.std.proofs.Common.{ap, ◌∙◌}
 use Rattle.reach_model.specs.Numbers.{known}
-use Rattle.reach_model.specs.Rows.{firsts, row_of}
+use Rattle.reach_model.specs.Rows.{firsts}
 use Rattle.reach_model.proofs.Numbering.{known_push}
 use Rattle.reach_rows.proofs.RowLemmas.{rows_push}
 use Rattle.reduced_store.proofs.HeldLemmas.{told_rows, firsts_of_push}

@@ -1,7 +1,7 @@
-use Rattle.std.proofs.Common.{◌≡◌, true, length, ap, subst, sym, ◌∙◌}
+use Rattle.std.proofs.Common.{length, ap, subst, sym, ◌∙◌}
 use Rattle.reach_model.specs.declared.modes.Verdict.TheVariants.{Extend}
 use Rattle.reach_model.specs.Numbers.{known}
-use Rattle.reach_model.specs.Rows.{Row, firsts, rows_after}
+use Rattle.reach_model.specs.Rows.{firsts, rows_after}
 use Rattle.reach_rows.specs.Kept.{AreRows}
 use Rattle.reach_rows.proofs.RowLemmas.{rows_extended}
 use Rattle.store_check.specs.Store.{changed_at, extended}
@@ -26,8 +26,8 @@ returns-clause-rows c =
     let f = c.args.flow.now in
     ap (λ (h : Held). told_if h.lawful h.rows) c.set_last.ensures
     ∙ told_maps b R (changed_at c.args.row (extended c.mark_of.result) R) (λ S. rows_after S f (Extend c.args.row)) (λ so.
-      ap (λ m. changed_at c.args.row (extended m) R) c.mark_of.ensures
-      ∙ changed_is_after R c.args.row f c.requires.row (c.requires.pair R (told_rows b R so)))
+    ap (λ m. changed_at c.args.row (extended m) R) c.mark_of.ensures
+    ∙ changed_is_after R c.args.row f c.requires.row (c.requires.pair R (told_rows b R so)))
 
 pub returns-clause-same : goal.returns-clause-same
 returns-clause-same c =
