@@ -1,0 +1,6 @@
+pub mod ObjectLemmas
+pub mod HeldLemmas
+pub mod FillLemmas
+pub mod PickLemmas
+pub mod ReadLemmas
+pub mod OpenLemmas

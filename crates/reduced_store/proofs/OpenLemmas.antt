@@ -1,0 +1,58 @@
+-- Batches of a disk, one after the other.
+use Rattle.std.proofs.Common.{◌≡◌, ◌∙◌, refl, sym, ap, subst, ℕ, zero, suc, ◌+◌, ◌<◌, ◌≤◌, List, [], ◌∷◌, ◌++◌, length, get_or, take, Option, Some, None, arith}
+use Rattle.std.specs.List.{AllZip}
+use Rattle.std.proofs.lemmas.List.{take_more}
+use Rattle.reach_model.specs.declared.modes.Mode.{Mode}
+use Rattle.reach_model.specs.declared.modes.Mode.TheVariants.{Plain}
+use Rattle.row_codec.specs.declared.rows.StoreRow.{StoreRow}
+use Rattle.batch_log.specs.declared.find.Batch.{Batch}
+use Rattle.batch_log.specs.Payloads.{IsThere, IsPayloadOf}
+use Rattle.store_check.specs.Conditions.{Bounds}
+use Rattle.reduced_store.specs.Opening.{AreThere}
+use Rattle.reduced_store.specs.Reading.{IsRead, IsChecked, HasRead}
+use Rattle.reduced_store.specs.declared.reading.Checked.{Checked}
+use Rattle.reduced_store.specs.declared.reading.Reading.{Reading}
+
+zip_length : {A B : Type 0} (R : A → B → Type 0) (xs : List A) (ys : List B) → AllZip R xs ys → length xs ≡ length ys
+zip_length R [] [] all = refl
+zip_length R [] (y ∷ ys) all = absurd all
+zip_length R (x ∷ xs) [] all = absurd all
+zip_length R (x ∷ xs) (y ∷ ys) all = ap suc (zip_length R xs ys all.1)
+
+zip_at : {A B : Type 0} (R : A → B → Type 0) (xs : List A) (ys : List B) (i : ℕ) (d : A) (e : B) → AllZip R xs ys → i < length xs → R (get_or xs i d) (get_or ys i e)
+zip_at R [] ys i d e all h = absurd (omega arith)
+zip_at R (x ∷ xs) [] i d e all h = absurd all
+zip_at R (x ∷ xs) (y ∷ ys) zero d e all h = all.0
+zip_at R (x ∷ xs) (y ∷ ys) (suc i) d e all h = zip_at R xs ys i d e all.1 (omega arith)
+
+pub same_at : {A : Type 0} (xs : List A) (i : ℕ) (d e : A) → i < length xs → get_or xs i d ≡ get_or xs i e
+same_at [] i d e h = absurd (omega arith)
+same_at (x ∷ xs) zero d e h = refl
+same_at (x ∷ xs) (suc i) d e h = same_at xs i d e (omega arith)
+
+take_past : {A : Type 0} (i : ℕ) (xs : List A) → length xs ≤ i → take i xs ≡ xs
+take_past zero [] h = refl
+take_past (suc i) [] h = refl
+take_past zero (x ∷ xs) h = absurd (omega arith)
+take_past (suc i) (x ∷ xs) h = ap (λ r. x ∷ r) (take_past i xs (omega arith))
+
+module _ (bytes : List ℕ) (listed : List Batch) (payloads : List (List ℕ)) (there : AreThere bytes listed payloads) where
+  pub batch_there : (i : ℕ) (d : Batch) → i < length listed → IsThere bytes (get_or listed i d) (get_or payloads i [])
+  batch_there i d h = zip_at (IsThere bytes) listed payloads i d [] there h
+
+  pub more_taken : (i : ℕ) (d : Batch) (p : List ℕ) → i < length listed → IsPayloadOf (get_or listed i d) bytes p → take (i + 1) payloads ≡ take i payloads ++ p ∷ []
+  more_taken i d p h is =
+      let within : i < length payloads = omega (arith, zip_length (IsThere bytes) listed payloads there, h) in
+      let same : get_or payloads i [] ≡ p = (batch_there i d h).payload_of ∙ sym is in
+      take_more payloads i [] within ∙ ap (λ (q : List ℕ). take i payloads ++ q ∷ []) same
+
+  pub all_taken : (i : ℕ) → length listed ≤ i → take i payloads ≡ payloads
+  all_taken i h = take_past i payloads (omega (arith, zip_length (IsThere bytes) listed payloads there, h))
+
+-- what was read is a store
+read_of : (bounds : Bounds) (payloads : List (List ℕ)) (batches : List (List StoreRow)) (o : Option Checked) → IsChecked bounds batches payloads o → (mode : Mode) × (bs : List (List StoreRow)) × IsRead bounds mode bs payloads
+read_of bounds payloads batches None checked = (Plain, [], subst (λ (ps : List (List ℕ)). IsRead bounds Plain [] ps) (sym checked.1) (record { spelled = tt; continue = tt }))
+read_of bounds payloads batches (Some c) checked = (c.mode, batches, checked.read)
+
+pub store_of : (bounds : Bounds) (payloads : List (List ℕ)) (r : Reading) → HasRead bounds payloads r → (mode : Mode) × (bs : List (List StoreRow)) × IsRead bounds mode bs payloads
+store_of bounds payloads r h = read_of bounds payloads h.batches r.checked h.checked

@@ -1,0 +1,22 @@
+use Rattle.std.proofs.Common.{◌∙◌, inr, sym, subst}
+use Rattle.std.proofs.lemmas.Result.{err_from_is_err_and}
+use Rattle.store_check.specs.Conditions.{bounds_of}
+use Rattle.reduced_store.specs.Opening.{AreThere, StopsAt}
+use Rattle.reduced_store.proofs.open.read_store.Goals as goal
+
+pub returns-in_err-found-clause-bad : goal.returns-in_err-found-clause-bad
+returns-in_err-found-clause-bad g c = λ told place is.
+    let reads = (g.D.Disk.state c.args.disk.now).reads in
+    let most = c.args.limits.now.payload in
+    let opened = c.in_ok-log.ensures.opened told in
+    let payloads = opened.0 in
+    let listed = c.as_slice.ensures ∙ opened.2 in
+    let there = c.listed_batches_have_their_payloads.ensures most payloads c.in_ok-log.log.last reads opened.1 in
+    let there_now = subst (λ b. AreThere reads b payloads) (sym listed) there in
+    let looks = c.open_on.ensures.looks in
+    let there_then = subst (λ r. AreThere r c.as_slice.result.now payloads) (sym (looks.same told)) there_now in
+    let p = err_from_is_err_and c.from_residual-in_err-found.result c.from_residual-in_err-found.ensures.1 in
+    let a = p.1 in
+    let b = p.2 in
+    let stops = c.in_err-found.ensures.bad (looks.tells told) payloads there_then place cc in
+    inr (payloads, (c.in_ok-log.log.last, opened.1), subst (λ b. StopsAt (bounds_of c.args.limits.now) b payloads place) listed stops)

@@ -1,0 +1,6 @@
+use Rattle.store_check.specs.Conditions.{bounds_of}
+use Rattle.reduced_store.proofs.ReadLemmas.{malformed_is_none}
+use Rattle.reduced_store.proofs.reading.Reading.take.Goals as goal
+
+pub returns-in-Err-Malformed : goal.returns-in-Err-Malformed
+returns-in-Err-Malformed c = λ payloads h. malformed_is_none (bounds_of c.args.limits.now) payloads c.args.bytes.now (c.in-Err-Malformed.ensures.malformed (let e = c.in-Err-Malformed.is in cc))

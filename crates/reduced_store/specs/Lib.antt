@@ -1,0 +1,5 @@
+pub mod Objects
+pub mod Held
+pub mod Filling
+pub mod Reading
+pub mod Opening

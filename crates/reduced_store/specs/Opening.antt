@@ -1,0 +1,36 @@
+-- What opening a disk finds.
+use Rattle.std.specs.Prelude.{◌≡◌, ◌⊎◌, ℕ, suc, ◌<◌, List, length, take, slice_index_or}
+use Rattle.std.specs.List.{AllZip}
+use Rattle.flow_base.specs.declared.limits.Limits.{Limits}
+use Rattle.reach_model.specs.declared.modes.Mode.{Mode}
+use Rattle.row_codec.specs.declared.rows.StoreRow.{StoreRow}
+use Rattle.batch_log.specs.declared.find.Batch.{Batch}
+use Rattle.batch_log.specs.Batches.{HasBatches, IsStore, BreaksAt}
+use Rattle.batch_log.specs.Finding.{places}
+use Rattle.batch_log.specs.Log.{Log}
+use Rattle.batch_log.specs.Payloads.{IsThere}
+use Rattle.store_check.specs.Conditions.{Bounds, bounds_of}
+use Rattle.reduced_store.specs.Reading.{IsRead, AreNoStore, IsFound}
+use Rattle.reduced_store.specs.declared.reading.Found.{Found}
+
+-- the bytes have all of these batches, with these payloads
+abbrev pub AreThere : List ℕ → List Batch → List (List ℕ) → Type 0
+AreThere bytes listed payloads = AllZip (IsThere bytes) listed payloads
+
+-- The payloads up to one of them make a store, and with it they make none. The place is that of its batch's gate.
+pub record StopsAt (bounds : Bounds) (listed : List Batch) (payloads : List (List ℕ)) (place : ℕ) : Type 0 where
+  pub index : ℕ
+  pub within : index < length listed
+  pub at : (d : Batch) → place ≡ (slice_index_or listed index d).gate
+  pub store : (mode : Mode) × (batches : List (List StoreRow)) × IsRead bounds mode batches (take index payloads)
+  pub none : AreNoStore bounds (take (suc index) payloads)
+
+-- a log of these bytes' batches, and what the store of their payloads holds
+abbrev pub IsStoreRead : Limits → List ℕ → (Log × Found) → Type 0
+IsStoreRead limits bytes read = (payloads : List (List ℕ)) × HasBatches limits.payload payloads read.0.last bytes × IsFound (bounds_of limits) payloads read.1
+
+-- The batches break at this place, or they are whole and that of this gate is the first that doesn't go on with the store.
+abbrev pub IsBadAt : Limits → ℕ → List ℕ → Type 0
+IsBadAt limits place bytes =
+    BreaksAt limits.payload place bytes
+    ⊎ ((payloads : List (List ℕ)) × IsStore limits.payload payloads bytes × StopsAt (bounds_of limits) (places 0 payloads) payloads place)

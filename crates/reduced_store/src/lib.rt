@@ -1,0 +1,22 @@
+//! The rows of a store, and opening a disk as a store.
+//!
+//! A disk is read batch by batch (`read_store`): its bytes as batches, each payload as rows, and each
+//! batch against all batches before it. What comes of it are the kept rows (`StoreRows`), from which
+//! questions are answered and to which a reducer adds, and the rows from which tables are filled.
+//!
+//! The conditions on a store let two rows have one last place, which the laws of rows forbid. So the
+//! rows of a store are lawful or not. Rows that a mode keeps always are.
+#![tactic(auto)]
+
+mod apart;
+mod laws;
+mod objects;
+mod open;
+mod picking;
+mod reading;
+mod rows;
+
+pub use laws::rows_of_a_mode_are_apart;
+pub use open::read_store;
+pub use reading::Found;
+pub use rows::StoreRows;

@@ -1,0 +1,75 @@
+//! Opening a disk: one sync, and then reads alone.
+ghost use Rattle.std.specs.Prelude.{◌≡◌, ◌⊎◌, ℕ, List, IfOk, IsErrOf};
+ghost use Rattle.std.specs.List.{All};
+ghost use Rattle.outside.specs.Disk.{IsDurable, OnlyLooks, Settles, UsesDisk};
+ghost use Rattle.batch_log.specs.Log.{log_of};
+ghost use Rattle.batch_log.specs.Payloads.{Fits};
+ghost use Rattle.batch_log.specs.declared.open.LogFault.TheVariants as fault;
+ghost use Rattle.store_check.specs.Conditions.{bounds_of};
+ghost use Rattle.reduced_store.specs.Opening.{AreThere, StopsAt, IsStoreRead, IsBadAt};
+ghost use Rattle.reduced_store.specs.Reading.{IsFound};
+
+use crate::reading::{Found, Reading};
+use batch_log::{Batch, BatchLog, LogFault, listed_batches_have_their_payloads, read_payload};
+use flow_base::Limits;
+use outside::Disk;
+use std::alloc::Global;
+
+/// Opens a disk: its log, and what its store holds. It makes one sync, so that nothing of an earlier
+/// run is pending, and then only reads. A bad store has the place of its first gate that is neither
+/// closed nor that of a whole batch, and else that of the first batch that doesn't go on with the
+/// store.
+pub fn read_store<D: Disk>(
+    alloc: Global,
+    limits: &Limits,
+    disk: &mut D,
+) -> Result<(BatchLog, Found), LogFault>
+    ensures found { IfOk result (λ read. (payloads : List (List ℕ))
+        × IsFound (bounds_of limits.now) payloads read.1) }
+    ensures store { (D.state disk.old).told
+        → IfOk result (IsStoreRead limits.now (D.state disk.old).reads) }
+    ensures log { IfOk result (λ read. read.0 ≡ log_of limits.now read.0.last) }
+    ensures bad { (D.state disk.old).told → (place : ℕ) → IsErrOf result (fault.BadStore place)
+        → IsBadAt limits.now place (D.state disk.old).reads }
+    ensures durable { (D.state disk.old).told
+        → IsErrOf result fault.StoreFault ⊎ IsDurable (D.state disk.new) }
+    ensures looks { OnlyLooks (D.state disk.old) (D.state disk.new) }
+    ensures uses { UsesDisk D.state D.faults D.spent disk.old disk.new
+        (IsErrOf result fault.StoreFault) }
+{
+    listed_batches_have_their_payloads();
+    let (log, batches) = BatchLog::open_on(alloc, limits, disk)?;
+    let found = read_batches(alloc, limits, disk, batches.as_slice())?;
+    Ok((log, found))
+}
+
+// Reads the batches of a disk.
+fn read_batches<D: Disk>(
+    alloc: Global,
+    limits: &Limits,
+    disk: &mut D,
+    batches: &[Batch],
+) -> Result<Found, LogFault>
+    requires fits { All Fits batches.now }
+    ensures found { IfOk result (λ found. (payloads : List (List ℕ))
+        × IsFound (bounds_of limits.now) payloads found) }
+    ensures store { (D.state disk.old).told → (payloads : List (List ℕ))
+        → AreThere (D.state disk.old).reads batches.now payloads
+        → IfOk result (IsFound (bounds_of limits.now) payloads) }
+    ensures bad { (D.state disk.old).told → (payloads : List (List ℕ))
+        → AreThere (D.state disk.old).reads batches.now payloads
+        → (place : ℕ) → IsErrOf result (fault.BadStore place)
+        → StopsAt (bounds_of limits.now) batches.now payloads place }
+    ensures looks { OnlyLooks (D.state disk.old) (D.state disk.new) }
+    ensures uses { UsesDisk D.state D.faults D.spent disk.old disk.new
+        (IsErrOf result fault.StoreFault) }
+{
+    let mut reading = Reading::new(alloc);
+    for batch in batches {
+        let payload = read_payload(alloc, disk, *batch)?;
+        if !reading.take(alloc, limits, payload.as_slice())? {
+            return Err(LogFault::BadStore(batch.gate));
+        }
+    }
+    Ok(reading.finish(alloc, limits)?)
+}

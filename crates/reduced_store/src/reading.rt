@@ -1,0 +1,163 @@
+//! Reading a store, payload by payload.
+ghost use Rattle.std.specs.Prelude.{◌≡◌, ◌↔◌, ℕ, List, [], IfOk, IsTrue, MatchOption};
+ghost use Rattle.std.specs.Option.{option_map};
+ghost use Rattle.row_codec.specs.Payload.{IsPayload};
+ghost use Rattle.row_codec.specs.declared.rows.StoreRow.{StoreRow as ARow};
+ghost use Rattle.store_check.specs.Conditions.{bounds_of};
+ghost use Rattle.stored.specs.Words.{all_of};
+ghost use Rattle.reduced_store.specs.Reading.{IsChecked, IsChecker, IsOfOther, IsRead, HasRead, Further, IsFound};
+
+use crate::picking::{move_after, pick};
+use crate::rows::StoreRows;
+use flow_base::{Limits, List, NoMemory};
+use reach_model::Mode;
+use row_codec::{Payload, RowRead, StoreRow, payloads_are_apart, read_payload};
+use std::alloc::Global;
+use store_check::StoreCheck;
+
+/// The checker of the batches so far, and their mode.
+#[derive(Drop)]
+pub struct Checked {
+    pub mode: Mode,
+    pub check: StoreCheck,
+}
+
+/// What was read so far: the kept rows, the rows of tables, and the rows that close the last batch.
+#[derive(Drop)]
+pub struct Reading {
+    pub checked: Option<Checked>,
+    pub rows: StoreRows,
+    pub tables: List<StoreRow>,
+    pub closing: List<StoreRow>,
+}
+
+/// What a store holds: its mode, if it has a batch, its kept rows, and the others.
+#[derive(Drop)]
+pub struct Found {
+    pub mode: Option<Mode>,
+    pub rows: StoreRows,
+    pub others: List<StoreRow>,
+}
+
+impl Reading {
+    /// Before the first payload.
+    pub fn new(alloc: Global) -> Reading
+        ensures { (limits : _) → HasRead (bounds_of limits) [] result }
+    {
+        Reading {
+            checked: None,
+            rows: StoreRows::unjudged(alloc),
+            tables: List::new(alloc),
+            closing: List::new(alloc),
+        }
+    }
+
+    /// Reads the next payload, and says whether the payloads still make a store.
+    pub fn take(&mut self, alloc: Global, limits: &Limits, bytes: &[u8]) -> Result<bool, NoMemory>
+        requires { (payloads : List (List ℕ)) × HasRead (bounds_of limits.now) payloads self.old }
+        ensures { IfOk result (λ goes. (payloads : List (List ℕ))
+            → HasRead (bounds_of limits.now) payloads self.old
+            → Further goes (bounds_of limits.now) payloads bytes.now self.new) }
+    {
+        payloads_are_apart();
+        match read_payload(alloc, bytes) {
+            Ok(payload) => self.take_payload(alloc, limits, payload),
+            Err(RowRead::Malformed) => Ok(false),
+            Err(RowRead::NoMemory) => Err(NoMemory),
+        }
+    }
+
+    // Takes in what a payload says.
+    fn take_payload(
+        &mut self,
+        alloc: Global,
+        limits: &Limits,
+        payload: Payload,
+    ) -> Result<bool, NoMemory>
+        requires { (payloads : List (List ℕ)) × HasRead (bounds_of limits.now) payloads self.old }
+        ensures { IfOk result (λ goes. (payloads : List (List ℕ)) (bytes : List ℕ)
+            → HasRead (bounds_of limits.now) payloads self.old
+            → IsPayload payload.mode payload.rows bytes
+            → Further goes (bounds_of limits.now) payloads bytes self.new) }
+    {
+        payloads_are_apart();
+        let Payload { mode, rows } = payload;
+        let Some(check) = check_for(alloc, limits, self.checked.take(), mode) else {
+            return Ok(false);
+        };
+        let Some(check) = check.take(rows.as_slice())? else {
+            return Ok(false);
+        };
+        self.rows.take_rows(rows.as_slice())?;
+        self.checked = Some(Checked { mode, check });
+        self.closing = List::new(alloc);
+        pick(alloc, rows, &mut self.tables, &mut self.closing)?;
+        Ok(true)
+    }
+
+    /// What the store holds whose payloads were read.
+    pub fn finish(self, alloc: Global, limits: &Limits) -> Result<Found, NoMemory>
+        requires { (payloads : List (List ℕ)) × HasRead (bounds_of limits.now) payloads self }
+        ensures { IfOk result (λ found. (payloads : List (List ℕ))
+            → HasRead (bounds_of limits.now) payloads self
+            → IsFound (bounds_of limits.now) payloads found) }
+    {
+        let Reading {
+            checked,
+            mut rows,
+            mut tables,
+            closing,
+        } = self;
+        rows.judge(alloc)?;
+        move_after(alloc, closing, &mut tables)?;
+        let mode = mode_of(&checked);
+        Ok(Found {
+            mode,
+            rows,
+            others: tables,
+        })
+    }
+}
+
+// The mode of the batches so far.
+fn mode_of(checked: &Option<Checked>) -> Option<Mode>
+    ensures { result ≡ option_map (λ c. c.mode) checked.now }
+{
+    match checked {
+        None => None,
+        Some(checked) => Some(checked.mode),
+    }
+}
+
+// The checker for a batch of this mode after those so far, or none if they are of another mode.
+fn check_for(
+    alloc: Global,
+    limits: &Limits,
+    checked: Option<Checked>,
+    mode: Mode,
+) -> Option<StoreCheck>
+    ensures { (batches : List (List ARow)) (payloads : List (List ℕ))
+        → IsChecked (bounds_of limits.now) batches payloads checked
+        → MatchOption result (IsOfOther mode checked)
+        (λ check. IsRead (bounds_of limits.now) mode batches payloads
+        × IsChecker (bounds_of limits.now) mode (all_of batches) check) }
+{
+    match checked {
+        None => Some(StoreCheck::new(alloc, limits, mode)),
+        Some(checked) => {
+            let Checked { mode: kept, check } = checked;
+            if is_same(kept, mode) {
+                Some(check)
+            } else {
+                None
+            }
+        }
+    }
+}
+
+// Whether two modes are the same.
+fn is_same(kept: Mode, mode: Mode) -> bool
+    ensures { IsTrue result ↔ (kept ≡ mode) }
+{
+    kept == mode
+}
