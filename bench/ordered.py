@@ -1,0 +1,90 @@
+"""Checks the program `audit_order` over logs, apart from its proofs.
+
+    bench/ordered.py [LOG..]
+
+Of each log: the status is 0; the lines of the answer, with the marks of raised times undone, are the lines of the log and EOE lines, in some order;
+each of those EOE lines is of an event that has a call; and the times in the answer never fall. Without a LOG the checks go over the examples, over
+generated logs, and over logs that were made to be odd. Prints what isn't so, and ends with status 1 if there is any.
+"""
+import collections
+import re
+import subprocess
+import sys
+from pathlib import Path
+
+TOP = Path(__file__).resolve().parent.parent
+PROGRAM = TOP / 'crates/audit_order/out/audit_order'
+STAMP = re.compile(rb'^([^(]*msg=audit)\((\d{1,15}\.\d{3}):(\d{1,10})\)(.*)$', re.S)
+MARK = re.compile(rb'^(.*)\x1dWAS=\{ audit\(([0-9.]+):[0-9]+\) \}$', re.S)
+END = re.compile(rb'^(.*)type=EOE msg=audit\((\d+\.\d{3}):(\d+)\): $', re.S)
+
+ODD = {
+    'empty': b'',
+    'blank lines': b'\n\n \n',
+    'no line feed at the end': b'type=EOE msg=audit(1.000:1): ',
+    'two boots': b'type=SYSCALL msg=audit(900.000:9): arch=c000003e syscall=1\ntype=SYSCALL msg=audit(1000.000:1): arch=c000003e syscall=1\n',
+    'two nodes': b'node=a type=SYSCALL msg=audit(5.000:7): syscall=1\nnode=b type=SYSCALL msg=audit(5.000:7): syscall=1\n',
+    'marks of its own': b'type=PATH msg=audit(2.000:1): name="a"\x1dWAS={ audit(1.000:1) }\ntype=PATH msg=audit(1.000:2): name="b"\x1dUID="x"\n',
+    'malformed lines': b'\x00\xff\ntype=SYSCALL msg=audit(x:1)\n(((:)))\ntype=SYSCALL msg=audit(1.00:1): x\nmsg=audit(99999999999999999999.000:1)\n',
+    'a time far ahead': b'type=PATH msg=audit(999999999999999.999:1): a\ntype=PATH msg=audit(1.000:2): b\n',
+}
+
+
+def undone(line):
+    """A line as it was before its time was raised."""
+    stamp = STAMP.match(line)
+    mark = stamp and MARK.match(stamp[4])
+    return line if not mark else stamp[1] + b'(' + mark[2] + b':' + stamp[3] + b')' + mark[1]
+
+
+def lines_of(text):
+    lines = text.split(b'\n')
+    return lines if lines[-1] else lines[:-1]
+
+
+def faults_of(log):
+    """What isn't as it is to be of the answer over the bytes of a log."""
+    ran = subprocess.run([PROGRAM], input=log, stdout=subprocess.PIPE, stderr=subprocess.PIPE)
+    if ran.returncode or ran.stderr:
+        yield f'status {ran.returncode}, {ran.stderr!r}'
+    written = lines_of(ran.stdout)
+    left = collections.Counter(map(undone, written))
+    left.subtract(lines_of(log))
+    for line, count in left.items():
+        if count < 0:
+            yield f'lost: {line!r}'
+        elif count and not END.match(line):
+            yield f'made up: {line!r}'
+    calls = {stamp[2] + stamp[3] for line in lines_of(log) if (stamp := STAMP.match(line)) and stamp[1].endswith(b'type=SYSCALL msg=audit')}
+    for line in (+left).elements():
+        end = END.match(line)
+        if end and end[2] + end[3] not in calls:
+            yield f'an end of no call: {line!r}'
+    greatest = 0
+    for line in written:
+        stamp = STAMP.match(line)
+        if stamp:
+            time = int(stamp[2].replace(b'.', b''))
+            if time < greatest:
+                yield f'a time that falls: {line!r}'
+            greatest = max(greatest, time)
+
+
+def generated(seed):
+    """A log of which some lines stand out of order."""
+    made = [sys.executable, TOP / 'bench/make_log.py', str(seed), '300', '--mix']
+    return subprocess.run(made, stdout=subprocess.PIPE, check=True).stdout
+
+
+def main(names):
+    logs = {name: Path(name).read_bytes() for name in names} if names else {
+        **ODD, **{path.name: path.read_bytes() for path in sorted((TOP / 'examples').glob('*.log'))},
+        **{f'generated log {seed}': generated(seed) for seed in range(1, 21)}}
+    faults = [(name, fault) for name, log in logs.items() for fault in faults_of(log)]
+    for name, fault in faults[:20]:
+        print(f'{name}: {fault}')
+    return 1 if faults else 0
+
+
+if __name__ == '__main__':
+    sys.exit(main(sys.argv[1:]))
