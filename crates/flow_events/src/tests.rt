@@ -3,7 +3,6 @@
 ghost use Rattle.std.specs.Prelude.{◌≡◌, ⊤};
 ghost use Rattle.acts.specs.LookBack.{opens};
 
-use crate::filled::Filled;
 use crate::parts::newest_first;
 use crate::{PrepareFault, Tables};
 use How::{Alter, Exec, Fork, Make, Read, Write};
@@ -725,67 +724,43 @@ fn life_of(number: u64) -> Life {
     }
 }
 
-fn pipe_at(pid: u32, fd: u32, act: u64) -> StoreRow {
-    let held = Held {
-        object: Object::Pipe(act),
-        cloexec: false,
-    };
-    StoreRow::Held {
-        pid,
-        fd,
-        held: Some(held),
-    }
-}
-
-fn is_pipe(filled: &Filled, pid: u32, fd: u32, act: u64) -> bool {
-    match filled.fds.held(pid, fd) {
-        Some(Object::Pipe(made)) => *made == act,
-        _ => false,
-    }
-}
-
-// Descriptor 3 of pid 101 is of a life before the last one.
+// A row of each kind that says something of the tables, but for Entity rows.
 #[test]
-fn rows_of_each_kind_are_taken(rt: HostRuntime) -> Result<(), Fail> {
+fn tables_are_made_again_of_rows(rt: HostRuntime) -> Result<(), Fail> {
     let alloc = rt.alloc();
-    let mut filled = Filled::new(alloc, &Limits::standard());
     let key = Key::Process { pid: 100, life: 0 };
     let text = Bytes::from_slice(alloc, b"/p".as_slice())?;
     let bytes = Bytes::from_slice(alloc, b"here".as_slice())?;
-    filled.fill(&StoreRow::Name { key, text })?;
-    for (pid, life) in [(100, 0), (101, 0)] {
-        filled.fill(&StoreRow::Life {
-            pid,
-            life: life_of(life),
-        })?;
-        filled.fill(&pipe_at(pid, 3, 2))?;
-    }
-    for (pid, life) in [(100, 0), (101, 1)] {
-        filled.fill(&StoreRow::Life {
-            pid,
-            life: life_of(life),
-        })?;
-    }
-    filled.fill(&StoreRow::Address { act: 5, bytes })?;
-    for born in [1, 2] {
-        filled.fill(&StoreRow::Born {
+    let held = Held {
+        object: Object::Pipe(2),
+        cloexec: false,
+    };
+    let rows = [
+        StoreRow::Name { key, text },
+        StoreRow::Life {
+            pid: 100,
+            life: life_of(0),
+        },
+        StoreRow::Held {
+            pid: 100,
+            fd: 3,
+            held: Some(held),
+        },
+        StoreRow::Address { act: 5, bytes },
+        StoreRow::Born {
             file: file(7),
-            born,
-        })?;
-    }
-    filled.fill(&StoreRow::State(state(alloc, 3, 9)))?;
-    assert!(rt; is_pipe(&filled, 100, 3, 2));
-    assert!(rt; filled.fds.held(101, 3).is_none());
-    assert!(rt; filled.procs.at(101) == Some(&life_of(1)));
-    assert!(rt; filled.fds.address(5).is_some());
-    assert!(rt; filled.fds.address(4).is_none());
-    assert_eq!(rt; filled.births.count(file(7)), 2);
+            born: 2,
+        },
+        StoreRow::State(state(alloc, 3, 9)),
+    ];
+    let tables = Tables::restore(alloc, &Limits::standard(), rows.as_slice())?;
+    assert_eq!(rt; tables.flows(), 3);
+    assert_eq!(rt; tables.acts(), 9);
+    assert_eq!(rt; tables.entities().count(), 0);
     assert!(rt;
-        filled
-            .entities
+        tables
+            .entities()
             .has_name(&Key::Process { pid: 100, life: 0 }, b"/p".as_slice())
     );
-    assert_eq!(rt; filled.flows, 3);
-    assert_eq!(rt; filled.acts, 9);
     Ok(())
 }
