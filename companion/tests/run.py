@@ -1,5 +1,5 @@
 #!/usr/bin/env python3
-"""The tests of autrail, over the built program.
+"""The tests of autrail and of the scripts that build the programs, over the built programs.
 
     companion/tests/run.py [--program WORDS] [NAME..]
 
@@ -14,6 +14,7 @@ import contextlib
 import gzip
 import importlib.machinery
 import importlib.util
+import itertools
 import json
 import lzma
 import os
@@ -866,6 +867,80 @@ class Rules(unittest.TestCase):
         self.assertGreater(len(rules), 15)
         for rule in rules:
             self.assertEqual(said(rule), said_of_a_good_rule, rule)
+
+
+RT = """#!/bin/sh
+# Stands for the kit's command: says what it was asked, and builds a program that says its words and ends with status 3.
+echo "$(basename "$PWD"): $*" >>"$ASKED"
+[ "$1" = all ] && { echo '== a_crate'; sleep 1; exit "${PROVED:-0}"; }
+name=$(basename "$PWD")
+mkdir -p out
+printf '#!/bin/sh\\necho %s: "$@"\\nexit 3\\n' "$name" >"out/$name"
+chmod +x "out/$name"
+"""
+
+
+class Scripts(Scratch):
+    """The scripts that build a program and run it, in a copy of the repository without its code, and a command in place of the kit's."""
+
+    def setUp(self) -> None:
+        super().setUp()
+        self.top, self.said = self.folder / 'top', self.folder / 'said'
+        for name in ('audit_cli', 'audit_order'):
+            (self.top / 'crates' / name).mkdir(parents=True)
+            shutil.copy(TOP / name, self.top / name)
+        (self.top / '.ci').mkdir()
+        for name in ('.ci/state', '.ci/built_program', 'crates.txt', 'HANDLES'):
+            shutil.copy(TOP / name, self.top / name)
+        (self.folder / 'rt').write_text(RT)
+        (self.folder / 'rt').chmod(0o755)
+
+    def start(self, *words: str, **more: str) -> subprocess.Popen[bytes]:
+        there = {'PATH': f'{self.folder}:{os.environ["PATH"]}', 'ASKED': str(self.said), **more}
+        return subprocess.Popen([self.top / words[0], *words[1:]], stdin=subprocess.DEVNULL, stdout=subprocess.PIPE, stderr=subprocess.PIPE, env={**os.environ, **there})
+
+    def ended(self, child: subprocess.Popen[bytes]) -> tuple[int, str, list[str]]:
+        out, err = (it.decode() for it in child.communicate(timeout=60))
+        return child.returncode, out, err.splitlines()
+
+    def asked(self) -> list[str]:
+        return re.sub(r'--jobs \d+', '--jobs N', self.said.read_text()).splitlines()
+
+    def test_a_program_is_built_once_until_the_code_changes(self) -> None:
+        status, out, err = self.ended(self.start('audit_cli', 'back', '2'))
+        self.assertEqual((status, out), (3, 'audit_cli: back 2\n'))
+        self.assertIn('proving and building the program', err[0])
+        self.assertRegex(err[1], r'^audit_cli: a_crate is done after \d+ seconds$')
+        self.assertEqual(self.asked(), ['top: all check --jobs N', 'audit_cli: run -- back 0'])
+        self.assertEqual(self.ended(self.start('audit_cli', 'x y')), (3, 'audit_cli: x y\n', []))
+        self.assertEqual(len(self.asked()), 2)
+        (self.top / 'crates' / 'audit_cli' / 'code').write_text('changed')
+        self.assertEqual(self.ended(self.start('audit_cli'))[:2], (3, 'audit_cli:\n'))
+        self.assertEqual(len(self.asked()), 4)
+
+    def test_two_programs_are_built_one_after_the_other(self) -> None:
+        if not shutil.which('flock'):
+            self.skipTest('flock (util-linux) is not on this machine')
+        both = [self.start(it) for it in ('audit_cli', 'audit_order')]
+        self.assertEqual([self.ended(it)[:2] for it in both], [(3, 'audit_cli:\n'), (3, 'audit_order:\n')])
+        self.assertIn(self.asked(), [[*one, *other] for one, other in itertools.permutations(
+            (['top: all check --jobs N', 'audit_cli: run -- back 0'], ['top: all check --jobs N', 'audit_order: run']))])
+
+    def test_what_is_not_proved_is_not_built(self) -> None:
+        for name in ('audit_cli', 'audit_order'):
+            status, out, err = self.ended(self.start(name, PROVED='1'))
+            self.assertEqual((status, out), (126, ''))
+            self.assertTrue(err[-1].startswith(f'{name}: the program was not proved, so it was not built; the whole log is in '), err)
+            Path(err[-1].split()[-1]).unlink()
+
+    def test_without_the_kit_it_says_so(self) -> None:
+        tools = self.folder / 'tools'
+        tools.mkdir()
+        for tool in ('env', 'bash', 'dirname', 'find', 'sort', 'xargs', 'sha256sum'):
+            (tools / tool).symlink_to(shutil.which(tool))
+        for name in ('audit_cli', 'audit_order'):
+            status, out, err = self.ended(self.start(name, PATH=str(tools)))
+            self.assertEqual((status, out, err), (127, '', [f"{name}: the Rattle kit's command rt isn't on the PATH, and the program must be proved before it is built"]))
 
 
 class Installed(Scratch):
