@@ -12,7 +12,7 @@ _autrail() {
         --at | --since) mapfile -t COMPREPLY < <(compgen -W "$times" -- "$word"); return ;;
         --program) mapfile -t COMPREPLY < <(compgen -c -- "$word"); return ;;
     esac
-    local options='-if -m -q --program --help'
+    local options='-if -m -q --order --no-order --program --help'
     case $command in
         '') options="back fore why find show stat ask rules $options --version" ;;
         back) options="$options --at -a --hide --each --paths --tree --json --dot --svg --png" ;;

@@ -1,10 +1,10 @@
 #!/usr/bin/env python3
-"""The tests of autrail, over the built program.
+"""The tests of autrail and of the scripts that build the programs, over the built programs.
 
     companion/tests/run.py [--program WORDS] [NAME..]
 
 WORDS is the program (what ./audit_cli at the top has built, which is run first for it). Checks that need graphviz, tmux, auditctl, unshare or
-scdoc are skipped on a machine without them, and say so.
+scdoc are skipped on a machine without them, and say so; so are those of --order if audit_order isn't built.
 """
 from __future__ import annotations
 
@@ -14,6 +14,7 @@ import contextlib
 import gzip
 import importlib.machinery
 import importlib.util
+import itertools
 import json
 import lzma
 import os
@@ -37,6 +38,8 @@ AUTRAIL = HERE.parent / 'autrail'
 EXAMPLE = TOP / 'examples' / 'web1_sample.log'
 SCRIPT = TOP / 'audit_cli'
 BUILT = TOP / 'crates' / 'audit_cli' / 'out' / 'audit_cli'
+ORDER = TOP / 'crates' / 'audit_order' / 'out' / 'audit_order'
+WAITED = TOP / 'examples' / 'waited_read.log'
 PROGRAM = str(SCRIPT)
 ADMIN_FOLDERS = os.environ['PATH'] + ':/usr/sbin:/sbin'
 TREES = {'received': 'back /srv/evil/received.tar --tree', 'port4445': 'back 127.0.0.1:4445 --tree', 'customers': 'fore /customers.csv --tree'}
@@ -54,7 +57,7 @@ def module():
 
 
 def environment(**more: str) -> dict[str, str]:
-    return {**os.environ, 'AUDIT_CLI': PROGRAM, 'TZ': 'UTC', 'LC_ALL': 'C.UTF-8', 'PYTHONDONTWRITEBYTECODE': '1', **more}
+    return {**os.environ, 'AUDIT_CLI': PROGRAM, 'AUDIT_ORDER': shlex.quote(str(ORDER)), 'TZ': 'UTC', 'LC_ALL': 'C.UTF-8', 'PYTHONDONTWRITEBYTECODE': '1', **more}
 
 
 def run(*words: str | bytes | Path, stdin: str | bytes = '', **more: str) -> subprocess.CompletedProcess[bytes]:
@@ -377,6 +380,191 @@ class Fitness(Scratch):
         self.assertNotIn('arguments', said[1]['read_from_log'])
 
 
+def ordered(log: Path | str, *words: str, **more: str) -> tuple[int, str]:
+    """The status and the answer over a log in the order of effects, without warnings."""
+    done = run('-q', '--order', '-if', str(log), *words, **more)
+    return done.returncode, done.stdout.decode()
+
+
+class Ordered(Scratch):
+    """Logs in the order of effects."""
+
+    def setUp(self) -> None:
+        super().setUp()
+        if not os.access(ORDER, os.X_OK):
+            self.skipTest('audit_order is not built (./audit_order </dev/null builds it)')
+
+    def program(self, text: str) -> str:
+        """A program in place of audit_order."""
+        file = self.log('#!/bin/sh\n' + text + '\n', 'order program')
+        file.chmod(0o755)
+        return shlex.quote(str(file))
+
+    def test_the_answers_are_those_of_the_two_programs(self) -> None:
+        sorted_log = self.log(subprocess.run([ORDER], input=EXAMPLE.read_bytes(), stdout=subprocess.PIPE, check=True).stdout, 'ordered.log')
+        for words in ('back 127.0.0.1:4445 --json', 'fore /customers.csv --tree', 'back /srv/evil/received.tar -a', 'find *'):
+            with self.subTest(words):
+                self.assertEqual(ordered(EXAMPLE, *words.split()), (0, asked(sorted_log, words)))
+        counts = json.loads(ordered(EXAMPLE, 'stat', '--json')[1])
+        by_hand = subprocess.run([*shlex.split(PROGRAM), 'watch', 'plain', sorted_log], input=b'take 1000000\nsettle\nstat\nend\n', stdout=subprocess.PIPE, check=True)
+        self.assertEqual(json.loads(by_hand.stdout.splitlines()[2]), {it: counts[it] for it in counts if it not in ('order', 'warnings', 'least', 'greatest', 'files')})
+        self.assertEqual(counts['order'], 'effects')
+
+    def test_a_read_that_waited_is_fed_by_the_write(self) -> None:
+        """The write, serial 109, is at .308. The read was entered at .044, and its event is whole before that of the write."""
+        question = ('why', '/home/alice/plan.txt', '/tmp/copy.txt', '--json')
+        for words in ((), ('--no-order',), ('--order', '--no-order')):
+            done = run('-q', *words, '-if', WAITED, *question)
+            self.assertEqual((done.returncode, done.stdout), (1, b''))
+            self.assertNotIn(b'order of effects', done.stderr)
+        status, answer = ordered(WAITED, *question)
+        self.assertEqual(status, 0)
+        self.assertEqual([(it['serial'], it['how'], it['at'], it.get('recorded_at')) for it in map(json.loads, answer.splitlines())],
+                         [(108, 'read', '1780992001.304', None), (109, 'write', '1780992001.308', None), (110, 'read', '1780992001.308', '1780992001.044'),
+                          (112, 'write', '1780992001.316', None)])
+
+    def test_a_write_that_was_recorded_after_the_read_feeds_it(self) -> None:
+        """As the write of serial 1148 in the example: it was entered before the read (at .000 of second 13), and returned after it."""
+        name = '"/run/pipe"'
+        text = opened_and(0, '"/in"', 7, 1, pid=200) + call(4, 257, 200, exit=4) + path(4, name, 9) + call(5, 257, 300, exit=4) + path(5, name, 9)
+        text += ''.join(it + f'type=EOE msg=audit(17809920{second}.000:{serial}): \n' for serial, second, it in (
+            (20, 14, call(20, 0, 300, at=1780992014, a0='4')), (21, 13, call(21, 1, 200, at=1780992013, a0='4'))))
+        log = self.log(text)
+        self.assertEqual(run('-q', '-if', log, 'why', '/in', 'pid:300').returncode, 1)
+        status, answer = ordered(log, 'why', '/in', 'pid:300', '--json')
+        self.assertEqual((status, [json.loads(it)['serial'] for it in answer.splitlines()]), (0, [2, 21, 20]))
+
+    def test_the_lines_are_those_of_the_log(self) -> None:
+        lines = WAITED.read_text().splitlines()
+        of_the_log = ['      ' + it for serial in (108, 109, 110, 112) for it in lines if f':{serial})' in it]
+        text = ordered(WAITED, 'why', '/home/alice/plan.txt', '/tmp/copy.txt', '--lines')[1]
+        self.assertEqual([it for it in text.splitlines() if it.startswith(' ')], of_the_log)
+        said = [it for it in text.splitlines() if 'recorded as' in it]
+        self.assertEqual(said, ['2026-06-09 08:00:01.308       110  read   /run/relay  #6  →  relay[501]  #1  (recorded as 2026-06-09 08:00:01.044)'])
+
+    def test_a_log_that_was_ordered_before_says_when_it_was_recorded(self) -> None:
+        sorted_log = self.log(subprocess.run([ORDER], input=WAITED.read_bytes(), stdout=subprocess.PIPE, check=True).stdout, 'ordered.log')
+        for more in ((), ('--order',)):
+            text = run('-q', *more, '-if', sorted_log, 'why', '/home/alice/plan.txt', '/tmp/copy.txt', '--lines').stdout.decode()
+            self.assertEqual(text.count('(recorded as 2026-06-09 08:00:01.044)'), 1)
+            self.assertEqual(text.count('audit(1780992001.308:110)'), 2)
+            self.assertNotIn('WAS=', text)
+
+    def test_the_order_is_told_before_an_answer(self) -> None:
+        done = run('--order', '-if', WAITED, 'find', 'plan.txt')
+        self.assertRegex(done.stderr.decode(), r"(?m)^autrail: warning: in the order of effects a read of a regular file may count too late")
+        self.assertTrue(done.stderr.endswith(b'autrail: in the order of effects\n'))
+        self.assertEqual(run('-q', '--order', '-if', WAITED, 'find', 'plan.txt').stderr, b'autrail: in the order of effects\n')
+        self.assertIn('label="autrail back /tmp/copy.txt: in the order of effects; one path', ordered(WAITED, 'back', '/tmp/copy.txt', '--dot')[1])
+        done = run('-q', '--order', '-if', WAITED, 'ask', stdin='why plan.txt copy.txt\nback x --order\nback x --no-order\n')
+        self.assertEqual((done.returncode, done.stdout.count(b'recorded as'), done.stderr.count(b'stand before ask')), (0, 1, 2))
+
+    def test_a_time_far_ahead_is_told(self) -> None:
+        """Reads after it count at the end of the log, with what their process does then."""
+        log = self.log(call(1, 0, at=33000000000) + opened_and(0, '"/a"', 7, 2) + opened_and(1, '"/b"', 8, 4, 'CREATE'))
+        done = run('--order', '-if', log, 'why', '/a', '/b', '--json')
+        self.assertRegex(done.stderr, rb'warning: the log goes back in time, from 3015-.*: if the first is a wrong time, later reads count at the end of the log')
+        self.assertEqual([(it['at'], it['recorded_at']) for it in map(json.loads, done.stdout.splitlines())],
+                         [('33000000000.000', '1780992003.000'), ('33000000000.000', '1780992005.000')])
+
+    def test_malformed_lines_are_numbered_as_ordered(self) -> None:
+        self.assertIn('malformed lines, as they are numbered when ordered: ', ordered(self.log(WAITED.read_text() + 'garbage\n'), 'stat')[1])
+
+    def test_a_long_log_goes_through_pipes(self) -> None:
+        """Packed, in three files of which one has no line feed at its end, and longer than what the pipes hold."""
+        text = subprocess.run([sys.executable, TOP / 'bench' / 'repeat_log.py', EXAMPLE, '6000000'], capture_output=True, check=True).stdout
+        lines = text.splitlines(keepends=True)
+        third = len(lines) // 3
+        (self.folder / 'audit.log.2.gz').write_bytes(gzip.compress(b''.join(lines[:third])[:-1]))
+        (self.folder / 'audit.log.1.xz').write_bytes(lzma.compress(b''.join(lines[third:2 * third])))
+        (self.folder / 'audit.log').write_bytes(b''.join(lines[2 * third:]))
+        counts = json.loads(ordered(self.folder, 'stat', '--json')[1])
+        self.assertGreaterEqual(counts['lines'], len(lines))
+        self.assertEqual((counts['late'], counts['malformed']), (0, 0))
+        self.assertFalse(list(Path(tempfile.gettempdir()).glob('autrail-*')))
+
+    def test_a_program_that_fails_gives_no_answer(self) -> None:
+        long = self.log(EXAMPLE.read_bytes() * 20, 'long.log')
+        cases = [(EXAMPLE, 'cat; echo no room >&2; exit 3', 3, 'audit_order ended with status 3'), (long, 'head -c 1000; exit 5', 5, 'status 5'),
+                 (EXAMPLE, 'kill -9 $$', 137, 'status -9'), (long, 'head -n 500', 4, 'ended with status 0 before it had ordered the log'),
+                 (EXAMPLE, 'cat; exit 1', 4, 'ended with status 1')]
+        for log, text, status, want in cases:
+            for words in (('stat', '--json'), ('why', '/customers.csv', '/tmp/.loot.tar')):
+                with self.subTest(text):
+                    done = run('-q', '--order', '-if', log, *words, AUDIT_ORDER=self.program(text))
+                    self.assertEqual((done.returncode, done.stdout), (status, b''), done.stderr)
+                    self.assertIn(want, done.stderr.decode())
+                    self.assertIn('nothing is answered', done.stderr.decode())
+        self.assertIn('audit_order says: no room', run('--order', '-if', EXAMPLE, 'stat', AUDIT_ORDER=self.program('echo no room >&2; exit 3')).stderr.decode())
+
+    def test_faults_of_the_log_and_of_the_program_behind_are_their_own(self) -> None:
+        (self.folder / 'audit.log.1.gz').write_bytes(gzip.compress(EXAMPLE.read_bytes())[:-20])
+        (self.folder / 'audit.log').write_bytes(EXAMPLE.read_bytes())
+        done = run('-q', '--order', '-if', self.folder, 'stat')
+        self.assertEqual((done.returncode, done.stdout), (4, b''))
+        self.assertIn(b'audit.log.1.gz', done.stderr)
+        done = run('-q', '--order', '-if', self.log(EXAMPLE.read_bytes() * 20, 'long.log'), 'stat', AUDIT_CLI="sh -c 'exit 9'")
+        self.assertEqual((done.returncode, done.stdout), (9, b''))
+        self.assertIn(b'the program ended with status 9', done.stderr)
+
+    def test_both_programs_end_with_autrail(self) -> None:
+        pids = self.folder / 'pids'
+        waits = self.log(f'#!/bin/sh\necho $$ >>{shlex.quote(str(pids))}\nexec sleep 60\n', 'waits')
+        waits.chmod(0o755)
+        slow = shlex.quote(str(waits))
+        child = subprocess.Popen([AUTRAIL, '--order', '-if', EXAMPLE, 'stat'], stderr=subprocess.DEVNULL, preexec_fn=lambda: signal.signal(signal.SIGINT, signal.SIG_DFL),
+                                 env=environment(AUDIT_CLI=slow, AUDIT_ORDER=slow))
+        for _ in range(200):
+            if pids.exists() and len(pids.read_text().split()) == 2:
+                break
+            time.sleep(0.05)
+        time.sleep(0.5)
+        child.send_signal(signal.SIGINT)
+        self.assertEqual(child.wait(30), 130)
+        for pid in pids.read_text().split():
+            with self.assertRaises(ProcessLookupError):
+                os.kill(int(pid), 0)
+
+
+class FindsOrder(Scratch):
+    """Where autrail looks for audit_order."""
+
+    def folder_with(self, *places: str) -> Path:
+        """A copy of autrail without a program on the PATH, and programs at these places beside it."""
+        top = self.folder / 'top'
+        (top / 'bin').mkdir(parents=True)
+        shutil.copy(AUTRAIL, top / 'bin' / 'autrail')
+        (self.folder / 'python3').symlink_to(sys.executable)
+        for tool in ('env', 'sh', 'cat'):
+            (self.folder / tool).symlink_to(shutil.which(tool))
+        for place in places:
+            (top / place).write_text('#!/bin/sh\necho from here >&2\nexit 7\n')
+            (top / place).chmod(0o755)
+        return top / 'bin' / 'autrail'
+
+    def asked(self, autrail: Path, **more: str) -> subprocess.CompletedProcess[bytes]:
+        return subprocess.run([autrail, '--order', '-if', EXAMPLE, 'stat'], capture_output=True, env=environment(AUDIT_ORDER='', PATH=str(self.folder), **more), check=False)
+
+    def test_without_it_autrail_says_how_to_build_it(self) -> None:
+        done = self.asked(self.folder_with())
+        self.assertEqual((done.returncode, done.stdout, done.stderr.count(b'\n')), (2, b'', 1))
+        self.assertIn(b'"./audit_order </dev/null" builds it', done.stderr)
+
+    def test_it_is_found_beside_autrail_or_above(self) -> None:
+        for place in ('bin/audit_order', 'audit_order'):
+            done = self.asked(self.folder_with(place))
+            self.assertEqual((done.returncode, done.stdout), (7, b''))
+            self.assertIn(b'audit_order says: from here', done.stderr)
+            shutil.rmtree(self.folder)
+            self.folder.mkdir()
+
+    def test_words_that_are_not_words(self) -> None:
+        for words, want in (("'", b'correct AUDIT_ORDER'), ('/no/such', b"doesn't start")):
+            done = run('--order', '-if', EXAMPLE, 'stat', AUDIT_ORDER=words)
+            self.assertEqual((done.returncode, done.stdout), (2, b''))
+            self.assertIn(want, done.stderr)
+
+
 ZONES = {
     # 2026-06-09 08:01:00 in each zone, and words that are read on that day at 12:30:45.
     'UTC': {'06/09/2026 08:01:00': 1780992060, 'now': 1781008245, 'recent': 1781007645, 'today': 1780963200, 'yesterday': 1780876800, 'this-week': 1780790400,
@@ -446,7 +634,7 @@ class Words(Scratch):
     def test_wrong_words_give_one_line(self) -> None:
         wrong = ['', 'frob', 'back', 'fore', 'why a', 'find', 'show', 'stat x', 'ask x', 'rules x', 'back x y', 'back x --at', 'back x --at soon', 'fore x --since 25:00',
                  'back x --since today', 'back x --tree --dot', 'back x --svg x.png', 'back x --png x.svg', '-m fast stat', '--no-such stat', '-if', 'why a b --at never',
-                 '-if - ask', 'back x --paths 0', 'back x --paths many', 'show x --frob', 'find x --tree', 'rules --json']
+                 '-if - ask', 'back x --paths 0', 'back x --paths many', '--order', '--order=1 stat', 'rules --order=1', 'show x --frob', 'find x --tree', 'rules --json']
         for words in wrong:
             with self.subTest(words), self.assertRaises(self.autrail.Refused) as refused:
                 self.autrail.run(shlex.split(words))
@@ -681,20 +869,102 @@ class Rules(unittest.TestCase):
             self.assertEqual(said(rule), said_of_a_good_rule, rule)
 
 
+RT = """#!/bin/sh
+# Stands for the kit's command: says what it was asked, and builds a program that says its words and ends with status 3.
+echo "$(basename "$PWD"): $*" >>"$ASKED"
+[ "$1" = all ] && { echo '== a_crate'; sleep 1; exit "${PROVED:-0}"; }
+name=$(basename "$PWD")
+mkdir -p out
+printf '#!/bin/sh\\necho %s: "$@"\\nexit 3\\n' "$name" >"out/$name"
+chmod +x "out/$name"
+"""
+
+
+class Scripts(Scratch):
+    """The scripts that build a program and run it, in a copy of the repository without its code, and a command in place of the kit's."""
+
+    def setUp(self) -> None:
+        super().setUp()
+        self.top, self.said = self.folder / 'top', self.folder / 'said'
+        for name in ('audit_cli', 'audit_order'):
+            (self.top / 'crates' / name).mkdir(parents=True)
+            shutil.copy(TOP / name, self.top / name)
+        (self.top / '.ci').mkdir()
+        for name in ('.ci/state', '.ci/built_program', 'crates.txt', 'HANDLES'):
+            shutil.copy(TOP / name, self.top / name)
+        (self.folder / 'rt').write_text(RT)
+        (self.folder / 'rt').chmod(0o755)
+
+    def start(self, *words: str, **more: str) -> subprocess.Popen[bytes]:
+        there = {'PATH': f'{self.folder}:{os.environ["PATH"]}', 'ASKED': str(self.said), **more}
+        return subprocess.Popen([self.top / words[0], *words[1:]], stdin=subprocess.DEVNULL, stdout=subprocess.PIPE, stderr=subprocess.PIPE, env={**os.environ, **there})
+
+    def ended(self, child: subprocess.Popen[bytes]) -> tuple[int, str, list[str]]:
+        out, err = (it.decode() for it in child.communicate(timeout=60))
+        return child.returncode, out, err.splitlines()
+
+    def asked(self) -> list[str]:
+        return re.sub(r'--jobs \d+', '--jobs N', self.said.read_text()).splitlines()
+
+    def test_a_program_is_built_once_until_the_code_changes(self) -> None:
+        status, out, err = self.ended(self.start('audit_cli', 'back', '2'))
+        self.assertEqual((status, out), (3, 'audit_cli: back 2\n'))
+        self.assertIn('proving and building the program', err[0])
+        self.assertRegex(err[1], r'^audit_cli: a_crate is done after \d+ seconds$')
+        self.assertEqual(self.asked(), ['top: all check --jobs N', 'audit_cli: run -- back 0'])
+        self.assertEqual(self.ended(self.start('audit_cli', 'x y')), (3, 'audit_cli: x y\n', []))
+        self.assertEqual(len(self.asked()), 2)
+        (self.top / 'crates' / 'audit_cli' / 'code').write_text('changed')
+        self.assertEqual(self.ended(self.start('audit_cli'))[:2], (3, 'audit_cli:\n'))
+        self.assertEqual(len(self.asked()), 4)
+
+    def test_two_programs_are_built_one_after_the_other(self) -> None:
+        if not shutil.which('flock'):
+            self.skipTest('flock (util-linux) is not on this machine')
+        both = [self.start(it) for it in ('audit_cli', 'audit_order')]
+        self.assertEqual([self.ended(it)[:2] for it in both], [(3, 'audit_cli:\n'), (3, 'audit_order:\n')])
+        self.assertIn(self.asked(), [[*one, *other] for one, other in itertools.permutations(
+            (['top: all check --jobs N', 'audit_cli: run -- back 0'], ['top: all check --jobs N', 'audit_order: run']))])
+
+    def test_what_is_not_proved_is_not_built(self) -> None:
+        for name in ('audit_cli', 'audit_order'):
+            status, out, err = self.ended(self.start(name, PROVED='1'))
+            self.assertEqual((status, out), (126, ''))
+            self.assertTrue(err[-1].startswith(f'{name}: the program was not proved, so it was not built; the whole log is in '), err)
+            Path(err[-1].split()[-1]).unlink()
+
+    def test_without_the_kit_it_says_so(self) -> None:
+        tools = self.folder / 'tools'
+        tools.mkdir()
+        for tool in ('env', 'bash', 'dirname', 'find', 'sort', 'xargs', 'sha256sum'):
+            (tools / tool).symlink_to(shutil.which(tool))
+        for name in ('audit_cli', 'audit_order'):
+            status, out, err = self.ended(self.start(name, PATH=str(tools)))
+            self.assertEqual((status, out, err), (127, '', [f"{name}: the Rattle kit's command rt isn't on the PATH, and the program must be proved before it is built"]))
+
+
 class Installed(Scratch):
     def test_make_install(self) -> None:
         if not shutil.which('make'):
             self.skipTest('make is not on this machine')
         program = self.log('#!/bin/sh\nexit 7\n', 'program')
         program.chmod(0o755)
-        done = subprocess.run(['make', '-s', 'install', f'PREFIX={self.folder}/usr', f'PROGRAM={program}'], cwd=TOP, capture_output=True, check=False)
-        self.assertEqual(done.returncode, 0, done.stderr)
-        there = sorted(str(it.relative_to(self.folder / 'usr')) for it in (self.folder / 'usr').rglob('*') if it.is_file())
-        self.assertEqual(there, ['bin/audit_cli', 'bin/autrail', 'lib/kitrevasu/audit_cli', 'share/autrail/kitrevasu.rules', 'share/bash-completion/completions/autrail',
-                                 'share/man/man1/autrail.1', 'share/zsh/site-functions/_autrail'])
+        order = self.log('#!/bin/sh\nexit 8\n', 'order')
+        order.chmod(0o755)
+        of_both = {'bin/audit_cli', 'bin/autrail', 'lib/kitrevasu/audit_cli', 'share/autrail/kitrevasu.rules', 'share/bash-completion/completions/autrail',
+                   'share/man/man1/autrail.1', 'share/zsh/site-functions/_autrail'}
+        for second, more in ((self.folder / 'none', set()), (order, {'bin/audit_order', 'lib/kitrevasu/audit_order'})):
+            done = subprocess.run(['make', '-s', 'install', f'PREFIX={self.folder}/usr', f'PROGRAM={program}', f'ORDER={second}'], cwd=TOP, capture_output=True, check=False)
+            self.assertEqual(done.returncode, 0, done.stderr)
+            self.assertEqual(b'./audit_order </dev/null builds it' in done.stdout, not more)
+            there = {str(it.relative_to(self.folder / 'usr')) for it in (self.folder / 'usr').rglob('*') if it.is_file()}
+            self.assertEqual(there, of_both | more)
         installed = self.folder / 'usr' / 'bin' / 'autrail'
         self.assertEqual(subprocess.run([installed, 'rules'], capture_output=True, check=False).stdout, (HERE.parent / 'kitrevasu.rules').read_bytes())
         self.assertEqual(subprocess.run([self.folder / 'usr' / 'bin' / 'audit_cli'], check=False).returncode, 7)
+        # The companion finds the second program beside itself.
+        done = subprocess.run([installed, '--order', '-if', EXAMPLE, 'stat'], capture_output=True, env=environment(AUDIT_ORDER=''), check=False)
+        self.assertEqual((done.returncode, done.stdout), (8, b''))
 
     def test_the_man_page_is_built_of_its_source(self) -> None:
         if not shutil.which('scdoc'):
@@ -716,7 +986,7 @@ class Installed(Scratch):
         if not shutil.which('bash'):
             self.skipTest('bash is not on this machine')
         script = 'source companion/autrail.bash; COMP_WORDS=(autrail "$@"); COMP_CWORD=$#; _autrail; printf "%s\\n" "${COMPREPLY[@]}"'
-        for words, want in ((['ba'], ['back']), (['back', 'x', '--tr'], ['--tree']), (['-m', 'con'], ['continuous']), (['back', 'x', '--at', 'yes'], ['yesterday'])):
+        for words, want in ((['ba'], ['back']), (['back', 'x', '--tr'], ['--tree']), (['-m', 'con'], ['continuous']), (['back', 'x', '--at', 'yes'], ['yesterday']), (['--or'], ['--order'])):
             done = subprocess.run(['bash', '-c', script, 'bash', *words], capture_output=True, text=True, cwd=TOP, check=False)
             self.assertEqual(done.stdout.split(), want, words)
 
