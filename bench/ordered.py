@@ -3,7 +3,8 @@
     bench/ordered.py [LOG..]
 
 Of each log: the status is 0; the lines of the answer, with the marks of raised times undone, are the lines of the log and EOE lines, in some order;
-each of those EOE lines is of an event that has a call; and the times in the answer never fall. Without a LOG the checks go over the examples, over
+each of those EOE lines is of an event that has a call; the times in the answer never fall; and `--undo` writes the lines of the answer, and those of the
+log, with their marks undone. Other words have the status 2 and write nothing. Without a LOG the checks go over the examples, over
 generated logs, and over logs that were made to be odd. Prints what isn't so, and ends with status 1 if there is any.
 """
 import collections
@@ -60,6 +61,8 @@ def faults_of(log):
         end = END.match(line)
         if end and end[2] + end[3] not in calls:
             yield f'an end of no call: {line!r}'
+    yield from faults_of_undoing(ran.stdout)
+    yield from faults_of_undoing(log)
     greatest = 0
     for line in written:
         stamp = STAMP.match(line)
@@ -68,6 +71,23 @@ def faults_of(log):
             if time < greatest:
                 yield f'a time that falls: {line!r}'
             greatest = max(greatest, time)
+
+
+def faults_of_undoing(lines):
+    """What isn't as it is to be of `--undo` over the bytes of some lines."""
+    ran = subprocess.run([PROGRAM, '--undo'], input=lines, stdout=subprocess.PIPE, stderr=subprocess.PIPE)
+    if ran.returncode or ran.stderr:
+        yield f'--undo: status {ran.returncode}, {ran.stderr!r}'
+    if ran.stdout != b''.join(undone(line) + b'\n' for line in lines_of(lines)):
+        yield '--undo: other lines'
+
+
+def faults_of_words():
+    """What isn't as it is to be of words that name no job."""
+    for words in [['--order'], ['--undo', '--undo'], ['--und'], ['']]:
+        ran = subprocess.run([PROGRAM, *words], input=b'x\n', stdout=subprocess.PIPE, stderr=subprocess.PIPE)
+        if ran.returncode != 2 or ran.stdout or ran.stderr != b'audit_order: bad words\n':
+            yield f'status {ran.returncode}, {ran.stdout!r}, {ran.stderr!r} for the words {words}'
 
 
 def generated(seed):
@@ -80,7 +100,8 @@ def main(names):
     logs = {name: Path(name).read_bytes() for name in names} if names else {
         **ODD, **{path.name: path.read_bytes() for path in sorted((TOP / 'examples').glob('*.log'))},
         **{f'generated log {seed}': generated(seed) for seed in range(1, 21)}}
-    faults = [(name, fault) for name, log in logs.items() for fault in faults_of(log)]
+    faults = [('words', fault) for fault in faults_of_words()]
+    faults += [(name, fault) for name, log in logs.items() for fault in faults_of(log)]
     for name, fault in faults[:20]:
         print(f'{name}: {fault}')
     return 1 if faults else 0

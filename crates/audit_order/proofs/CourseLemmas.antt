@@ -13,7 +13,7 @@ use Rattle.order_text.specs.Undo.{undone, written_after}
 use Rattle.audit_order.specs.Lines.{text_of, times_of, IsEnd, risen, Written, Writes}
 use Rattle.audit_order.specs.Course.{Course, Keeps, Gives}
 
-text_more : (outs : List (List ℕ)) (out : List ℕ) → text_of (outs ++ out ∷ []) ≡ text_of outs ++ (out ++ 10 ∷ [])
+pub text_more : (outs : List (List ℕ)) (out : List ℕ) → text_of (outs ++ out ∷ []) ≡ text_of outs ++ (out ++ 10 ∷ [])
 text_more outs out =
     flat_map-append (λ (line : List ℕ). line ++ 10 ∷ []) outs (out ∷ []) ∙ ap (λ (t : List ℕ). text_of outs ++ t) (append-nil (out ++ 10 ∷ []))
 
@@ -119,7 +119,7 @@ joins before now pending ms waits lines line c = record {
   ends = c.ends;
 }
 
-appends_both : (before now later : Option (List ℕ)) (done pending : List ℕ) → Appends before now done → Appends now later pending → Appends before later (done ++ pending)
+pub appends_both : (before now later : Option (List ℕ)) (done pending : List ℕ) → Appends before now done → Appends now later pending → Appends before later (done ++ pending)
 appends_both None now later done pending first second = tt
 appends_both (Some xs) None later done pending first second = absurd first
 appends_both (Some xs) (Some ys) None done pending first second = absurd second
@@ -140,7 +140,7 @@ flushed before now later pending ms waits lines handed c = record {
   ends = c.ends;
 }
 
-appends_none : (before : Option (List ℕ)) → Appends before before []
+pub appends_none : (before : Option (List ℕ)) → Appends before before []
 appends_none None = tt
 appends_none (Some xs) = sym (append-nil xs)
 

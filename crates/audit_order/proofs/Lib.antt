@@ -1,2 +1,3 @@
 pub mod CourseLemmas
 pub mod ReadLemmas
+pub mod UndoneLemmas

@@ -13,22 +13,21 @@ use Rattle.audit_lex.specs.LineCut.{StandsFor, Cutter, Gives}
 use Rattle.audit_lex.specs.declared.line_cut.Line.{Line}
 use Rattle.order_text.specs.Undo.{undone}
 use Rattle.audit_order.specs.Course.{Course}
-use Rattle.audit_order.specs.Sorted.{Sorts}
 use Rattle.audit_order.specs.Reads.{Took, TakesAlso, TakesNext, log_lines, Orders}
-use Rattle.audit_order.specs.declared.sorter.Sorter.{Sorter}
+use Rattle.audit_order.specs.Taken.{Standing}
 
 short : (limit : ℕ) (text : List ℕ) → is_long limit text ≡ false → short_text limit text ≡ text
 short limit text e = rw e refl
 
-pub next_took : (limit : ℕ) (before was now : Option (List ℕ)) (old new : Sorter) (from to : History) (line : Option Line)
-    → Gives limit from to line → TakesNext was old now new line → Sorts before was old (lines_of from) → Sorts before now new (lines_of to)
-next_took limit before was now old new from to None same goes s =
-    subst (λ (lines : List (List ℕ)). Sorts before now new lines) (sym same) (goes before (lines_of from) s)
-next_took limit before was now old new from to (Some line) gives takes s =
+pub next_took : {T : Type 0} (stands : Standing T) (limit : ℕ) (before was now : Option (List ℕ)) (old new : T) (from to : History) (line : Option Line)
+    → Gives limit from to line → TakesNext stands was old now new line → stands before was old (lines_of from) → stands before now new (lines_of to)
+next_took stands limit before was now old new from to None same goes s =
+    subst (λ (lines : List (List ℕ)). stands before now new lines) (sym same) (goes before (lines_of from) s)
+next_took stands limit before was now old new from to (Some line) gives takes s =
     let is = gives.2 in
     let long : is_long limit gives.0 ≡ false = sym (ap (λ (l : Line). l.long) is) ∙ takes.0 in
     let whole : line.text ≡ gives.0 = ap (λ (l : Line). l.text) is ∙ short limit gives.0 long in
-    subst (λ (lines : List (List ℕ)). Sorts before now new lines)
+    subst (λ (lines : List (List ℕ)). stands before now new lines)
     (ap (λ (t : List ℕ). lines_of from ++ t ∷ []) whole ∙ sym gives.1) (takes.1 before (lines_of from) s)
 
 pub joined_bytes : (history : History) (piece : List ℕ) (a n : ℕ)
@@ -43,20 +42,20 @@ joined_parts history first second =
     append_assoc history (map Byte first) (map Byte second) ∙ ap (λ (t : List Step). history ++ t) (sym (map-append Byte first second))
 
 -- some of a log was taken, and the rest is left
-pub record InLog (bytes : List ℕ) (left was : Option (List ℕ)) (cut : Cutter) (s : Sorter) (now : Option (List ℕ)) (cut2 : Cutter) (s2 : Sorter) : Type 0 where
+pub record InLog {T : Type 0} (stands : Standing T) (bytes : List ℕ) (left was : Option (List ℕ)) (cut : Cutter) (s : T) (now : Option (List ℕ)) (cut2 : Cutter) (s2 : T) : Type 0 where
   pub part : List ℕ
   pub rest : List ℕ
   pub told : left ≡ Some rest
   pub whole : bytes ≡ part ++ rest
-  pub takes : TakesAlso was cut s now cut2 s2 (map Byte part)
+  pub takes : TakesAlso stands was cut s now cut2 s2 (map Byte part)
 
-pub begins_log : (bytes : List ℕ) (left was : Option (List ℕ)) (cut : Cutter) (s : Sorter) → left ≡ Some bytes → InLog bytes left was cut s was cut s
-begins_log bytes left was cut s told = record {
+pub begins_log : {T : Type 0} (stands : Standing T) (bytes : List ℕ) (left was : Option (List ℕ)) (cut : Cutter) (s : T) → left ≡ Some bytes → InLog stands bytes left was cut s was cut s
+begins_log stands bytes left was cut s told = record {
   part = [];
   rest = bytes;
   told = told;
   whole = refl;
-  takes = λ before history took. subst (λ (h : History). Took before was cut s h) (sym (append-nil history)) took;
+  takes = λ before history took. subst (λ (h : History). Took stands before was cut s h) (sym (append-nil history)) took;
 }
 
 consumed : (old new : Option (List ℕ)) (rest piece : List ℕ) → old ≡ Some rest → Consumes old new piece → (later : List ℕ) × (new ≡ Some later) × (rest ≡ piece ++ later)
@@ -64,17 +63,17 @@ consumed None new rest piece told e = absurd (cc told)
 consumed (Some xs) None rest piece told e = absurd e
 consumed (Some xs) (Some ys) rest piece told e = (ys, refl, sym (same_Some _ _ told) ∙ e)
 
-pub goes_on_log : (bytes : List ℕ) (left later was now next : Option (List ℕ)) (cut cut2 cut3 : Cutter) (s s2 s3 : Sorter) (piece : List ℕ)
-    → InLog bytes left was cut s now cut2 s2 → Consumes left later piece → TakesAlso now cut2 s2 next cut3 s3 (map Byte piece)
-    → InLog bytes later was cut s next cut3 s3
-goes_on_log bytes left later was now next cut cut2 cut3 s s2 s3 piece log read takes =
+pub goes_on_log : {T : Type 0} (stands : Standing T) (bytes : List ℕ) (left later was now next : Option (List ℕ)) (cut cut2 cut3 : Cutter) (s s2 s3 : T) (piece : List ℕ)
+    → InLog stands bytes left was cut s now cut2 s2 → Consumes left later piece → TakesAlso stands now cut2 s2 next cut3 s3 (map Byte piece)
+    → InLog stands bytes later was cut s next cut3 s3
+goes_on_log stands bytes left later was now next cut cut2 cut3 s s2 s3 piece log read takes =
     let is = consumed left later log.rest piece log.told read in
     record {
       part = log.part ++ piece;
       rest = is.0;
       told = is.1;
       whole = log.whole ∙ ap (λ (t : List ℕ). log.part ++ t) is.2 ∙ sym (append_assoc log.part piece is.0);
-      takes = λ before history took. subst (λ (h : History). Took before next cut3 s3 h) (joined_parts history log.part piece)
+      takes = λ before history took. subst (λ (h : History). Took stands before next cut3 s3 h) (joined_parts history log.part piece)
           (takes before (history ++ map Byte log.part) (log.takes before history took));
     }
 
@@ -82,18 +81,18 @@ at_end : (later : Option (List ℕ)) (rest : List ℕ) → later ≡ Some rest �
 at_end None rest told e = absurd (cc told)
 at_end (Some xs) rest told e = sym (same_Some _ _ told) ∙ e
 
-pub record Ended (bytes : List ℕ) (later was : Option (List ℕ)) (cut : Cutter) (s : Sorter) (now : Option (List ℕ)) (cut2 : Cutter) (s2 : Sorter) : Type 0 where
-  pub takes : TakesAlso was cut s now cut2 s2 (map Byte bytes)
+pub record Ended {T : Type 0} (stands : Standing T) (bytes : List ℕ) (later was : Option (List ℕ)) (cut : Cutter) (s : T) (now : Option (List ℕ)) (cut2 : Cutter) (s2 : T) : Type 0 where
+  pub takes : TakesAlso stands was cut s now cut2 s2 (map Byte bytes)
   pub none : later ≡ Some []
 
-pub ends_log : (bytes : List ℕ) (left later was now : Option (List ℕ)) (cut cut2 : Cutter) (s s2 : Sorter) (piece : List ℕ) → piece ≡ []
-    → InLog bytes left was cut s now cut2 s2 → Consumes left later piece → IsAtEnd later → Ended bytes later was cut s now cut2 s2
-ends_log bytes left later was now cut cut2 s s2 piece empty log read ended =
+pub ends_log : {T : Type 0} (stands : Standing T) (bytes : List ℕ) (left later was now : Option (List ℕ)) (cut cut2 : Cutter) (s s2 : T) (piece : List ℕ) → piece ≡ []
+    → InLog stands bytes left was cut s now cut2 s2 → Consumes left later piece → IsAtEnd later → Ended stands bytes later was cut s now cut2 s2
+ends_log stands bytes left later was now cut cut2 s s2 piece empty log read ended =
     let is = consumed left later log.rest piece log.told read in
     let none = at_end later is.0 is.1 ended in
     let all : bytes ≡ log.part = log.whole ∙ ap (λ (t : List ℕ). log.part ++ t) (is.2 ∙ ap (λ (p : List ℕ). p ++ is.0) empty ∙ none) ∙ append-nil log.part in
     record {
-      takes = subst (λ (b : List ℕ). TakesAlso was cut s now cut2 s2 (map Byte b)) (sym all) log.takes;
+      takes = subst (λ (b : List ℕ). TakesAlso stands was cut s now cut2 s2 (map Byte b)) (sym all) log.takes;
       none = is.1 ∙ ap (λ (r : List ℕ). Some r) none;
     }
 
@@ -129,11 +128,11 @@ at_done (Err halt.ReadFault) P p = tt
 at_done (Err halt.WriteFault) P p = tt
 
 -- a part of the log was cut, and the line that ended in it is taken
-pub part_took : (was now : Option (List ℕ)) (cut cut2 : Cutter) (old new : Sorter) (bytes : List ℕ) (line : Option Line)
+pub part_took : {T : Type 0} (stands : Standing T) (was now : Option (List ℕ)) (cut cut2 : Cutter) (old new : T) (bytes : List ℕ) (line : Option Line)
     → ((history : History) → StandsFor cut history → Gives cut.limit history (with_bytes history bytes) line)
     → ((history : History) → StandsFor cut history → StandsFor cut2 (with_bytes history bytes))
-    → TakesNext was old now new line → TakesAlso was cut old now cut2 new (map Byte bytes)
-part_took was now cut cut2 old new bytes line gives stands takes before history took = record {
-  stands = stands history took.stands;
-  sorts = next_took cut.limit before was now old new history (with_bytes history bytes) line (gives history took.stands) takes took.sorts;
+    → TakesNext stands was old now new line → TakesAlso stands was cut old now cut2 new (map Byte bytes)
+part_took stands was now cut cut2 old new bytes line gives cuts takes before history took = record {
+  cuts = cuts history took.cuts;
+  takes = next_took stands cut.limit before was now old new history (with_bytes history bytes) line (gives history took.cuts) takes took.takes;
 }

@@ -1,6 +1,9 @@
 pub mod Halts
 pub mod Lines
 pub mod Course
+pub mod Taken
 pub mod Sorted
+pub mod Undone
 pub mod Reads
 pub mod Statuses
+pub mod Words

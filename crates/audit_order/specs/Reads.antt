@@ -8,22 +8,22 @@ use Rattle.audit_lex.specs.LineCut.{Cutter, StandsFor}
 use Rattle.audit_lex.specs.declared.line_cut.Line.{Line}
 use Rattle.order_text.specs.Undo.{undone}
 use Rattle.audit_order.specs.Lines.{text_of, times_of, IsEnd}
-use Rattle.audit_order.specs.Sorted.{Sorts, Goes, Takes}
-use Rattle.audit_order.specs.declared.sorter.Sorter.{Sorter}
+use Rattle.audit_order.specs.Taken.{Standing, Stays, Takes}
 
--- the lines of a history were cut out, and the sorter holds or has written them
-pub record Took (before now : Option (List ℕ)) (cut : Cutter) (s : Sorter) (history : History) : Type 0 where
-  pub stands : StandsFor cut history
-  pub sorts : Sorts before now s (lines_of history)
+-- the lines of a history were cut out and taken
+pub record Took {T : Type 0} (stands : Standing T) (before now : Option (List ℕ)) (cut : Cutter) (s : T) (history : History) : Type 0 where
+  pub cuts : StandsFor cut history
+  pub takes : stands before now s (lines_of history)
 
 -- whatever was taken, these steps are taken after it
-abbrev pub TakesAlso : (was : Option (List ℕ)) → Cutter → Sorter → (now : Option (List ℕ)) → Cutter → Sorter → History → Type 0
-TakesAlso was cut s now cut2 s2 steps = (before : Option (List ℕ)) (history : History) → Took before was cut s history → Took before now cut2 s2 (history ++ steps)
+abbrev pub TakesAlso : {T : Type 0} → Standing T → (was : Option (List ℕ)) → Cutter → T → (now : Option (List ℕ)) → Cutter → T → History → Type 0
+TakesAlso stands was cut s now cut2 s2 steps =
+    (before : Option (List ℕ)) (history : History) → Took stands before was cut s history → Took stands before now cut2 s2 (history ++ steps)
 
 -- a line that was cut out is taken, if there is one
-abbrev pub TakesNext : (was : Option (List ℕ)) → Sorter → (now : Option (List ℕ)) → Sorter → Option Line → Type 0
-TakesNext was old now new None = Goes was old now new
-TakesNext was old now new (Some line) = (line.long ≡ false) × Takes was old now new (line.text ∷ [])
+abbrev pub TakesNext : {T : Type 0} → Standing T → (was : Option (List ℕ)) → T → (now : Option (List ℕ)) → T → Option Line → Type 0
+TakesNext stands was old now new None = Stays stands was old now new
+TakesNext stands was old now new (Some line) = (line.long ≡ false) × Takes stands was old now new (line.text ∷ [])
 
 -- the lines of a log, the last of which may have no line feed
 abbrev pub log_lines : List ℕ → List (List ℕ)
@@ -38,3 +38,7 @@ pub record Orders (bytes : List ℕ) (before now : Option (List ℕ)) : Type 0 w
   pub same : IsPermutation (added ++ log_lines bytes) (map undone outs)
   pub rises : IsNonDecreasing (times_of outs)
   pub ends : All IsEnd added
+
+-- What was written is the lines of the log, each as it was before its time was raised, in their order.
+abbrev pub Undoes : List ℕ → (before now : Option (List ℕ)) → Type 0
+Undoes bytes before now = Appends before now (text_of (map undone (log_lines bytes)))

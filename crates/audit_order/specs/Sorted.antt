@@ -2,6 +2,7 @@
 use Rattle.std.specs.Prelude.{ℕ, List, [], ◌∷◌, ◌++◌, Option}
 use Rattle.order_queue.specs.Queue.{texts_of}
 use Rattle.audit_order.specs.Course.{Course}
+use Rattle.audit_order.specs.Taken.{Stays}
 use Rattle.audit_order.specs.declared.sorter.Sorter.{Sorter}
 
 -- the sorter holds the lines that wait, after these lines of the log
@@ -19,9 +20,4 @@ Holds old new line =
 
 -- steps that also write lose nothing
 abbrev pub Goes : (was : Option (List ℕ)) → Sorter → (now : Option (List ℕ)) → Sorter → Type 0
-Goes was old now new = (before : Option (List ℕ)) (lines : List (List ℕ)) → Sorts before was old lines → Sorts before now new lines
-
--- steps that also write take one more line of the log
-abbrev pub Takes : (was : Option (List ℕ)) → Sorter → (now : Option (List ℕ)) → Sorter → List (List ℕ) → Type 0
-Takes was old now new more =
-    (before : Option (List ℕ)) (lines : List (List ℕ)) → Sorts before was old lines → Sorts before now new (lines ++ more)
+Goes was old now new = Stays Sorts was old now new

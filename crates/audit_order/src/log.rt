@@ -1,4 +1,4 @@
-//! The log is read in pieces and cut into lines.
+//! A log is read in pieces and cut into lines, which are taken one by one.
 ghost use Rattle.std.specs.Prelude.{◌≡◌, ◌≤◌, ◌<◌, ◌^◌, List, ℕ, ◌∷◌, [], Some, map, length, take, IfOk, OnOk, IfErr};
 ghost use Rattle.outside.specs.Cause.{Rose};
 ghost use Rattle.audit_lex.specs.History.{Byte, Settle};
@@ -6,8 +6,7 @@ ghost use Rattle.audit_order.specs.Halts.{HasCauses, GoesUp};
 ghost use Rattle.audit_order.specs.Reads.{TakesAlso, TakesNext};
 
 use crate::halt::Halt;
-use crate::release::take_line;
-use crate::sorter::Sorter;
+use crate::taker::Taker;
 use audit_lex::{Line, LineCut};
 use outside::{Sink, Source};
 
@@ -15,9 +14,9 @@ use outside::{Sink, Source};
 pub const MOST: usize = 1 << 60;
 
 // Takes a line that was cut out of the log.
-fn take_cut<O: Sink>(sorter: &mut Sorter, sink: &mut O, line: Line) -> Result<(), Halt>
-    ensures takes { OnOk result (TakesNext
-        (O.written sink.old) sorter.old (O.written sink.new) sorter.new (Some line)) }
+fn take_cut<T: Taker, O: Sink>(taker: &mut T, sink: &mut O, line: Line) -> Result<(), Halt>
+    ensures takes { OnOk result (TakesNext T.stands
+        (O.written sink.old) taker.old (O.written sink.new) taker.new (Some line)) }
     ensures causes { IfErr result (HasCauses ⊥
         (Rose (O.faults sink.old) (O.faults sink.new) (O.spent sink.new))) }
     ensures counts { GoesUp
@@ -29,13 +28,13 @@ fn take_cut<O: Sink>(sorter: &mut Sorter, sink: &mut O, line: Line) -> Result<()
     if line.text.as_slice().len() > MOST {
         return Err(Halt::NoMemory);
     }
-    take_line(sorter, sink, line.text)
+    taker.take_line(sink, line.text)
 }
 
 // Takes a line that was cut out of the log, if there is one.
-fn take_next<O: Sink>(sorter: &mut Sorter, sink: &mut O, line: Option<Line>) -> Result<(), Halt>
-    ensures takes { OnOk result (TakesNext
-        (O.written sink.old) sorter.old (O.written sink.new) sorter.new line) }
+fn take_next<T: Taker, O: Sink>(taker: &mut T, sink: &mut O, line: Option<Line>) -> Result<(), Halt>
+    ensures takes { OnOk result (TakesNext T.stands
+        (O.written sink.old) taker.old (O.written sink.new) taker.new line) }
     ensures causes { IfErr result (HasCauses ⊥
         (Rose (O.faults sink.old) (O.faults sink.new) (O.spent sink.new))) }
     ensures counts { GoesUp
@@ -43,22 +42,22 @@ fn take_next<O: Sink>(sorter: &mut Sorter, sink: &mut O, line: Option<Line>) -> 
 {
     match line {
         None => Ok(()),
-        Some(line) => take_cut(sorter, sink, line),
+        Some(line) => take_cut(taker, sink, line),
     }
 }
 
 // Takes bytes up to and with the next line feed, or all, and says how many they were.
-fn take_part<O: Sink>(
+fn take_part<T: Taker, O: Sink>(
     cut: &mut LineCut,
-    sorter: &mut Sorter,
+    taker: &mut T,
     sink: &mut O,
     piece: &[u8],
 ) -> Result<usize, Halt>
     requires limit { cut.old.limit ≡ 2 ^ 60 }
     requires some { 0 < length piece.now }
     ensures limit { cut.new.limit ≡ 2 ^ 60 }
-    ensures takes { IfOk result (λ n. TakesAlso (O.written sink.old) cut.old sorter.old
-        (O.written sink.new) cut.new sorter.new (map Byte (take n piece.now))) }
+    ensures takes { IfOk result (λ n. TakesAlso T.stands (O.written sink.old) cut.old taker.old
+        (O.written sink.new) cut.new taker.new (map Byte (take n piece.now))) }
     ensures more { IfOk result (λ n. 0 < n) }
     ensures within { IfOk result (λ n. n ≤ length piece.now) }
     ensures causes { IfErr result (HasCauses ⊥
@@ -70,21 +69,21 @@ fn take_part<O: Sink>(
         return Err(Halt::NoMemory);
     }
     let (count, line) = cut.next(piece)?;
-    take_next(sorter, sink, line)?;
+    take_next(taker, sink, line)?;
     Ok(count)
 }
 
 // Takes a piece of the log.
-fn take_piece<O: Sink>(
+fn take_piece<T: Taker, O: Sink>(
     cut: &mut LineCut,
-    sorter: &mut Sorter,
+    taker: &mut T,
     sink: &mut O,
     piece: &[u8],
 ) -> Result<(), Halt>
     requires limit { cut.old.limit ≡ 2 ^ 60 }
     ensures limit { cut.new.limit ≡ 2 ^ 60 }
-    ensures takes { OnOk result (TakesAlso (O.written sink.old) cut.old sorter.old
-        (O.written sink.new) cut.new sorter.new (map Byte piece.now)) }
+    ensures takes { OnOk result (TakesAlso T.stands (O.written sink.old) cut.old taker.old
+        (O.written sink.new) cut.new taker.new (map Byte piece.now)) }
     ensures causes { IfErr result (HasCauses ⊥
         (Rose (O.faults sink.old) (O.faults sink.new) (O.spent sink.new))) }
     ensures counts { GoesUp
@@ -92,15 +91,15 @@ fn take_piece<O: Sink>(
 {
     let mut done = 0;
     while done < piece.len() {
-        done += take_part(cut, sorter, sink, &piece[done..])?;
+        done += take_part(cut, taker, sink, &piece[done..])?;
     }
     Ok(())
 }
 
 /// Takes the log to its end. Each read takes at most as many bytes as the buffer holds.
-pub fn take_log<L: Source, O: Sink>(
+pub fn take_log<T: Taker, L: Source, O: Sink>(
     cut: &mut LineCut,
-    sorter: &mut Sorter,
+    taker: &mut T,
     log: &mut L,
     sink: &mut O,
     buf: &mut [u8],
@@ -109,8 +108,8 @@ pub fn take_log<L: Source, O: Sink>(
     requires some { 0 < length buf.old }
     ensures limit { cut.new.limit ≡ 2 ^ 60 }
     ensures takes { (bytes : List ℕ) → L.left log.old ≡ Some bytes
-        → OnOk result (TakesAlso (O.written sink.old) cut.old sorter.old
-        (O.written sink.new) cut.new sorter.new (map Byte bytes)) }
+        → OnOk result (TakesAlso T.stands (O.written sink.old) cut.old taker.old
+        (O.written sink.new) cut.new taker.new (map Byte bytes)) }
     ensures whole { (bytes : List ℕ) → L.left log.old ≡ Some bytes
         → OnOk result (L.left log.new ≡ Some []) }
     ensures causes { IfErr result (HasCauses
@@ -127,16 +126,20 @@ pub fn take_log<L: Source, O: Sink>(
         if count == 0 {
             return Ok(());
         }
-        take_piece(cut, sorter, sink, &buf[..count])?;
+        take_piece(cut, taker, sink, &buf[..count])?;
     }
     Err(Halt::NoMemory)
 }
 
 /// Takes the bytes after the last line feed as a line, if there are any.
-pub fn take_tail<O: Sink>(cut: &mut LineCut, sorter: &mut Sorter, sink: &mut O) -> Result<(), Halt>
+pub fn take_tail<T: Taker, O: Sink>(
+    cut: &mut LineCut,
+    taker: &mut T,
+    sink: &mut O,
+) -> Result<(), Halt>
     requires limit { cut.old.limit ≡ 2 ^ 60 }
-    ensures takes { OnOk result (TakesAlso (O.written sink.old) cut.old sorter.old
-        (O.written sink.new) cut.new sorter.new (Settle ∷ [])) }
+    ensures takes { OnOk result (TakesAlso T.stands (O.written sink.old) cut.old taker.old
+        (O.written sink.new) cut.new taker.new (Settle ∷ [])) }
     ensures causes { IfErr result (HasCauses ⊥
         (Rose (O.faults sink.old) (O.faults sink.new) (O.spent sink.new))) }
     ensures counts { GoesUp
@@ -146,5 +149,5 @@ pub fn take_tail<O: Sink>(cut: &mut LineCut, sorter: &mut Sorter, sink: &mut O) 
         return Err(Halt::NoMemory);
     }
     let line = cut.finish();
-    take_next(sorter, sink, line)
+    take_next(taker, sink, line)
 }

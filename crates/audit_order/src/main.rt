@@ -1,12 +1,16 @@
 //! An audit log in the order of effects.
 //!
 //!     audit_order < LOG > ORDERED
+//!     audit_order --undo < ORDERED > LINES
 //!
 //! A record's time is its call's entry, and its serial number is given when the call returns. So a read that waited
 //! stands before the write that fed it. This program writes the lines of a log in an order in which their effects can
 //! have happened, the lines of an event together, with times that never fall. `order_run` is the whole of it over any
-//! source and sink, and its contract is the theorem.
+//! source and sink, and its contract is the theorem. `undo_run` writes the lines as they were.
 #![tactic(auto)]
+
+ghost use Rattle.std.specs.Prelude.{◌≡◌, ◌⊎◌, None, IfErr, map, string_bytes};
+ghost use Rattle.audit_order.specs.Words.{job_of};
 
 mod end;
 mod halt;
@@ -15,32 +19,58 @@ mod release;
 mod run;
 mod sorter;
 mod status;
+mod taker;
+mod undo;
+mod words;
 mod writer;
 
 use outside::put_all;
 use outside_real::{Reading, Writing};
-pub use run::order_run;
+pub use run::{order_run, undo_run};
 pub use status::{Status, status_line, status_number};
-use std::env;
 use std::process::ExitCode;
+use std::{env, io};
+pub use words::{Job, job_of};
 
 fn main(rt: HostRuntime) -> ExitCode {
-    let status = if has_words(&rt) {
-        Status::BadWords
-    } else {
-        let mut log = Reading::new(rt.stdin());
-        let mut out = Writing::new(rt.stdout());
-        order_run(rt.alloc(), &mut log, &mut out)
+    let status = match arguments(&rt) {
+        Ok(words) => run_words(&rt, words.as_slice()),
+        Err(status) => status,
     };
     let mut err = Writing::new(rt.stderr());
     let _ = put_all(&mut err, status_line(status));
     ExitCode::from(status_number(status))
 }
 
-// Whether the program was given words.
-fn has_words(rt: &HostRuntime) -> bool {
-    match env::args(rt) {
-        Ok(args) => args.skip(1).count() > 0,
-        Err(_) => true,
+// Does what the words say with standard input and standard output.
+fn run_words(rt: &HostRuntime, words: &[String]) -> Status
+    ensures bad_words { result ≡ Status.BadWords → job_of (map string_bytes words.now) ≡ None }
+    ensures refuses { job_of (map string_bytes words.now) ≡ None → result ≡ Status.BadWords }
+{
+    let mut log = Reading::new(rt.stdin());
+    let mut out = Writing::new(rt.stdout());
+    match job_of(words) {
+        None => Status::BadWords,
+        Some(Job::Order) => order_run(rt.alloc(), &mut log, &mut out),
+        Some(Job::Undo) => undo_run(rt.alloc(), &mut log, &mut out),
     }
+}
+
+// The words after the program's own name. Words that aren't UTF-8 name no job.
+fn arguments(rt: &HostRuntime) -> Result<Vec<String>, Status>
+    ensures { IfErr result (λ status.
+        (status ≡ Status.BadWords) ⊎ (status ≡ Status.NoMemory)) }
+{
+    let mut words = Vec::new(rt.alloc());
+    let args = match env::args(rt) {
+        Ok(args) => args,
+        Err(fault) if fault.kind() == io::ErrorKind::OutOfMemory => return Err(Status::NoMemory),
+        Err(_) => return Err(Status::BadWords),
+    };
+    for word in args.skip(1) {
+        if words.push(word).is_err() {
+            return Err(Status::NoMemory);
+        }
+    }
+    Ok(words)
 }

@@ -2,15 +2,14 @@
 ghost use Rattle.std.specs.Prelude.{◌≡◌, ◌-◌, ◌≤◌, ◌^◌, ◌∷◌, [], length, OnOk, IfErr};
 ghost use Rattle.outside.specs.Cause.{Rose};
 ghost use Rattle.audit_order.specs.Halts.{HasCauses, GoesUp};
-ghost use Rattle.audit_order.specs.Sorted.{Goes, Takes};
+ghost use Rattle.audit_order.specs.Sorted.{Sorts, Goes};
 
 use crate::halt::Halt;
 use crate::sorter::{Sorter, hold, is_over, is_ripe, write_end, write_least};
+use crate::taker::Taker;
+use crate::writer::CHUNK;
 use flow_base::Bytes;
 use outside::Sink;
-
-/// How many bytes wait at most before they are handed on.
-const CHUNK: usize = 65_536;
 
 // Hands on what was written, if it is much.
 fn flush_much<O: Sink>(sorter: &mut Sorter, sink: &mut O) -> Result<(), Halt>
@@ -74,20 +73,16 @@ fn release_past<O: Sink>(sorter: &mut Sorter, sink: &mut O) -> Result<(), Halt>
     Ok(())
 }
 
-/// Takes a line of the log: it waits for its turn, and lines whose turn has come are written.
-pub fn take_line<O: Sink>(sorter: &mut Sorter, sink: &mut O, line: Bytes) -> Result<(), Halt>
-    requires short { length line ≤ 2 ^ 60 }
-    ensures takes { OnOk result (Takes
-        (O.written sink.old) sorter.old (O.written sink.new) sorter.new (line ∷ [])) }
-    ensures causes { IfErr result (HasCauses ⊥
-        (Rose (O.faults sink.old) (O.faults sink.new) (O.spent sink.new))) }
-    ensures counts { GoesUp
-        (O.faults sink.old) (O.faults sink.new) (O.spent sink.old) (O.spent sink.new) }
-{
-    let place = sorter.places.place_of(line.as_slice())?;
-    make_room(sorter, sink, line.as_slice().len() as u64)?;
-    hold(sorter, place, line)?;
-    release_past(sorter, sink)
+impl Taker for Sorter {
+    ghost stands = { Sorts };
+
+    // The line waits for its turn, and lines whose turn has come are written.
+    fn take_line<O: Sink>(&mut self, sink: &mut O, line: Bytes) -> Result<(), Halt> {
+        let place = self.places.place_of(line.as_slice())?;
+        make_room(self, sink, line.as_slice().len() as u64)?;
+        hold(self, place, line)?;
+        release_past(self, sink)
+    }
 }
 
 // Writes all lines that wait.

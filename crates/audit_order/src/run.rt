@@ -3,13 +3,14 @@ ghost use Rattle.std.specs.Prelude.{◌≡◌, ⊤, List, ℕ, Some, [], length,
 ghost use Rattle.outside.specs.Cause.{Rose};
 ghost use Rattle.audit_order.specs.Halts.{HasCauses, GoesUp};
 ghost use Rattle.audit_order.specs.Statuses.{StatusCause, AtDone};
-ghost use Rattle.audit_order.specs.Reads.{Orders};
+ghost use Rattle.audit_order.specs.Reads.{Orders, Undoes};
 
 use crate::halt::Halt;
 use crate::log::{MOST, take_log, take_tail};
 use crate::release::finish;
 use crate::sorter::Sorter;
 use crate::status::{Status, status_of};
+use crate::undo::Undoer;
 use audit_lex::LineCut;
 use flow_base::NoMemory;
 use outside::{Sink, Source};
@@ -57,4 +58,37 @@ pub fn order_run<L: Source, O: Sink>(alloc: Global, log: &mut L, out: &mut O) ->
         (Rose (O.faults out.old) (O.faults out.new) (O.spent out.new)) result }
 {
     status_of(order(alloc, log, out))
+}
+
+// Undoes the lines of a log.
+fn undo<L: Source, O: Sink>(alloc: Global, log: &mut L, out: &mut O) -> Result<(), Halt>
+    ensures undone { (bytes : List ℕ) → L.left log.old ≡ Some bytes
+        → OnOk result (Undoes bytes (O.written out.old) (O.written out.new)) }
+    ensures whole { (bytes : List ℕ) → L.left log.old ≡ Some bytes
+        → OnOk result (L.left log.new ≡ Some []) }
+    ensures causes { IfErr result (HasCauses
+        (Rose (L.faults log.old) (L.faults log.new) (L.spent log.new))
+        (Rose (O.faults out.old) (O.faults out.new) (O.spent out.new))) }
+{
+    let mut piece = room_for_a_read(alloc)?;
+    let mut cut = LineCut::new(alloc, MOST);
+    let mut undoer = Undoer::new(alloc);
+    take_log(&mut cut, &mut undoer, log, out, piece.as_mut_slice())?;
+    take_tail(&mut cut, &mut undoer, out)?;
+    undoer.flush(out)
+}
+
+/// Writes the lines of an ordered log as they were before their times were raised.
+///
+/// At `Done` what was written is the lines of the log, each without its last mark, in their order.
+pub fn undo_run<L: Source, O: Sink>(alloc: Global, log: &mut L, out: &mut O) -> Status
+    ensures undone { (bytes : List ℕ) → L.left log.old ≡ Some bytes
+        → AtDone result (Undoes bytes (O.written out.old) (O.written out.new)) }
+    ensures whole { (bytes : List ℕ) → L.left log.old ≡ Some bytes
+        → AtDone result (L.left log.new ≡ Some []) }
+    ensures causes { StatusCause
+        (Rose (L.faults log.old) (L.faults log.new) (L.spent log.new))
+        (Rose (O.faults out.old) (O.faults out.new) (O.spent out.new)) result }
+{
+    status_of(undo(alloc, log, out))
 }

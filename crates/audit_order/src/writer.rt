@@ -15,6 +15,9 @@ use outside::{Sink, put_all};
 use std::alloc::Global;
 use std::marker::Model;
 
+/// How many bytes wait at most before they are handed on.
+pub const CHUNK: usize = 65_536;
+
 /// What waits to be written, and the greatest time that was written, in milliseconds and as a text.
 #[derive(Drop)]
 pub struct Writer {
@@ -91,10 +94,22 @@ impl Writer {
         ensures counts { GoesUp
             (O.faults sink.old) (O.faults sink.new) (O.spent sink.old) (O.spent sink.new) }
     {
-        let piece = self.pending.take();
-        match put_all(sink, piece.as_slice()) {
-            Ok(()) => Ok(()),
-            Err(_) => Err(Halt::WriteFault),
-        }
+        hand_on(&mut self.pending, sink)
+    }
+}
+
+/// Hands on bytes that wait to be written.
+pub fn hand_on<O: Sink>(pending: &mut Bytes, sink: &mut O) -> Result<(), Halt>
+    ensures bytes { OnOk result (Appends (O.written sink.old) (O.written sink.new) pending.old) }
+    ensures left { pending.new ≡ [] }
+    ensures causes { IfErr result (HasCauses ⊥
+        (Rose (O.faults sink.old) (O.faults sink.new) (O.spent sink.new))) }
+    ensures counts { GoesUp
+        (O.faults sink.old) (O.faults sink.new) (O.spent sink.old) (O.spent sink.new) }
+{
+    let piece = pending.take();
+    match put_all(sink, piece.as_slice()) {
+        Ok(()) => Ok(()),
+        Err(_) => Err(Halt::WriteFault),
     }
 }

@@ -6,7 +6,7 @@ pub loop-init : goal.loop-init
 loop-init g c = record {
   limit = c.requires.limit;
   some = c.requires.some;
-  takes = λ bytes told. begins_log bytes (g.L.Source.left c.args.log.now) (g.O.Sink.written c.args.sink.now) c.args.cut.now c.args.sorter.now told;
+  takes = λ bytes told. begins_log g.T.Taker.stands bytes (g.L.Source.left c.args.log.now) (g.O.Sink.written c.args.sink.now) c.args.cut.now c.args.taker.now told;
   counts = record { later = omega arith; stays = λ s. s };
   reads = record { later = omega arith; stays = λ s. s };
 }
@@ -14,16 +14,16 @@ loop-init g c = record {
 pub returns-then-count-eq0-clause-takes : goal.returns-then-count-eq0-clause-takes
 returns-then-count-eq0-clause-takes g c = λ bytes told.
     let some : 0 < length c.read.new.buf = omega (arith, c.loop.invariant.some, c.read.auto.buf) in
-    (ends_log bytes (g.L.Source.left c.loop.log) (g.L.Source.left c.read.new.self) (g.O.Sink.written c.args.sink.now) (g.O.Sink.written c.loop.sink)
-    c.args.cut.now c.loop.cut c.args.sorter.now c.loop.sorter (take c.in-Ok.count c.read.new.buf)
+    (ends_log g.T.Taker.stands bytes (g.L.Source.left c.loop.log) (g.L.Source.left c.read.new.self) (g.O.Sink.written c.args.sink.now) (g.O.Sink.written c.loop.sink)
+    c.args.cut.now c.loop.cut c.args.taker.now c.loop.taker (take c.in-Ok.count c.read.new.buf)
     (ap (λ (n : ℕ). take n c.read.new.buf) c.if-count-eq0.true) (c.loop.invariant.takes bytes told) c.in-Ok.ensures.bytes.0
     (c.in-Ok.ensures.bytes.1 c.if-count-eq0.true some)).takes
 
 pub returns-then-count-eq0-clause-whole : goal.returns-then-count-eq0-clause-whole
 returns-then-count-eq0-clause-whole g c = λ bytes told.
     let some : 0 < length c.read.new.buf = omega (arith, c.loop.invariant.some, c.read.auto.buf) in
-    (ends_log bytes (g.L.Source.left c.loop.log) (g.L.Source.left c.read.new.self) (g.O.Sink.written c.args.sink.now) (g.O.Sink.written c.loop.sink)
-    c.args.cut.now c.loop.cut c.args.sorter.now c.loop.sorter (take c.in-Ok.count c.read.new.buf)
+    (ends_log g.T.Taker.stands bytes (g.L.Source.left c.loop.log) (g.L.Source.left c.read.new.self) (g.O.Sink.written c.args.sink.now) (g.O.Sink.written c.loop.sink)
+    c.args.cut.now c.loop.cut c.args.taker.now c.loop.taker (take c.in-Ok.count c.read.new.buf)
     (ap (λ (n : ℕ). take n c.read.new.buf) c.if-count-eq0.true) (c.loop.invariant.takes bytes told) c.in-Ok.ensures.bytes.0
     (c.in-Ok.ensures.bytes.1 c.if-count-eq0.true some)).none
 
@@ -32,8 +32,8 @@ loop-preserved g c = record {
   limit = c.take_piece.ensures.limit;
   some = omega (arith, c.loop.invariant.some, c.read.auto.buf);
   takes = λ bytes told.
-      goes_on_log bytes (g.L.Source.left c.loop.log) (g.L.Source.left c.read.new.self) (g.O.Sink.written c.args.sink.now) (g.O.Sink.written c.loop.sink) (g.O.Sink.written c.take_piece.new.sink)
-      c.args.cut.now c.loop.cut c.take_piece.new.cut c.args.sorter.now c.loop.sorter c.take_piece.new.sorter (take c.in-Ok.count c.read.new.buf)
+      goes_on_log g.T.Taker.stands bytes (g.L.Source.left c.loop.log) (g.L.Source.left c.read.new.self) (g.O.Sink.written c.args.sink.now) (g.O.Sink.written c.loop.sink) (g.O.Sink.written c.take_piece.new.sink)
+      c.args.cut.now c.loop.cut c.take_piece.new.cut c.args.taker.now c.loop.taker c.take_piece.new.taker (take c.in-Ok.count c.read.new.buf)
       (c.loop.invariant.takes bytes told) c.in-Ok.ensures.bytes.0 c.in_ok-take_piece.ensures.takes;
   counts = record {
     later = omega (arith, c.loop.invariant.counts.later, c.take_piece.ensures.counts.later);

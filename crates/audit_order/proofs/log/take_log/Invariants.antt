@@ -12,7 +12,7 @@ invariant-loop g l =
       limit : l.cut.limit ≡ 2 ^ 60;
       some : 0 < length l.buf;
       takes : (bytes : List ℕ) → source.left l.initial.log ≡ Some bytes
-          → InLog bytes (source.left l.log) (sink.written l.initial.sink) l.initial.cut l.initial.sorter (sink.written l.sink) l.cut l.sorter;
+          → InLog g.T.Taker.stands bytes (source.left l.log) (sink.written l.initial.sink) l.initial.cut l.initial.taker (sink.written l.sink) l.cut l.taker;
       counts : GoesUp (sink.faults l.initial.sink) (sink.faults l.sink) (sink.spent l.initial.sink) (sink.spent l.sink);
       reads : GoesUp (source.faults l.initial.log) (source.faults l.log) (source.spent l.initial.log) (source.spent l.log);
     }

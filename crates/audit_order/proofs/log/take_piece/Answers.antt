@@ -15,7 +15,7 @@ loop-done-preserved g c =
       limit = c.take_part.ensures.limit;
       within = omega (arith, within, length-drop done piece, c.loop-done.invariant.within);
       takes = λ before history took.
-          subst (λ (h : History). Took before (g.O.Sink.written c.take_part.new.sink) c.take_part.new.cut c.take_part.new.sorter h)
+          subst (λ (h : History). Took g.T.Taker.stands before (g.O.Sink.written c.take_part.new.sink) c.take_part.new.cut c.take_part.new.taker h)
           (joined_slice history piece done n)
           (c.in_ok-done.ensures.takes before (history ++ map Byte (take done piece)) (c.loop-done.invariant.takes before history took));
       counts = search rules;
@@ -24,5 +24,5 @@ loop-done-preserved g c =
 pub returns-clause-takes : goal.returns-clause-takes
 returns-clause-takes g c = λ before history took.
     let all : length c.args.piece.now ≤ c.loop-done.done = omega (arith, c.loop-done-test.false) in
-    subst (λ (b : List ℕ). Took before (g.O.Sink.written c.loop-done.sink) c.loop-done.cut c.loop-done.sorter (history ++ map Byte b))
+    subst (λ (b : List ℕ). Took g.T.Taker.stands before (g.O.Sink.written c.loop-done.sink) c.loop-done.cut c.loop-done.taker (history ++ map Byte b))
     (take_all c.loop-done.done c.args.piece.now all) (c.loop-done.invariant.takes before history took)

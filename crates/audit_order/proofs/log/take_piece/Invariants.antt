@@ -11,7 +11,7 @@ invariant-loop-done g l =
     record {
       limit : l.cut.limit ≡ 2 ^ 60;
       within : l.done ≤ length l.piece;
-      takes : TakesAlso (sink.written l.initial.sink) l.initial.cut l.initial.sorter (sink.written l.sink) l.cut l.sorter (map Byte (take l.done l.piece));
+      takes : TakesAlso g.T.Taker.stands (sink.written l.initial.sink) l.initial.cut l.initial.taker (sink.written l.sink) l.cut l.taker (map Byte (take l.done l.piece));
       counts : GoesUp (sink.faults l.initial.sink) (sink.faults l.sink) (sink.spent l.initial.sink) (sink.spent l.sink);
     }
 

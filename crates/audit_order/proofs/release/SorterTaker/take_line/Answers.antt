@@ -1,6 +1,6 @@
 use Rattle.std.proofs.Common.{[], ◌∷◌, ◌++◌}
 use Rattle.std.proofs.lemmas.Result.{on_ok_weaker}
-use Rattle.audit_order.proofs.release.take_line.Goals as goal
+use Rattle.audit_order.proofs.release.SorterTaker.take_line.Goals as goal
 
 pub returns-clause-takes : goal.returns-clause-takes
 returns-clause-takes g c = on_ok_weaker c.release_past.result
