@@ -1,7 +1,9 @@
 //! The queue of the lines that wait.
-ghost use Rattle.std.specs.Prelude.{◌≡◌, ◌+◌, ◌<◌, ◌^◌, [], ◌∷◌, length, OnOk, OnErr, IfSome, IfNone, IsPermutation};
+ghost use Rattle.std.specs.Prelude.{◌≡◌, ◌+◌, ◌<◌, ◌≤◌, ◌^◌, [], ◌∷◌, length, OnOk, OnErr, IfSome, IfNone, IsPermutation};
 ghost use Rattle.std.specs.Option.{option_map};
+ghost use Rattle.std.specs.List.{All};
 ghost use Rattle.order_queue.specs.Queue.{bytes_of};
+ghost use Rattle.order_queue.specs.Order.{IsLeast};
 
 use crate::waiting::Waiting;
 use flow_base::NoMemory;
@@ -19,15 +21,17 @@ pub struct Queue {
 
 impl Model for Queue {
     ghost use Rattle.std.specs.Prelude.{◌≡◌, map};
-    ghost use Rattle.std.specs.BinaryHeap.{heap_items};
+    ghost use Rattle.std.specs.BinaryHeap.{IsHeap, heap_items};
     ghost use Rattle.order_queue.specs.Queue.{Held, bytes_of};
+    ghost use Rattle.order_queue.specs.Order.{turned_cmp};
     ghost use Rattle.order_queue.specs.Turned.{turned};
 
     ghost Value = { Held };
 
     ghost view = { λ a. record { waits = map turned (heap_items a.heap); bytes = a.bytes } };
 
-    ghost invariant = { λ a. a.bytes ≡ bytes_of (map turned (heap_items a.heap)) };
+    ghost invariant = { λ a. (a.bytes ≡ bytes_of (map turned (heap_items a.heap)))
+        × IsHeap turned_cmp (heap_items a.heap) };
 }
 
 impl Queue {
@@ -72,6 +76,7 @@ impl Queue {
 
     /// Takes the line of the least place.
     pub fn pop(&mut self) -> Option<Waiting>
+        ensures least { IfSome result (λ item. IsLeast item self.new.waits) }
         ensures some { IfSome result
             (λ item. IsPermutation self.old.waits (item ∷ self.new.waits)) }
         ensures bytes { IfSome result (λ item. self.old.bytes ≡ self.new.bytes + length item.line) }
@@ -84,7 +89,10 @@ impl Queue {
     }
 
     /// The time of the least place.
-    pub fn least_time(&self) -> Option<u64> {
+    pub fn least_time(&self) -> Option<u64>
+        ensures least { IfSome result (λ time. All (λ item. time ≤ item.time) self.now.waits) }
+        ensures none { IfNone result (self.now.waits ≡ []) }
+    {
         let Reverse(item) = self.heap.peek()?;
         Some(item.time)
     }

@@ -6,7 +6,7 @@ use Rattle.order_queue.proofs.queue.Queue.push.Goals as goal
 pub invariant_of-self-2 : goal.invariant_of-self-2
 invariant_of-self-2 c =
     let sum = more_bytes _ _ _ (joined _ _ _ _ refl c.in_ok-push.ensures.permutation) in
-    omega (arith, sum, c.self.invariant, ap length c.as_slice.ensures)
+    (omega (arith, sum, c.self.invariant.0, ap length c.as_slice.ensures), c.in_ok-push.ensures.heap_order c.self.invariant.1)
 
 pub returns-clause-ok : goal.returns-clause-ok
 returns-clause-ok c = joined _ _ _ _ (ap (λ (h : Held). h.waits) c.self.view_is) c.in_ok-push.ensures.permutation

@@ -1,0 +1,28 @@
+-- Which of two lines is taken first.
+use Rattle.std.specs.Prelude.{◌≡◌, false, List}
+use Rattle.std.specs.List.{All}
+use Rattle.std.specs.declared.cmp.Ordering.{Ordering}
+use Rattle.std.specs.Ordering.{nat_cmp, ordering_then, is_lt}
+use Rattle.std.specs.Cmp.Lexicographic.{slice_cmp}
+use Rattle.std.specs.declared.cmp.Reverse.{Reverse}
+use Rattle.order_queue.specs.declared.waiting.Waiting.{Waiting}
+
+-- the order of two lines by their ranks, then by their numbers in the log
+abbrev pub rank_cmp : Waiting → Waiting → Ordering
+rank_cmp a b =
+    ordering_then (nat_cmp a.rank b.rank) (ordering_then (nat_cmp a.number b.number) (slice_cmp nat_cmp a.line b.line))
+
+-- The order of two lines by their places: by the time at which their event counts, then by its serial number and its own
+-- time; within an event by rank, then by number.
+abbrev pub place_cmp : Waiting → Waiting → Ordering
+place_cmp a b =
+    ordering_then (nat_cmp a.time b.time)
+    (ordering_then (nat_cmp a.serial b.serial) (ordering_then (nat_cmp a.ms b.ms) (rank_cmp a b)))
+
+-- the same order turned, for a heap whose greatest element is taken first
+abbrev pub turned_cmp : Reverse Waiting → Reverse Waiting → Ordering
+turned_cmp a b = place_cmp b.0 a.0
+
+-- none of these lines comes before this one
+abbrev pub IsLeast : Waiting → List Waiting → Type 0
+IsLeast item waits = All (λ other. is_lt (place_cmp other item) ≡ false) waits
