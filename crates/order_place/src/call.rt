@@ -1,7 +1,7 @@
 //! What a line says of a system call.
 ghost use Rattle.std.specs.Prelude.{◌≡◌, nat_eq};
 ghost use Rattle.std.specs.List.{list_any};
-ghost use Rattle.order_place.specs.Places.{waiting};
+ghost use Rattle.order_place.specs.Calls.{call_in, call_of, waiting};
 
 use audit_lex::{Field, Kind, Lexed, UsedLine, dec32, lex};
 
@@ -16,7 +16,9 @@ pub struct Call {
 }
 
 /// The call that a line is the record of.
-pub fn call_of(line: &[u8]) -> Option<Call> {
+pub fn call_of(line: &[u8]) -> Option<Call>
+    ensures { result ≡ call_of line.now }
+{
     match lex(line, LINE) {
         Lexed::Used(used) => match used.kind {
             Kind::Syscall => call_in(&used),
@@ -27,7 +29,9 @@ pub fn call_of(line: &[u8]) -> Option<Call> {
 }
 
 // The call of a used line.
-fn call_in(used: &UsedLine<'_>) -> Option<Call> {
+fn call_in(used: &UsedLine<'_>) -> Option<Call>
+    ensures { result ≡ call_in used.now.line.now }
+{
     let pid = dec32(used.field(Field::Pid)?)?;
     let number = dec32(used.field(Field::Syscall)?)?;
     let native = used.field(Field::Arch)? == b"c000003e".as_slice();

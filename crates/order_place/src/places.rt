@@ -1,8 +1,9 @@
 //! Places, by what was seen before.
-ghost use Rattle.std.specs.Prelude.{◌≡◌, ◌≤◌, IfOk, OnOk};
+ghost use Rattle.std.specs.Prelude.{◌≡◌, ℕ, [], IfOk, OnOk};
 ghost use Rattle.order_text.specs.Seen.{stamp_seen};
 ghost use Rattle.order_text.specs.Stamp.{stamp_of};
-ghost use Rattle.order_place.specs.Places.{HasPlace, clock_with, rank_of};
+ghost use Rattle.order_place.specs.Calls.{call_of};
+ghost use Rattle.order_place.specs.Places.{HasPlace, call_at, CountsAt, SeesCalls, SeesEvents, Forgets, HoldsEvent, event_time, first_time, call_time, calls_after, clock_with, rank_of};
 
 use crate::call::{Call, call_of};
 use flow_base::NoMemory;
@@ -36,13 +37,20 @@ impl Model for Places {
 
     ghost Value = { Seen };
 
-    ghost view = { λ a. record { clock = a.clock; last = a.last } };
+    ghost view = { λ a. record {
+      clock = a.clock;
+      last = a.last;
+      calls = a.calls.entries;
+      events = a.events.entries;
+    } };
 }
 
 impl Places {
     /// Nothing was seen.
     pub fn new(alloc: Global) -> Places
-        ensures { result.clock ≡ 0 }
+        ensures clock { result.clock ≡ 0 }
+        ensures calls { result.calls ≡ [] }
+        ensures events { result.events ≡ [] }
     {
         Places {
             clock: 0,
@@ -67,9 +75,15 @@ impl Places {
     /// The place of the next line. A line without a stamp has the place of the line before it.
     pub fn place_of(&mut self, line: &[u8]) -> Result<Place, NoMemory>
         ensures place { IfOk result (HasPlace self.old (stamp_of line.now)) }
+        ensures time { IfOk result
+            (CountsAt self.old (stamp_of line.now) (call_of line.now)) }
         ensures last { IfOk result (λ place. self.new.last ≡ place) }
         ensures clock { OnOk result
             (self.new.clock ≡ clock_with self.old.clock (stamp_of line.now)) }
+        ensures calls { OnOk result
+            (SeesCalls self.old self.new (stamp_of line.now) (call_of line.now)) }
+        ensures events { OnOk result
+            (SeesEvents self.old self.new (stamp_of line.now) (call_of line.now)) }
     {
         if let Some(stamp) = read_stamp(line) {
             let time = self.time_of(line, &stamp)?;
@@ -86,14 +100,17 @@ impl Places {
 
     /// The event was written, so its place is known no longer.
     pub fn forget(&mut self, ms: u64, serial: u32)
-        ensures { self.new ≡ self.old }
+        ensures { Forgets self.old self.new (ms, serial) }
     {
         let _ = self.events.remove(&(ms, serial));
     }
 
     // The time at which the event of a line counts: that of its first line.
     fn time_of(&mut self, line: &[u8], stamp: &Stamp<'_>) -> Result<u64, NoMemory>
-        ensures { self.new ≡ self.old }
+        ensures time { IfOk result (λ time. time
+            ≡ event_time self.old (stamp.now.ms, stamp.now.number) (call_of line.now)) }
+        ensures holds { OnOk result (HoldsEvent self.old self.new
+            (stamp.now.ms, stamp.now.number) (call_of line.now)) }
     {
         let key = (stamp.ms, stamp.number);
         if let Some(time) = self.events.get(&key) {
@@ -106,8 +123,10 @@ impl Places {
 
     // The time at which an event counts that begins with this line.
     fn first_time(&mut self, line: &[u8], ms: u64) -> Result<u64, NoMemory>
-        ensures same { self.new ≡ self.old }
-        ensures entry { IfOk result (λ time. ms ≤ time) }
+        ensures time { IfOk result (λ time. time ≡ first_time self.old ms (call_of line.now)) }
+        ensures calls { OnOk result ((pid : ℕ) → call_at self.new pid
+            ≡ calls_after self.old (call_of line.now) (first_time self.old ms (call_of line.now)) pid) }
+        ensures same { self.new ≡ record self.old { calls = self.new.calls } }
     {
         match call_of(line) {
             None => Ok(ms),
@@ -121,7 +140,7 @@ impl Places {
 
     // The time at which a call counts: not before its entry, nor before the process's call before it.
     fn call_time(&self, call: Call, ms: u64) -> u64
-        ensures { ms ≤ result }
+        ensures { result ≡ call_time self.now ms call }
     {
         let own = if call.waits { ms.max(self.clock) } else { ms };
         match self.calls.get(&call.pid) {
