@@ -7,6 +7,10 @@
 #![tactic(auto)]
 
 mod call;
+mod laws;
 mod places;
 
+pub use laws::{
+    calls_of_a_process_keep_their_order, lines_of_an_event_count_together, places_look_back,
+};
 pub use places::{Place, Places};

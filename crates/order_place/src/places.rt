@@ -3,6 +3,7 @@ ghost use Rattle.std.specs.Prelude.{◌≡◌, ℕ, [], IfOk, OnOk};
 ghost use Rattle.order_text.specs.Seen.{stamp_seen};
 ghost use Rattle.order_text.specs.Stamp.{stamp_of};
 ghost use Rattle.order_place.specs.Calls.{call_of};
+ghost use Rattle.order_place.specs.Sights.{StandsFor};
 ghost use Rattle.order_place.specs.Places.{HasPlace, call_at, CountsAt, SeesCalls, SeesEvents, Forgets, HoldsEvent, event_time, first_time, call_time, calls_after, clock_with, rank_of};
 
 use crate::call::{Call, call_of};
@@ -49,8 +50,7 @@ impl Places {
     /// Nothing was seen.
     pub fn new(alloc: Global) -> Places
         ensures clock { result.clock ≡ 0 }
-        ensures calls { result.calls ≡ [] }
-        ensures events { result.events ≡ [] }
+        ensures nothing { StandsFor result [] }
     {
         Places {
             clock: 0,
