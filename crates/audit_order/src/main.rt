@@ -20,6 +20,8 @@ mod run;
 mod sorter;
 mod status;
 mod taker;
+#[cfg(test)]
+mod tests;
 mod undo;
 mod words;
 mod writer;

@@ -1,0 +1,133 @@
+//! Runs over objects in memory: what is written, and how the run ends.
+use super::*;
+use flow_base::{Bytes, List};
+use outside::{MemSink, MemSource};
+use std::test::Fail;
+
+// A process reads, and may have waited for what another one wrote later. Then it writes itself.
+const WAITED: &[u8] =
+    b"type=SYSCALL msg=audit(1.010:4): arch=c000003e syscall=1 a0=4 a1=0 a2=1 a3=0 ppid=1 pid=30\n\
+type=SYSCALL msg=audit(1.000:5): arch=c000003e syscall=0 a0=3 a1=0 a2=1 a3=0 ppid=1 pid=10\n\
+type=SYSCALL msg=audit(1.005:6): arch=c000003e syscall=1 a0=4 a1=0 a2=1 a3=0 ppid=1 pid=20\n\
+type=SYSCALL msg=audit(1.006:7): arch=c000003e syscall=1 a0=4 a1=0 a2=1 a3=0 ppid=1 pid=10\n";
+
+const WAITED_ORDERED: &[u8] =
+    b"type=SYSCALL msg=audit(1.005:6): arch=c000003e syscall=1 a0=4 a1=0 a2=1 a3=0 ppid=1 pid=20\n\
+type=EOE msg=audit(1.005:6): \n\
+type=SYSCALL msg=audit(1.010:4): arch=c000003e syscall=1 a0=4 a1=0 a2=1 a3=0 ppid=1 pid=30\n\
+type=EOE msg=audit(1.010:4): \n\
+type=SYSCALL msg=audit(1.010:5): arch=c000003e syscall=0 a0=3 a1=0 a2=1 a3=0 ppid=1 pid=10\x1dWAS={ audit(1.000:5) }\n\
+type=EOE msg=audit(1.010:5): \x1dWAS={ audit(1.000:5) }\n\
+type=SYSCALL msg=audit(1.010:7): arch=c000003e syscall=1 a0=4 a1=0 a2=1 a3=0 ppid=1 pid=10\x1dWAS={ audit(1.006:7) }\n\
+type=EOE msg=audit(1.010:7): \x1dWAS={ audit(1.006:7) }\n";
+
+const WAITED_UNDONE: &[u8] =
+    b"type=SYSCALL msg=audit(1.005:6): arch=c000003e syscall=1 a0=4 a1=0 a2=1 a3=0 ppid=1 pid=20\n\
+type=EOE msg=audit(1.005:6): \n\
+type=SYSCALL msg=audit(1.010:4): arch=c000003e syscall=1 a0=4 a1=0 a2=1 a3=0 ppid=1 pid=30\n\
+type=EOE msg=audit(1.010:4): \n\
+type=SYSCALL msg=audit(1.000:5): arch=c000003e syscall=0 a0=3 a1=0 a2=1 a3=0 ppid=1 pid=10\n\
+type=EOE msg=audit(1.000:5): \n\
+type=SYSCALL msg=audit(1.006:7): arch=c000003e syscall=1 a0=4 a1=0 a2=1 a3=0 ppid=1 pid=10\n\
+type=EOE msg=audit(1.006:7): \n";
+
+// The serial numbers begin again after a boot.
+const BOOTS: &[u8] =
+    b"type=SYSCALL msg=audit(900.000:9): arch=c000003e syscall=1 a0=4 a1=0 a2=1 a3=0 ppid=1 pid=10\n\
+type=SYSCALL msg=audit(1000.000:9): arch=c000003e syscall=1 a0=4 a1=0 a2=1 a3=0 ppid=1 pid=10\n";
+
+const BOOTS_ORDERED: &[u8] =
+    b"type=SYSCALL msg=audit(900.000:9): arch=c000003e syscall=1 a0=4 a1=0 a2=1 a3=0 ppid=1 pid=10\n\
+type=EOE msg=audit(900.000:9): \n\
+type=SYSCALL msg=audit(1000.000:9): arch=c000003e syscall=1 a0=4 a1=0 a2=1 a3=0 ppid=1 pid=10\n\
+type=EOE msg=audit(1000.000:9): \n";
+
+const NODES: &[u8] =
+    b"node=a type=SYSCALL msg=audit(5.000:7): arch=c000003e syscall=1 a0=4 a1=0 a2=1 a3=0 ppid=1 pid=10\n\
+node=b type=SYSCALL msg=audit(4.990:3): arch=c000003e syscall=1 a0=4 a1=0 a2=1 a3=0 ppid=1 pid=20\n";
+
+const NODES_ORDERED: &[u8] =
+    b"node=b type=SYSCALL msg=audit(4.990:3): arch=c000003e syscall=1 a0=4 a1=0 a2=1 a3=0 ppid=1 pid=20\n\
+node=b type=EOE msg=audit(4.990:3): \n\
+node=a type=SYSCALL msg=audit(5.000:7): arch=c000003e syscall=1 a0=4 a1=0 a2=1 a3=0 ppid=1 pid=10\n\
+node=a type=EOE msg=audit(5.000:7): \n";
+
+// The blank line follows the line before it.
+const BLANK: &[u8] =
+    b"type=PATH msg=audit(2.000:2): name=\"b\"\n\ntype=PATH msg=audit(1.000:1): name=\"a\"";
+
+const BLANK_ORDERED: &[u8] =
+    b"type=PATH msg=audit(1.000:1): name=\"a\"\ntype=PATH msg=audit(2.000:2): name=\"b\"\n\n";
+
+// A log that was ordered twice has two marks.
+const TWICE: &[u8] =
+    b"type=PATH msg=audit(1.010:5): name=\"a\"\x1dWAS={ audit(0.900:5) }\x1dWAS={ audit(1.000:5) }\n";
+
+const ONCE: &[u8] = b"type=PATH msg=audit(1.000:5): name=\"a\"\x1dWAS={ audit(0.900:5) }\n";
+
+// The numbers of calls that fail: the first one or none.
+fn calls(rt: &HostRuntime, first: bool) -> Result<List<u64>, Fail> {
+    let mut list = List::new(rt.alloc());
+    if first {
+        list.push(0)?;
+    }
+    Ok(list)
+}
+
+// How a run of a job ends, and what it writes.
+fn run(rt: &HostRuntime, job: Job, log: &[u8]) -> Result<(Status, Bytes), Fail> {
+    let mut log = MemSource::new(Bytes::from_slice(rt.alloc(), log)?, calls(rt, false)?);
+    let mut out = MemSink::new(Bytes::new(rt.alloc()), calls(rt, false)?);
+    let status = match job {
+        Job::Order => order_run(rt.alloc(), &mut log, &mut out),
+        Job::Undo => undo_run(rt.alloc(), &mut log, &mut out),
+    };
+    Ok((status, Bytes::from_slice(rt.alloc(), out.written())?))
+}
+
+#[test]
+fn lines_are_written_in_the_order_of_effects(rt: HostRuntime) -> Result<(), Fail> {
+    let rows = [
+        (b"".as_slice(), b"".as_slice()),
+        (WAITED, WAITED_ORDERED),
+        (BOOTS, BOOTS_ORDERED),
+        (NODES, NODES_ORDERED),
+        (BLANK, BLANK_ORDERED),
+    ];
+    for (log, text) in rows {
+        let (ended, written) = run(&rt, Job::Order, log)?;
+        assert_eq!(rt; ended, Status::Done);
+        assert_eq!(rt; written.as_slice(), text);
+    }
+    Ok(())
+}
+
+#[test]
+fn lines_are_undone_in_their_order(rt: HostRuntime) -> Result<(), Fail> {
+    let rows = [
+        (b"".as_slice(), b"".as_slice()),
+        (b"no stamp", b"no stamp\n"),
+        (WAITED_ORDERED, WAITED_UNDONE),
+        (BOOTS_ORDERED, BOOTS_ORDERED),
+        (TWICE, ONCE),
+    ];
+    for (log, text) in rows {
+        let (ended, written) = run(&rt, Job::Undo, log)?;
+        assert_eq!(rt; ended, Status::Done);
+        assert_eq!(rt; written.as_slice(), text);
+    }
+    Ok(())
+}
+
+#[test]
+fn a_fault_of_an_end_is_named(rt: HostRuntime) -> Result<(), Fail> {
+    for (read, write, status) in [
+        (true, false, Status::ReadFault),
+        (false, true, Status::WriteFault),
+    ] {
+        let mut log = MemSource::new(Bytes::from_slice(rt.alloc(), b"x\n")?, calls(&rt, read)?);
+        let mut out = MemSink::new(Bytes::new(rt.alloc()), calls(&rt, write)?);
+        assert_eq!(rt; order_run(rt.alloc(), &mut log, &mut out), status);
+    }
+    Ok(())
+}
