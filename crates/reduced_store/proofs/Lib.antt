@@ -4,3 +4,4 @@ pub mod FillLemmas
 pub mod PickLemmas
 pub mod ReadLemmas
 pub mod OpenLemmas
+pub mod StoreLemmas

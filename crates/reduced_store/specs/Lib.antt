@@ -3,3 +3,5 @@ pub mod Held
 pub mod Filling
 pub mod Reading
 pub mod Opening
+pub mod OnDisk
+pub mod Stores

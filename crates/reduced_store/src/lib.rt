@@ -12,11 +12,15 @@ mod apart;
 mod laws;
 mod objects;
 mod open;
+mod opened;
 mod picking;
 mod reading;
 mod rows;
+mod store;
 
 pub use laws::rows_of_a_mode_are_apart;
 pub use open::read_store;
+pub use opened::{OpenFault, Opened, Unopened};
 pub use reading::Found;
 pub use rows::StoreRows;
+pub use store::Store;

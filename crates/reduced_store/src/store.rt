@@ -1,0 +1,208 @@
+//! Rows that are kept on a disk.
+ghost use Rattle.std.specs.Prelude.{◌≡◌, ◌⊎◌, ℕ, List, IfOk, IfErr, MatchOption};
+ghost use Rattle.outside.specs.Disk.{IsDurable, OnlyLooks, Settles, UsesDisk};
+ghost use Rattle.reach_model.specs.declared.modes.Mode.{Mode as AMode};
+ghost use Rattle.batch_log.specs.Log.{log_of};
+ghost use Rattle.store_check.specs.Conditions.{bounds_of};
+ghost use Rattle.reduced_store.specs.Opening.{IsBadAt};
+ghost use Rattle.reduced_store.specs.Reading.{IsFound};
+ghost use Rattle.reduced_store.specs.Stores.{found_of, IsOpenedOver, disk_after, IsBlamed, Agree, Differ, IsOfWrongMode, IsWrong, refusal};
+ghost use Rattle.reduced_store.specs.declared.opened.OpenFault.TheVariants as fault;
+
+use crate::open::read_store;
+use crate::opened::{OpenFault, Opened, Unopened};
+use crate::reading::{Found, is_same};
+use crate::rows::StoreRows;
+use batch_log::{BatchLog, LogFault};
+use flow_base::{EntityId, Flow, Limits, NoMemory};
+use outside::Disk;
+use reach_model::Mode;
+use reach_rows::{First, Keep, Row, RowFault, Rows};
+use std::alloc::Global;
+use std::marker::Model;
+
+/// A store on a disk: the log of the disk's batches, and the rows.
+#[derive(Drop)]
+pub struct Store<D: Disk> {
+    log: BatchLog,
+    disk: D,
+    rows: StoreRows,
+}
+
+impl<D: Disk> Model for Store<D> {
+    ghost use Rattle.reduced_store.specs.OnDisk.{OnDisk};
+
+    ghost Value = { OnDisk D };
+
+    ghost view = { λ a. record { disk = a.disk; log = a.log; rows = a.rows } };
+}
+
+impl<D: Disk> Store<D> {
+    /// Opens a disk as a store, of the mode that is asked for if one is. It makes one sync, so that
+    /// nothing of an earlier run is pending, and then only reads. A refusal hands the disk back.
+    ///
+    /// `WrongMode` means that the disk has batches of another mode than the one asked for. A disk
+    /// without a batch is a store of any mode.
+    pub fn open_on(
+        alloc: Global,
+        limits: &Limits,
+        asked: Option<Mode>,
+        disk: D,
+    ) -> Result<Opened<D>, Unopened<D>>
+        ensures store { (D.state disk).told
+            → IfOk result (IsOpenedOver limits.now (D.state disk).reads) }
+        ensures found { IfOk result (λ opened. (payloads : List (List ℕ))
+            × IsFound (bounds_of limits.now) payloads (found_of opened)) }
+        ensures log { IfOk result (λ opened.
+            opened.store.log ≡ log_of limits.now opened.store.log.last) }
+        ensures agree { IfOk result (λ opened. Agree opened.mode asked) }
+        ensures bad { (D.state disk).told → (place : ℕ)
+            → IfErr result (λ back. back.fault ≡ fault.BadStore place
+            → IsBadAt limits.now place (D.state disk).reads) }
+        ensures wrong { (D.state disk).told → (kept want : AMode)
+            → IfErr result (λ back. back.fault ≡ fault.WrongMode kept want
+            → IsOfWrongMode limits.now (D.state disk).reads asked kept want) }
+        ensures durable { (D.state disk).told
+            → IsBlamed result ⊎ IsDurable (D.state (disk_after result)) }
+        ensures settles { (D.state disk).told
+            → IsBlamed result ⊎ Settles (D.state disk) (D.state (disk_after result)) }
+        ensures looks { OnlyLooks (D.state disk) (D.state (disk_after result)) }
+        ensures uses { UsesDisk D.state D.faults D.spent disk (disk_after result)
+            (IsBlamed result) }
+    {
+        let mut disk = disk;
+        match read_store(alloc, limits, &mut disk) {
+            Ok((log, found)) => admit(asked, log, found, disk),
+            Err(fault) => Err(Unopened {
+                fault: refusal_of(fault),
+                disk,
+            }),
+        }
+    }
+
+    /// Whether no commit has failed on the disk.
+    pub fn usable(&self) -> bool
+        ensures { result ≡ self.now.log.usable }
+    {
+        self.log.usable()
+    }
+
+    /// The disk.
+    pub fn into_disk(self) -> D
+        ensures { result ≡ self.disk }
+    {
+        self.disk
+    }
+}
+
+impl<D: Disk> Rows for Store<D> {
+    ghost use Rattle.std.specs.Prelude.{length};
+    ghost use Rattle.reach_model.specs.Numbers.{known};
+    ghost use Rattle.reach_model.specs.Rows.{firsts};
+    ghost use Rattle.reduced_store.specs.Held.{told_if};
+
+    ghost rows = { λ s. told_if s.rows.lawful s.rows.rows };
+
+    ghost count = { λ s. length s.rows.rows };
+
+    ghost known = { λ s. known (firsts s.rows.rows) };
+
+    ghost faults = { λ s. D.faults s.disk };
+
+    ghost spent = { λ s. D.spent s.disk };
+
+    fn count(&self) -> u64 {
+        self.rows.count()
+    }
+
+    fn known(&self) -> u32 {
+        self.rows.known()
+    }
+
+    fn first(&self, id: EntityId) -> First {
+        self.rows.first(id)
+    }
+
+    fn last_into(&self, id: EntityId) -> Option<u64> {
+        self.rows.last_into(id)
+    }
+
+    fn last_from(&self, id: EntityId) -> Option<u64> {
+        self.rows.last_from(id)
+    }
+
+    fn row(&mut self, index: u64) -> Result<Row, RowFault> {
+        self.rows.row(index)
+    }
+}
+
+impl<D: Disk> Keep for Store<D> {
+    ghost use Rattle.reduced_store.specs.Held.{HasRoom};
+
+    ghost has_room = { λ s. HasRoom s.rows };
+
+    fn reserve(&mut self, flows: usize) -> Result<(), NoMemory> {
+        self.rows.reserve(flows)
+    }
+
+    fn add(&mut self, flow: &Flow) {
+        self.rows.add(flow);
+    }
+
+    fn extend(&mut self, row: u64, flow: &Flow) {
+        self.rows.extend(row, flow);
+    }
+}
+
+// Makes a store of what was found, unless it is of another mode than the one asked for.
+fn admit<D: Disk>(
+    asked: Option<Mode>,
+    log: BatchLog,
+    found: Found,
+    disk: D,
+) -> Result<Opened<D>, Unopened<D>>
+    ensures store { IfOk result (λ opened.
+        (opened.store.log ≡ log) × (found_of opened ≡ found)) }
+    ensures agree { IfOk result (λ _. Agree found.mode asked) }
+    ensures wrong { IfErr result (λ back. IsWrong found.mode asked back.fault) }
+    ensures disk { disk_after result ≡ disk }
+{
+    match clash(found.mode, asked) {
+        Some(fault) => Err(Unopened { fault, disk }),
+        None => {
+            let Found { mode, rows, others } = found;
+            Ok(Opened {
+                store: Store { log, disk, rows },
+                mode,
+                rows: others,
+            })
+        }
+    }
+}
+
+// The fault of a disk whose mode isn't the one asked for.
+fn clash(kept: Option<Mode>, asked: Option<Mode>) -> Option<OpenFault>
+    ensures { MatchOption result (Agree kept asked) (IsWrong kept asked) }
+{
+    match (kept, asked) {
+        (Some(kept), Some(asked)) => {
+            if is_same(kept, asked) {
+                None
+            } else {
+                Some(OpenFault::WrongMode { kept, asked })
+            }
+        }
+        _ => None,
+    }
+}
+
+// Why reading a disk failed, as a fault of opening it.
+fn refusal_of(fault: LogFault) -> OpenFault
+    ensures { result ≡ refusal fault }
+{
+    match fault {
+        LogFault::StoreFault => OpenFault::StoreFault,
+        LogFault::BadStore(place) => OpenFault::BadStore(place),
+        LogFault::NoMemory => OpenFault::NoMemory,
+    }
+}
