@@ -5,3 +5,4 @@ pub mod PickLemmas
 pub mod ReadLemmas
 pub mod OpenLemmas
 pub mod StoreLemmas
+pub mod SavedLemmas

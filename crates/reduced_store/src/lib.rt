@@ -9,6 +9,7 @@
 #![tactic(auto)]
 
 mod apart;
+mod earlier;
 mod laws;
 mod objects;
 mod open;

@@ -9,10 +9,11 @@ ghost use Rattle.reduced_store.specs.Reading.{IsFound};
 ghost use Rattle.reduced_store.specs.Stores.{found_of, IsOpenedOver, disk_after, IsBlamed, Agree, Differ, IsOfWrongMode, IsWrong, refusal};
 ghost use Rattle.reduced_store.specs.declared.opened.OpenFault.TheVariants as fault;
 
+use crate::earlier::Earlier;
 use crate::open::read_store;
 use crate::opened::{OpenFault, Opened, Unopened};
 use crate::reading::{Found, is_same};
-use crate::rows::StoreRows;
+use crate::rows::{StoreRows, mark_of};
 use batch_log::{BatchLog, LogFault};
 use flow_base::{EntityId, Flow, Limits, NoMemory};
 use outside::Disk;
@@ -21,20 +22,33 @@ use reach_rows::{First, Keep, Row, RowFault, Rows};
 use std::alloc::Global;
 use std::marker::Model;
 
-/// A store on a disk: the log of the disk's batches, and the rows.
+/// A store on a disk: the log of the disk's batches, and the rows. Of the rows it is known what they
+/// were at the last commit: how many there were, and the last marks of those that were extended since.
 #[derive(Drop)]
 pub struct Store<D: Disk> {
     log: BatchLog,
     disk: D,
     rows: StoreRows,
+    count: u64,
+    earlier: Earlier,
 }
 
 impl<D: Disk> Model for Store<D> {
+    ghost use Rattle.std.specs.Prelude.{◌≤◌, length, take};
     ghost use Rattle.reduced_store.specs.OnDisk.{OnDisk};
+    ghost use Rattle.reduced_store.specs.Saving.{mark_at, put_back};
 
     ghost Value = { OnDisk D };
 
-    ghost view = { λ a. record { disk = a.disk; log = a.log; rows = a.rows } };
+    ghost view = { λ a. record {
+      disk = a.disk;
+      log = a.log;
+      rows = a.rows;
+      saved = take a.count (put_back (mark_at a.earlier.all) 0 a.rows.rows);
+      listing_room = a.earlier.spare;
+    } };
+
+    ghost invariant = { λ a. a.count ≤ length a.rows.rows };
 }
 
 impl<D: Disk> Store<D> {
@@ -55,6 +69,7 @@ impl<D: Disk> Store<D> {
             × IsFound (bounds_of limits.now) payloads (found_of opened)) }
         ensures log { IfOk result (λ opened.
             opened.store.log ≡ log_of limits.now opened.store.log.last) }
+        ensures saved { IfOk result (λ opened. opened.store.saved ≡ opened.store.rows.rows) }
         ensures agree { IfOk result (λ opened. Agree opened.mode asked) }
         ensures bad { (D.state disk).told → (place : ℕ)
             → IfErr result (λ back. back.fault ≡ fault.BadStore place
@@ -72,7 +87,7 @@ impl<D: Disk> Store<D> {
     {
         let mut disk = disk;
         match read_store(alloc, limits, &mut disk) {
-            Ok((log, found)) => admit(asked, log, found, disk),
+            Ok((log, found)) => admit(alloc, asked, log, found, disk),
             Err(fault) => Err(Unopened {
                 fault: refusal_of(fault),
                 disk,
@@ -137,25 +152,67 @@ impl<D: Disk> Rows for Store<D> {
 }
 
 impl<D: Disk> Keep for Store<D> {
-    ghost use Rattle.reduced_store.specs.Held.{HasRoom};
+    ghost use Rattle.std.specs.Prelude.{◌≡◌, ◌<◌, ◌+◌, ◌++◌, ◌∷◌, [], max, length, slice_index_or, OnOk};
+    ghost use Rattle.std.specs.Option.{ForSome, option_map};
+    ghost use Rattle.reach_model.specs.declared.modes.Verdict.TheVariants as Verdict;
+    ghost use Rattle.reach_model.specs.Numbers.{known, beyond};
+    ghost use Rattle.reach_model.specs.Rows.{Row as ARow, SamePair, firsts, row_of, rows_after};
+    ghost use Rattle.reach_rows.specs.Kept.{ComesAfter, GoesOn};
+    ghost use Rattle.store_check.specs.Store.{changed_at, extended};
+    ghost use Rattle.stored.specs.Batch.{mark_of as flow_mark};
+    ghost use Rattle.reduced_store.specs.Held.{told_if};
+    ghost use Rattle.reduced_store.specs.OnDisk.{HasRoomFor, SameBut};
 
-    ghost has_room = { λ s. HasRoom s.rows };
+    ghost has_room = { HasRoomFor };
 
-    fn reserve(&mut self, flows: usize) -> Result<(), NoMemory> {
-        self.rows.reserve(flows)
+    fn reserve(&mut self, flows: usize) -> Result<(), NoMemory>
+        ensures room { OnOk result (HasRoomFor self.new flows) }
+        ensures rows { self.new.rows.rows ≡ self.old.rows.rows }
+        ensures same { SameBut self.old self.new }
+    {
+        self.rows.make_room(flows)?;
+        self.earlier.reserve(flows)
     }
 
-    fn add(&mut self, flow: &Flow) {
-        self.rows.add(flow);
+    fn add(&mut self, flow: &Flow)
+        requires room { (n : ℕ) × HasRoomFor self.old (n + 1) }
+        requires numbered { GoesOn (known (firsts self.old.rows.rows)) flow.now }
+        requires later { ForSome (told_if self.old.rows.lawful self.old.rows.rows)
+            (λ R. ComesAfter R flow.now) }
+        ensures rows { self.new.rows.rows ≡ self.old.rows.rows ++ row_of flow.now ∷ [] }
+        ensures known { known (firsts self.new.rows.rows)
+            ≡ max (known (firsts self.old.rows.rows)) (beyond flow.now) }
+        ensures same { SameBut self.old self.new }
+        ensures room { (n : ℕ) → HasRoomFor self.old (n + 1) → HasRoomFor self.new n }
+    {
+        self.rows.push(flow);
     }
 
-    fn extend(&mut self, row: u64, flow: &Flow) {
-        self.rows.extend(row, flow);
+    fn extend(&mut self, row: u64, flow: &Flow)
+        requires room { (n : ℕ) × HasRoomFor self.old (n + 1) }
+        requires row { row < length self.old.rows.rows }
+        requires pair { ForSome (told_if self.old.rows.lawful self.old.rows.rows)
+            (λ R. (d : ARow) → SamePair (slice_index_or R row d).last flow.now) }
+        requires later { ForSome (told_if self.old.rows.lawful self.old.rows.rows)
+            (λ R. ComesAfter R flow.now) }
+        ensures rows { self.new.rows.rows
+            ≡ changed_at row (extended (flow_mark flow.now)) self.old.rows.rows }
+        ensures told { told_if self.new.rows.lawful self.new.rows.rows
+            ≡ option_map (λ R. rows_after R flow.now (Verdict.Extend row))
+            (told_if self.old.rows.lawful self.old.rows.rows) }
+        ensures counts { (length self.new.rows.rows ≡ length self.old.rows.rows)
+            × (known (firsts self.new.rows.rows) ≡ known (firsts self.old.rows.rows)) }
+        ensures same { SameBut self.old self.new }
+        ensures room { (n : ℕ) → HasRoomFor self.old (n + 1) → HasRoomFor self.new n }
+    {
+        self.earlier.note(row, self.rows.last_mark(row));
+        self.rows.set_last(row, mark_of(flow));
     }
 }
 
 // Makes a store of what was found, unless it is of another mode than the one asked for.
 fn admit<D: Disk>(
+    alloc: Global,
     asked: Option<Mode>,
     log: BatchLog,
     found: Found,
@@ -163,6 +220,7 @@ fn admit<D: Disk>(
 ) -> Result<Opened<D>, Unopened<D>>
     ensures store { IfOk result (λ opened.
         (opened.store.log ≡ log) × (found_of opened ≡ found)) }
+    ensures saved { IfOk result (λ opened. opened.store.saved ≡ opened.store.rows.rows) }
     ensures agree { IfOk result (λ _. Agree found.mode asked) }
     ensures wrong { IfErr result (λ back. IsWrong found.mode asked back.fault) }
     ensures disk { disk_after result ≡ disk }
@@ -171,8 +229,15 @@ fn admit<D: Disk>(
         Some(fault) => Err(Unopened { fault, disk }),
         None => {
             let Found { mode, rows, others } = found;
+            let store = Store {
+                log,
+                disk,
+                count: rows.count(),
+                rows,
+                earlier: Earlier::new(alloc),
+            };
             Ok(Opened {
-                store: Store { log, disk, rows },
+                store,
                 mode,
                 rows: others,
             })
