@@ -6,3 +6,4 @@ pub mod ReadLemmas
 pub mod OpenLemmas
 pub mod StoreLemmas
 pub mod SavedLemmas
+pub mod NewLemmas

@@ -3,7 +3,7 @@
 //! The conditions on a store don't ask that no two rows have one last place, and the laws of rows
 //! do. So the rows are judged once, when the store is opened, and are lawful or not from then on. What
 //! is said of rows is said of lawful ones.
-ghost use Rattle.std.specs.Prelude.{◌≡◌, ◌-◌, ◌+◌, ◌<◌, ◌∷◌, ◌++◌, ◌↔◌, [], ℕ, true, false, map, fold, length, vec_len, vec_capacity, slice_index_or, OnOk};
+ghost use Rattle.std.specs.Prelude.{◌≡◌, ◌-◌, ◌+◌, ◌<◌, ◌≤◌, ◌∷◌, ◌++◌, ◌↔◌, [], ℕ, true, false, map, fold, length, vec_len, vec_capacity, slice_index_or, IfOk, OnOk};
 ghost use Rattle.reach_model.specs.Numbers.{known};
 ghost use Rattle.reach_model.specs.Rows.{Row as ARow, firsts, row_of};
 ghost use Rattle.reach_rows.specs.Kept.{AreRows, GoesOn, row_of_kept};
@@ -11,10 +11,12 @@ ghost use Rattle.store_check.specs.Store.{changed_at, extended, grown, flow_of a
 ghost use Rattle.stored.specs.Batch.{mark_of as flow_mark};
 ghost use Rattle.reduced_store.specs.Filling.{GoesOnWith, AllGoOn, AreInOrder, AreApart};
 ghost use Rattle.reduced_store.specs.Held.{Held, HasRoom, AreHeld, told_if};
+ghost use Rattle.reduced_store.specs.Saving.{kept_after};
 
 use crate::apart::are_apart;
+use crate::new_rows::kept_rows;
 use crate::objects::{Object, enter, last_from_of, last_into_of, leave};
-use flow_base::{EntityId, Flow, NoMemory};
+use flow_base::{EntityId, Flow, List, NoMemory};
 use reach_rows::{First, Keep, Mark, Row, RowFault, Rows};
 use row_codec::{KeptRow, StoreRow};
 use std::alloc::Global;
@@ -152,6 +154,14 @@ impl StoreRows {
         ensures { (d : ARow) → result ≡ flow_mark (slice_index_or self.now.rows row d).last }
     {
         self.rows[row as usize].last
+    }
+
+    /// The Kept rows of the rows from an index on.
+    pub(crate) fn kept_after(&self, alloc: Global, count: u64) -> Result<List<StoreRow>, NoMemory>
+        requires { count ≤ length self.now.rows }
+        ensures { IfOk result (λ kept. kept ≡ kept_after count self.now.rows) }
+    {
+        kept_rows(alloc, &self.rows.as_slice()[count as usize..])
     }
 }
 

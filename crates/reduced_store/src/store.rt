@@ -1,8 +1,11 @@
 //! Rows that are kept on a disk.
-ghost use Rattle.std.specs.Prelude.{◌≡◌, ◌⊎◌, ℕ, List, IfOk, IfErr, MatchOption};
+ghost use Rattle.std.specs.Prelude.{◌≡◌, ◌⊎◌, ℕ, List, IfOk, IfErr, MatchOption, map, drop, length};
 ghost use Rattle.outside.specs.Disk.{IsDurable, OnlyLooks, Settles, UsesDisk};
 ghost use Rattle.reach_model.specs.declared.modes.Mode.{Mode as AMode};
+ghost use Rattle.reach_model.specs.Rows.{firsts};
 ghost use Rattle.batch_log.specs.Log.{log_of};
+ghost use Rattle.row_codec.specs.declared.rows.StoreRow.TheVariants.{Kept};
+ghost use Rattle.stored.specs.Batch.{kept_from};
 ghost use Rattle.store_check.specs.Conditions.{bounds_of};
 ghost use Rattle.reduced_store.specs.Opening.{IsBadAt};
 ghost use Rattle.reduced_store.specs.Reading.{IsFound};
@@ -15,10 +18,11 @@ use crate::opened::{OpenFault, Opened, Unopened};
 use crate::reading::{Found, is_same};
 use crate::rows::{StoreRows, mark_of};
 use batch_log::{BatchLog, LogFault};
-use flow_base::{EntityId, Flow, Limits, NoMemory};
+use flow_base::{EntityId, Flow, Limits, List, NoMemory};
 use outside::Disk;
 use reach_model::Mode;
 use reach_rows::{First, Keep, Row, RowFault, Rows};
+use row_codec::StoreRow;
 use std::alloc::Global;
 use std::marker::Model;
 
@@ -100,6 +104,15 @@ impl<D: Disk> Store<D> {
         ensures { result ≡ self.now.log.usable }
     {
         self.log.usable()
+    }
+
+    /// The Kept rows of the rows that were added since the last commit.
+    pub fn new_rows(&self, alloc: Global) -> Result<List<StoreRow>, NoMemory>
+        ensures { IfOk result (λ kept. kept ≡ map Kept (kept_from (firsts self.now.saved)
+            (drop (length self.now.saved) self.now.rows.rows))) }
+    {
+        let _ = &self.disk;
+        self.rows.kept_after(alloc, self.count)
     }
 
     /// The disk.
