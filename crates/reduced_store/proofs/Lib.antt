@@ -7,3 +7,4 @@ pub mod OpenLemmas
 pub mod StoreLemmas
 pub mod SavedLemmas
 pub mod NewLemmas
+pub mod ExtendLemmas

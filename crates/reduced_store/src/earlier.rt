@@ -43,6 +43,13 @@ impl Earlier {
         Ok(())
     }
 
+    /// The earlier last mark of a row, if it is listed.
+    pub fn at(&self, row: u64) -> Option<Mark>
+        ensures { result ≡ mark_at self.now.all row }
+    {
+        self.marks.get(&row).copied()
+    }
+
     /// Lists a row with its last mark, unless it is listed already.
     pub fn note(&mut self, row: u64, mark: Mark)
         requires { 1 ≤ self.old.spare }

@@ -3,18 +3,19 @@
 //! The conditions on a store don't ask that no two rows have one last place, and the laws of rows
 //! do. So the rows are judged once, when the store is opened, and are lawful or not from then on. What
 //! is said of rows is said of lawful ones.
-ghost use Rattle.std.specs.Prelude.{◌≡◌, ◌-◌, ◌+◌, ◌<◌, ◌≤◌, ◌∷◌, ◌++◌, ◌↔◌, [], ℕ, true, false, map, fold, length, vec_len, vec_capacity, slice_index_or, IfOk, OnOk};
+ghost use Rattle.std.specs.Prelude.{◌≡◌, ◌-◌, ◌+◌, ◌<◌, ◌≤◌, ◌∷◌, ◌++◌, ◌↔◌, [], ℕ, true, false, map, fold, length, vec_len, vec_capacity, slice_index_or, IfOk, IfSome, OnOk};
 ghost use Rattle.reach_model.specs.Numbers.{known};
 ghost use Rattle.reach_model.specs.Rows.{Row as ARow, firsts, row_of};
-ghost use Rattle.reach_rows.specs.Kept.{AreRows, GoesOn, row_of_kept};
+ghost use Rattle.reach_rows.specs.Kept.{AreRows, GoesOn, IsRowAt, row_of_kept};
 ghost use Rattle.store_check.specs.Store.{changed_at, extended, grown, flow_of as row_flow};
 ghost use Rattle.stored.specs.Batch.{mark_of as flow_mark};
 ghost use Rattle.reduced_store.specs.Filling.{GoesOnWith, AllGoOn, AreInOrder, AreApart};
 ghost use Rattle.reduced_store.specs.Held.{Held, HasRoom, AreHeld, told_if};
-ghost use Rattle.reduced_store.specs.Saving.{kept_after};
+ghost use Rattle.reduced_store.specs.Saving.{extends_over, kept_after, mark_at};
 
 use crate::apart::are_apart;
-use crate::new_rows::kept_rows;
+use crate::earlier::Earlier;
+use crate::new_rows::{extend_rows, kept_rows};
 use crate::objects::{Object, enter, last_from_of, last_into_of, leave};
 use flow_base::{EntityId, Flow, List, NoMemory};
 use reach_rows::{First, Keep, Mark, Row, RowFault, Rows};
@@ -156,6 +157,30 @@ impl StoreRows {
         self.rows[row as usize].last
     }
 
+    /// The row at an index.
+    pub(crate) fn row_at(&self, index: u64) -> Row
+        requires { index < length self.now.rows }
+        ensures exact { IfSome (told_if self.now.lawful self.now.rows)
+            (λ R. IsRowAt R index result) }
+        ensures ends { (result.from.0 < known (firsts self.now.rows))
+            × (result.to.0 < known (firsts self.now.rows)) }
+    {
+        self.rows[index as usize]
+    }
+
+    /// The Extend rows of the rows that are listed with another last place than they have now.
+    pub(crate) fn extends_over(
+        &self,
+        alloc: Global,
+        earlier: &Earlier,
+    ) -> Result<List<StoreRow>, NoMemory>
+        ensures { IfOk result (λ extends. extends
+            ≡ extends_over (mark_at earlier.now.all) self.now.rows) }
+    {
+        let _ = self.lawful;
+        extend_rows(alloc, self.rows.as_slice(), earlier)
+    }
+
     /// The Kept rows of the rows from an index on.
     pub(crate) fn kept_after(&self, alloc: Global, count: u64) -> Result<List<StoreRow>, NoMemory>
         requires { count ≤ length self.now.rows }
@@ -197,7 +222,7 @@ impl Rows for StoreRows {
     }
 
     fn row(&mut self, index: u64) -> Result<Row, RowFault> {
-        Ok(self.rows[index as usize])
+        Ok(self.row_at(index))
     }
 }
 

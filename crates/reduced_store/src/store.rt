@@ -1,11 +1,11 @@
 //! Rows that are kept on a disk.
-ghost use Rattle.std.specs.Prelude.{◌≡◌, ◌⊎◌, ℕ, List, IfOk, IfErr, MatchOption, map, drop, length};
+ghost use Rattle.std.specs.Prelude.{◌≡◌, ◌⊎◌, ◌++◌, ℕ, List, IfOk, IfErr, MatchOption, map, drop, length};
 ghost use Rattle.outside.specs.Disk.{IsDurable, OnlyLooks, Settles, UsesDisk};
 ghost use Rattle.reach_model.specs.declared.modes.Mode.{Mode as AMode};
 ghost use Rattle.reach_model.specs.Rows.{firsts};
 ghost use Rattle.batch_log.specs.Log.{log_of};
-ghost use Rattle.row_codec.specs.declared.rows.StoreRow.TheVariants.{Kept};
-ghost use Rattle.stored.specs.Batch.{kept_from};
+ghost use Rattle.row_codec.specs.declared.rows.StoreRow.TheVariants.{Kept, Extend};
+ghost use Rattle.stored.specs.Batch.{kept_from, extends_from, fresh};
 ghost use Rattle.store_check.specs.Conditions.{bounds_of};
 ghost use Rattle.reduced_store.specs.Opening.{IsBadAt};
 ghost use Rattle.reduced_store.specs.Reading.{IsFound};
@@ -38,9 +38,9 @@ pub struct Store<D: Disk> {
 }
 
 impl<D: Disk> Model for Store<D> {
-    ghost use Rattle.std.specs.Prelude.{◌≤◌, length, take};
+    ghost use Rattle.std.specs.Prelude.{take};
     ghost use Rattle.reduced_store.specs.OnDisk.{OnDisk};
-    ghost use Rattle.reduced_store.specs.Saving.{mark_at, put_back};
+    ghost use Rattle.reduced_store.specs.Saving.{mark_at, put_back, IsSince};
 
     ghost Value = { OnDisk D };
 
@@ -52,7 +52,7 @@ impl<D: Disk> Model for Store<D> {
       listing_room = a.earlier.spare;
     } };
 
-    ghost invariant = { λ a. a.count ≤ length a.rows.rows };
+    ghost invariant = { λ a. IsSince a.count (mark_at a.earlier.all) a.rows.rows };
 }
 
 impl<D: Disk> Store<D> {
@@ -115,6 +115,16 @@ impl<D: Disk> Store<D> {
         self.rows.kept_after(alloc, self.count)
     }
 
+    /// The Extend rows since the last commit: one for each row, also a new one, whose last flow has
+    /// another place than what the disk has and the new Kept rows say.
+    pub fn extended_rows(&self, alloc: Global) -> Result<List<StoreRow>, NoMemory>
+        ensures { IfOk result (λ extends. extends ≡ map Extend (extends_from 0 (self.now.saved
+            ++ map fresh (drop (length self.now.saved) self.now.rows.rows)) self.now.rows.rows)) }
+    {
+        let _ = &self.disk;
+        self.rows.extends_over(alloc, &self.earlier)
+    }
+
     /// The disk.
     pub fn into_disk(self) -> D
         ensures { result ≡ self.disk }
@@ -124,10 +134,13 @@ impl<D: Disk> Store<D> {
 }
 
 impl<D: Disk> Rows for Store<D> {
-    ghost use Rattle.std.specs.Prelude.{length};
+    ghost use Rattle.std.specs.Prelude.{◌≡◌, ◌<◌, length, IfOk, IfSome};
     ghost use Rattle.reach_model.specs.Numbers.{known};
     ghost use Rattle.reach_model.specs.Rows.{firsts};
+    ghost use Rattle.reach_rows.specs.Kept.{IsRowAt};
+    ghost use Rattle.reach_rows.specs.Reading.{IsReading};
     ghost use Rattle.reduced_store.specs.Held.{told_if};
+    ghost use Rattle.reduced_store.specs.OnDisk.{SameBut};
 
     ghost rows = { λ s. told_if s.rows.lawful s.rows.rows };
 
@@ -159,8 +172,20 @@ impl<D: Disk> Rows for Store<D> {
         self.rows.last_from(id)
     }
 
-    fn row(&mut self, index: u64) -> Result<Row, RowFault> {
-        self.rows.row(index)
+    fn row(&mut self, index: u64) -> Result<Row, RowFault>
+        requires { index < length self.old.rows.rows }
+        ensures exact { IfOk result (λ row. IfSome
+            (told_if self.old.rows.lawful self.old.rows.rows) (λ R. IsRowAt R index row)) }
+        ensures ends { IfOk result (λ row. (row.from.0 < known (firsts self.old.rows.rows))
+            × (row.to.0 < known (firsts self.old.rows.rows))) }
+        ensures rows { self.new.rows ≡ self.old.rows }
+        ensures same { SameBut self.old self.new }
+        ensures cause { IsReading (told_if self.old.rows.lawful self.old.rows.rows)
+            (D.faults self.old.disk) (D.faults self.new.disk)
+            (D.spent self.old.disk) (D.spent self.new.disk) result }
+    {
+        let _ = &self.disk;
+        Ok(self.rows.row_at(index))
     }
 }
 

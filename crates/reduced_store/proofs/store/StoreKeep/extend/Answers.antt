@@ -1,8 +1,8 @@
-use Rattle.std.proofs.Common.{◌≤◌, ◌∙◌, ℕ, length, sym, ap, subst, take, arith}
+use Rattle.std.proofs.Common.{◌<◌, ◌∙◌, length, sym, ap, subst, take, arith}
 use Rattle.reduced_store.specs.Held.{Held}
 use Rattle.reduced_store.specs.OnDisk.{OnDisk}
-use Rattle.reduced_store.specs.Saving.{mark_at, put_back}
-use Rattle.reduced_store.proofs.HeldLemmas.{changed_length}
+use Rattle.reduced_store.specs.Saving.{mark_at, put_back, IsSince}
+use Rattle.reduced_store.proofs.ExtendLemmas.{since_extended}
 use Rattle.reduced_store.proofs.SavedLemmas.{set_lawful, set_told, set_same, put_back_extended}
 use Rattle.reduced_store.proofs.store.StoreKeep.extend.Goals as goal
 
@@ -12,8 +12,14 @@ set_last-requires-clause-lawful g c =
 
 pub invariant_of-self : goal.invariant_of-self
 invariant_of-self g c =
-    let long = ap (λ (h : Held). length h.rows) c.set_last.ensures ∙ changed_length c.args.row c.mark_of.result c.self.inside.rows.rows in
-    subst (λ (n : ℕ). c.self.inside.count ≤ n) (sym long) c.self.invariant
+    let find = mark_at c.self.inside.earlier.all in
+    let found = mark_at c.note.new.self.all in
+    let count = c.self.inside.count in
+    let row = c.args.row in
+    let rows = c.self.inside.rows.rows in
+    let within = subst (λ (s : OnDisk _). row < length s.rows.rows) (sym c.self.view_is) c.requires.row in
+    let back = put_back_extended find found 0 row row c.last_mark.result c.mark_of.result rows (omega arith) c.note.ensures.here c.note.ensures.others (λ h d. c.last_mark.ensures d) in
+    subst (λ (h : Held). IsSince count found h.rows) (sym c.set_last.ensures) (since_extended count find found rows row c.mark_of.result c.self.invariant within c.note.ensures.others back)
 
 pub returns-clause-told : goal.returns-clause-told
 returns-clause-told g c =
