@@ -1,6 +1,11 @@
 -- A store, as contracts see it.
-use Rattle.std.specs.Prelude.{◌≡◌, ℕ, ◌≤◌, List}
-use Rattle.reach_model.specs.Rows.{Row}
+use Rattle.std.specs.Prelude.{◌≡◌, ℕ, ◌≤◌, List, ◌++◌, length, map, drop}
+use Rattle.reach_model.specs.declared.modes.Mode.{Mode}
+use Rattle.reach_model.specs.Rows.{Row, firsts}
+use Rattle.row_codec.specs.declared.rows.StoreRow.{StoreRow}
+use Rattle.row_codec.specs.declared.rows.StoreRow.TheVariants.{Kept, Extend}
+use Rattle.row_codec.specs.Payload.{IsPayload}
+use Rattle.stored.specs.Batch.{kept_from, extends_from, fresh}
 use Rattle.batch_log.specs.Log.{Log}
 use Rattle.reduced_store.specs.Held.{Held, HasRoom}
 
@@ -23,3 +28,15 @@ pub record SameBut {D : Type 0} (old new : OnDisk D) : Type 0 where
   pub log : new.log ≡ old.log
   pub lawful : new.rows.lawful ≡ old.rows.lawful
   pub saved : new.saved ≡ old.saved
+
+-- the Kept and the Extend rows that lead from the rows of the last commit to those of now
+abbrev pub rows_since : (saved now : List Row) → List StoreRow
+rows_since saved now =
+    map Kept (kept_from (firsts saved) (drop (length saved) now))
+    ++ map Extend (extends_from 0 (saved ++ map fresh (drop (length saved) now)) now)
+
+-- the payload of a batch that has these rows of the store, after rows of entities and before others
+abbrev pub IsCommit : {D : Type 0} → OnDisk D → List ℕ → Type 0
+IsCommit store payload =
+    (mode : Mode) × (entities others : List StoreRow)
+    × IsPayload mode (entities ++ (rows_since store.saved store.rows.rows ++ others)) payload

@@ -6,7 +6,7 @@
 //!
 //! A `Store` is a disk with its log and its rows. Beside them it keeps how many rows there were at the
 //! last commit, and the last marks that rows had then which were extended since, so that it is known
-//! what of the rows is new.
+//! what of the rows is new. A commit puts that on the disk.
 //!
 //! The conditions on a store let two rows have one last place, which the laws of rows forbid. So the
 //! rows of a store are lawful or not. Rows that a mode keeps always are.

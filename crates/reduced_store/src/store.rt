@@ -1,9 +1,13 @@
 //! Rows that are kept on a disk.
-ghost use Rattle.std.specs.Prelude.{◌≡◌, ◌⊎◌, ◌++◌, ℕ, List, IfOk, IfErr, MatchOption, map, drop, length};
-ghost use Rattle.outside.specs.Disk.{IsDurable, OnlyLooks, Settles, UsesDisk};
+ghost use Rattle.std.specs.Prelude.{◌≡◌, ◌⊎◌, ◌↔◌, ◌+◌, ◌++◌, ◌∷◌, [], Some, true, OnOk, OnErr, IsErrOf, ℕ, List, IfOk, IfErr, MatchOption, map, drop, length};
+ghost use Rattle.outside.specs.Disk.{put_at, IsDurable, LeavesOnly, OnlyLooks, Settles, UsesDisk};
 ghost use Rattle.reach_model.specs.declared.modes.Mode.{Mode as AMode};
 ghost use Rattle.reach_model.specs.Rows.{firsts};
-ghost use Rattle.batch_log.specs.Log.{log_of};
+ghost use Rattle.batch_log.specs.Log.{log_of, log_after, next_gate, passed, IsRefused, LogHas, EachHas};
+ghost use Rattle.batch_log.specs.Batches as on_disk;
+ghost use Rattle.batch_log.specs.Batches.{after_gate, IsBeforeOrAfter};
+ghost use Rattle.batch_log.specs.declared.log.CommitFault.TheVariants as commit;
+ghost use Rattle.reduced_store.specs.OnDisk.{IsCommit};
 ghost use Rattle.row_codec.specs.declared.rows.StoreRow.TheVariants.{Kept, Extend};
 ghost use Rattle.stored.specs.Batch.{kept_from, extends_from, fresh};
 ghost use Rattle.store_check.specs.Conditions.{bounds_of};
@@ -17,7 +21,7 @@ use crate::open::read_store;
 use crate::opened::{OpenFault, Opened, Unopened};
 use crate::reading::{Found, is_same};
 use crate::rows::{StoreRows, mark_of};
-use batch_log::{BatchLog, LogFault};
+use batch_log::{BatchLog, CommitFault, LogFault};
 use flow_base::{EntityId, Flow, Limits, List, NoMemory};
 use outside::Disk;
 use reach_model::Mode;
@@ -123,6 +127,47 @@ impl<D: Disk> Store<D> {
     {
         let _ = &self.disk;
         self.rows.extends_over(alloc, &self.earlier)
+    }
+
+    /// Puts a batch with this payload after those that are there, and takes the rows for saved. A
+    /// crash at any moment leaves a store of the batches from before, or of these and the new one.
+    /// After `StoreFault` either may be there, and the disk has to be opened again. After `Full` and
+    /// `NoMemory` nothing has changed.
+    pub fn commit(&mut self, alloc: Global, payload: &[u8]) -> Result<(), CommitFault>
+        requires batch { IsCommit self.old payload.now }
+        requires usable { self.old.log.usable ≡ true }
+        requires stands { (D.state self.old.disk).told → (payloads : List (List ℕ))
+            × LogHas self.old.log payloads (D.state self.old.disk).reads }
+        ensures written { (D.state self.old.disk).told → OnOk result ((D.state self.new.disk).reads
+            ≡ put_at (next_gate self.old.log) (on_disk.OPEN ∷ after_gate payload.now)
+            (D.state self.old.disk).reads) }
+        ensures adds { (D.state self.old.disk).told → (payloads : List (List ℕ))
+            → LogHas self.old.log payloads (D.state self.old.disk).reads
+            → OnOk result
+            (LogHas self.new.log (payloads ++ payload.now ∷ []) (D.state self.new.disk).reads) }
+        ensures durable { OnOk result (IsDurable (D.state self.new.disk)) }
+        ensures any_moment { (D.state self.old.disk).told → (payloads : List (List ℕ))
+            → EachHas self.old.log payloads (D.state self.old.disk).image
+            → LeavesOnly (D.state self.old.disk) (D.state self.new.disk)
+            (IsBeforeOrAfter self.old.log.most payloads payload.now) }
+        ensures log { self.new.log ≡ log_after self.old.log (9 + length payload.now) result }
+        ensures full { (full : _) → IsErrOf result (commit.Full full)
+            ↔ (passed self.old.log (length payload.now) ≡ Some full) }
+        ensures refused { IsRefused result → self.new ≡ self.old }
+        ensures uses { UsesDisk D.state D.faults D.spent self.old.disk self.new.disk
+            (IsErrOf result commit.StoreFault) }
+        ensures rows { self.new.rows ≡ self.old.rows }
+        ensures saved { OnOk result (self.new.saved ≡ self.new.rows.rows) }
+        ensures unsaved { OnErr result (self.new.saved ≡ self.old.saved) }
+    {
+        match self.log.commit(&mut self.disk, payload) {
+            Ok(()) => {
+                self.count = self.rows.count();
+                self.earlier = Earlier::new(alloc);
+                Ok(())
+            }
+            Err(fault) => Err(fault),
+        }
     }
 
     /// The disk.
