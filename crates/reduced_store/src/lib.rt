@@ -30,3 +30,6 @@ pub use opened::{OpenFault, Opened, Unopened};
 pub use reading::Found;
 pub use rows::StoreRows;
 pub use store::Store;
+
+#[cfg(test)]
+mod tests;
