@@ -4,7 +4,7 @@ use Rattle.std.proofs.lemmas.Bool.{eq-eqb}
 use Rattle.std.proofs.lemmas.List.{append-nil, append_assoc, take-append-drop, map-append, get_or-map, length-map, length-take-le}
 use Rattle.std.proofs.Math.Seq.{take-suc}
 use Rattle.flow_base.specs.declared.types.Flow.{Flow}
-use Rattle.reach_model.specs.Rows.{Row, firsts, row_of}
+use Rattle.reach_model.specs.Rows.{Row, row_of}
 use Rattle.reach_rows.specs.declared.rows.Mark.{Mark}
 use Rattle.reach_rows.specs.declared.rows.Row.{Row as KeptRow}
 use Rattle.reach_rows.specs.Kept.{row_of_kept}
@@ -15,7 +15,7 @@ use Rattle.store_check.specs.Store.{changed_at, extended}
 use Rattle.stored.specs.Batch.{mark_of, extends_from, fresh}
 use Rattle.reduced_store.specs.Saving.{with_mark, put_back, extend_if, extends_over, IsSince}
 use Rattle.reduced_store.proofs.HeldLemmas.{changed_length}
-use Rattle.reduced_store.proofs.SavedLemmas.{put_back_length, put_back_append, put_back_extended}
+use Rattle.reduced_store.proofs.SavedLemmas.{put_back_length, put_back_append}
 
 -- the Extend row of one row
 abbrev one_extend : ℕ → Row → Row → List ExtendRow

@@ -15,7 +15,6 @@ use Rattle.row_codec.specs.declared.rows.StoreRow.{StoreRow}
 use Rattle.row_codec.specs.declared.rows.StoreRow.TheVariants.{Kept}
 use Rattle.store_check.specs.Store.{last_index, one_later}
 use Rattle.stored.specs.Batch.{kept_row, kept_from}
-use Rattle.reduced_store.specs.Objects.{AreObjects}
 use Rattle.reduced_store.specs.Held.{AreHeld}
 use Rattle.reduced_store.specs.Saving.{as_kept, with_mark, put_back, kept_after}
 use Rattle.reduced_store.specs.declared.objects.Object.{Object}

@@ -3,7 +3,7 @@ use Rattle.std.proofs.Common.{◌≡◌, ◌∙◌, sym, ap, subst, ℕ, List, O
 use Rattle.std.specs.Result.{IfOk, IfErr}
 use Rattle.flow_base.specs.declared.limits.Limits.{Limits}
 use Rattle.reach_model.specs.declared.modes.Mode.{Mode}
-use Rattle.batch_log.specs.Log.{Log, log_of}
+use Rattle.batch_log.specs.Log.{Log}
 use Rattle.store_check.specs.Conditions.{Bounds}
 use Rattle.reduced_store.specs.Opening.{IsStoreRead}
 use Rattle.reduced_store.specs.Reading.{IsFound}

@@ -13,7 +13,7 @@ ghost use Rattle.stored.specs.Batch.{kept_from, extends_from, fresh};
 ghost use Rattle.store_check.specs.Conditions.{bounds_of};
 ghost use Rattle.reduced_store.specs.Opening.{IsBadAt};
 ghost use Rattle.reduced_store.specs.Reading.{IsFound};
-ghost use Rattle.reduced_store.specs.Stores.{found_of, IsOpenedOver, disk_after, IsBlamed, Agree, Differ, IsOfWrongMode, IsWrong, refusal};
+ghost use Rattle.reduced_store.specs.Stores.{found_of, IsOpenedOver, disk_after, IsBlamed, Agree, IsOfWrongMode, IsWrong, refusal};
 ghost use Rattle.reduced_store.specs.declared.opened.OpenFault.TheVariants as fault;
 
 use crate::earlier::Earlier;

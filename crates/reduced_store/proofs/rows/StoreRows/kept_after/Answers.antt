@@ -1,7 +1,6 @@
-use Rattle.std.proofs.Common.{◌≡◌, ◌∙◌, ◌≤◌, ◌-◌, length, map, take, drop, sym, ap, subst, arith}
+use Rattle.std.proofs.Common.{◌≡◌, ◌∙◌, ◌≤◌, ◌-◌, length, map, take, drop, sym, ap, subst}
 use Rattle.std.proofs.lemmas.List.{take_rest}
 use Rattle.std.proofs.lemmas.Result.{IfOk-weaker}
-use Rattle.reach_rows.specs.Kept.{row_of_kept}
 use Rattle.reduced_store.specs.Held.{Held}
 use Rattle.reduced_store.specs.Saving.{as_kept, kept_after}
 use Rattle.reduced_store.proofs.HeldLemmas.{all_rows}

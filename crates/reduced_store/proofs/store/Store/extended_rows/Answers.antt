@@ -1,10 +1,9 @@
-use Rattle.std.proofs.Common.{◌≡◌, ◌∙◌, ◌++◌, length, map, take, drop, ap}
+use Rattle.std.proofs.Common.{◌≡◌, ◌∙◌, ◌++◌, length, map, drop, ap}
 use Rattle.std.proofs.lemmas.Result.{IfOk-weaker}
-use Rattle.reach_model.specs.Rows.{Row}
 use Rattle.row_codec.specs.declared.rows.StoreRow.TheVariants.{Extend}
 use Rattle.stored.specs.Batch.{extends_from, fresh}
 use Rattle.reduced_store.specs.OnDisk.{OnDisk}
-use Rattle.reduced_store.specs.Saving.{mark_at, put_back}
+use Rattle.reduced_store.specs.Saving.{mark_at}
 use Rattle.reduced_store.proofs.ExtendLemmas.{since_all}
 use Rattle.reduced_store.proofs.store.Store.extended_rows.Goals as goal
 

@@ -1,4 +1,4 @@
-use Rattle.std.proofs.Common.{◌≡◌, ◌∙◌, ◌≤◌, length, map, drop, ap, subst}
+use Rattle.std.proofs.Common.{◌≡◌, ◌∙◌, length, map, drop, ap}
 use Rattle.std.proofs.lemmas.Result.{IfOk-weaker}
 use Rattle.reach_model.specs.Rows.{firsts}
 use Rattle.row_codec.specs.declared.rows.StoreRow.TheVariants.{Kept}
