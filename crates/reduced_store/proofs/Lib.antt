@@ -4,3 +4,7 @@ pub mod FillLemmas
 pub mod PickLemmas
 pub mod ReadLemmas
 pub mod OpenLemmas
+pub mod StoreLemmas
+pub mod SavedLemmas
+pub mod NewLemmas
+pub mod ExtendLemmas

@@ -1,7 +1,9 @@
 -- Batches of a disk, one after the other.
-use Rattle.std.proofs.Common.{◌≡◌, ◌∙◌, refl, sym, ap, subst, ℕ, zero, suc, ◌+◌, ◌<◌, ◌≤◌, List, [], ◌∷◌, ◌++◌, length, get_or, take, Option, Some, None, arith}
+use Rattle.std.proofs.Common.{◌≡◌, ◌∙◌, refl, sym, ap, subst, ℕ, zero, suc, ◌+◌, ◌<◌, ◌≤◌, List, [], ◌∷◌, ◌++◌, length, get_or, take, Option, Some, None, Ok, Err, ◌⊎◌, ⊎_elim, true≢false, arith}
 use Rattle.std.specs.List.{AllZip}
+use Rattle.std.specs.Result.{is_ok}
 use Rattle.std.proofs.lemmas.List.{take_more}
+use Rattle.outside.specs.Disk.{DiskState, OnlyLooks, Settles}
 use Rattle.reach_model.specs.declared.modes.Mode.{Mode}
 use Rattle.reach_model.specs.declared.modes.Mode.TheVariants.{Plain}
 use Rattle.row_codec.specs.declared.rows.StoreRow.{StoreRow}
@@ -56,3 +58,16 @@ read_of bounds payloads batches (Some c) checked = (c.mode, batches, checked.rea
 
 pub store_of : (bounds : Bounds) (payloads : List (List ℕ)) (r : Reading) → HasRead bounds payloads r → (mode : Mode) × (bs : List (List StoreRow)) × IsRead bounds mode bs payloads
 store_of bounds payloads r h = read_of bounds payloads h.batches r.checked h.checked
+
+-- calls that write nothing after a disk has settled
+pub settles_by_looking : (old mid new : DiskState) → Settles old mid → OnlyLooks mid new → mid.told → Settles old new
+settles_by_looking old mid new settles looks told = record {
+  from = settles.from;
+  after = settles.after;
+  by_now = omega (arith, settles.by_now, looks.later);
+  only = λ c left. settles.only c (looks.adds_nothing settles.from c settles.by_now left) ∙ sym (looks.same told);
+}
+
+-- a call that didn't fail isn't to blame
+pub not_blamed : {T E P : Type 0} (x : T) (e : E) → ((Ok x ≡ Err e) ⊎ P) → P
+not_blamed {T} {E} x e either = ⊎_elim (λ blamed. absurd (true≢false (ap is_ok blamed))) (λ p. p) either

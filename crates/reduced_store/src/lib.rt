@@ -4,19 +4,32 @@
 //! batch against all batches before it. What comes of it are the kept rows (`StoreRows`), from which
 //! questions are answered and to which a reducer adds, and the rows from which tables are filled.
 //!
+//! A `Store` is a disk with its log and its rows. Beside them it keeps how many rows there were at the
+//! last commit, and the last marks that rows had then which were extended since, so that it is known
+//! what of the rows is new. A commit puts that on the disk.
+//!
 //! The conditions on a store let two rows have one last place, which the laws of rows forbid. So the
 //! rows of a store are lawful or not. Rows that a mode keeps always are.
 #![tactic(auto)]
 
 mod apart;
+mod earlier;
 mod laws;
+mod new_rows;
 mod objects;
 mod open;
+mod opened;
 mod picking;
 mod reading;
 mod rows;
+mod store;
 
 pub use laws::rows_of_a_mode_are_apart;
 pub use open::read_store;
+pub use opened::{OpenFault, Opened, Unopened};
 pub use reading::Found;
 pub use rows::StoreRows;
+pub use store::Store;
+
+#[cfg(test)]
+mod tests;

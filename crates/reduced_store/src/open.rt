@@ -33,6 +33,8 @@ pub fn read_store<D: Disk>(
         → IsBadAt limits.now place (D.state disk.old).reads }
     ensures durable { (D.state disk.old).told
         → IsErrOf result fault.StoreFault ⊎ IsDurable (D.state disk.new) }
+    ensures settles { (D.state disk.old).told
+        → IsErrOf result fault.StoreFault ⊎ Settles (D.state disk.old) (D.state disk.new) }
     ensures looks { OnlyLooks (D.state disk.old) (D.state disk.new) }
     ensures uses { UsesDisk D.state D.faults D.spent disk.old disk.new
         (IsErrOf result fault.StoreFault) }

@@ -155,8 +155,8 @@ fn check_for(
     }
 }
 
-// Whether two modes are the same.
-fn is_same(kept: Mode, mode: Mode) -> bool
+/// Whether two modes are the same.
+pub fn is_same(kept: Mode, mode: Mode) -> bool
     ensures { IsTrue result ↔ (kept ≡ mode) }
 {
     kept == mode

@@ -3,17 +3,21 @@
 //! The conditions on a store don't ask that no two rows have one last place, and the laws of rows
 //! do. So the rows are judged once, when the store is opened, and are lawful or not from then on. What
 //! is said of rows is said of lawful ones.
-ghost use Rattle.std.specs.Prelude.{◌≡◌, ◌-◌, ◌+◌, ◌<◌, ◌∷◌, ◌++◌, ◌↔◌, [], ℕ, true, false, map, fold, length, vec_len, vec_capacity, OnOk};
+ghost use Rattle.std.specs.Prelude.{◌≡◌, ◌-◌, ◌+◌, ◌<◌, ◌≤◌, ◌∷◌, ◌++◌, ◌↔◌, [], ℕ, true, false, map, fold, length, vec_len, vec_capacity, slice_index_or, IfOk, IfSome, OnOk};
 ghost use Rattle.reach_model.specs.Numbers.{known};
-ghost use Rattle.reach_model.specs.Rows.{firsts, row_of};
-ghost use Rattle.reach_rows.specs.Kept.{AreRows, GoesOn, row_of_kept};
+ghost use Rattle.reach_model.specs.Rows.{Row as ARow, firsts, row_of};
+ghost use Rattle.reach_rows.specs.Kept.{AreRows, GoesOn, IsRowAt, row_of_kept};
 ghost use Rattle.store_check.specs.Store.{changed_at, extended, grown, flow_of as row_flow};
+ghost use Rattle.stored.specs.Batch.{mark_of as flow_mark};
 ghost use Rattle.reduced_store.specs.Filling.{GoesOnWith, AllGoOn, AreInOrder, AreApart};
 ghost use Rattle.reduced_store.specs.Held.{Held, HasRoom, AreHeld, told_if};
+ghost use Rattle.reduced_store.specs.Saving.{extends_over, kept_after, mark_at};
 
 use crate::apart::are_apart;
+use crate::earlier::Earlier;
+use crate::new_rows::{extend_rows, kept_rows};
 use crate::objects::{Object, enter, last_from_of, last_into_of, leave};
-use flow_base::{EntityId, Flow, NoMemory};
+use flow_base::{EntityId, Flow, List, NoMemory};
 use reach_rows::{First, Keep, Mark, Row, RowFault, Rows};
 use row_codec::{KeptRow, StoreRow};
 use std::alloc::Global;
@@ -53,8 +57,8 @@ impl StoreRows {
         }
     }
 
-    // Makes room for so many more flows.
-    fn make_room(&mut self, flows: usize) -> Result<(), NoMemory>
+    /// Makes room for so many more flows.
+    pub(crate) fn make_room(&mut self, flows: usize) -> Result<(), NoMemory>
         ensures room { OnOk result (HasRoom self.new flows) }
         ensures same { (self.new.rows ≡ self.old.rows) × (self.new.lawful ≡ self.old.lawful) }
     {
@@ -107,8 +111,8 @@ impl StoreRows {
         Ok(())
     }
 
-    // Puts a row last whose first and last flow are this one.
-    fn push(&mut self, flow: &Flow)
+    /// Puts a row last whose first and last flow are this one.
+    pub(crate) fn push(&mut self, flow: &Flow)
         requires room { (n : ℕ) × HasRoom self.old (n + 1) }
         requires numbered { GoesOn (known (firsts self.old.rows)) flow.now }
         requires lawful { self.old.lawful ≡ true → AreRows self.old.rows
@@ -132,8 +136,8 @@ impl StoreRows {
         enter(&mut self.objects, flow, row);
     }
 
-    // Gives the last flow of a row this mark.
-    fn set_last(&mut self, row: u64, mark: Mark)
+    /// Gives the last flow of a row this mark.
+    pub(crate) fn set_last(&mut self, row: u64, mark: Mark)
         requires row { row < length self.old.rows }
         requires lawful { self.old.lawful ≡ true → AreRows self.old.rows
             → AreRows (changed_at row (extended mark) self.old.rows) }
@@ -141,6 +145,48 @@ impl StoreRows {
             ≡ record self.old { rows = changed_at row (extended mark) self.old.rows } }
     {
         self.rows[row as usize].last = mark;
+    }
+}
+
+impl StoreRows {
+    /// The mark of a row's last flow.
+    pub(crate) fn last_mark(&self, row: u64) -> Mark
+        requires { row < length self.now.rows }
+        ensures { (d : ARow) → result ≡ flow_mark (slice_index_or self.now.rows row d).last }
+    {
+        self.rows[row as usize].last
+    }
+
+    /// The row at an index.
+    pub(crate) fn row_at(&self, index: u64) -> Row
+        requires { index < length self.now.rows }
+        ensures exact { IfSome (told_if self.now.lawful self.now.rows)
+            (λ R. IsRowAt R index result) }
+        ensures ends { (result.from.0 < known (firsts self.now.rows))
+            × (result.to.0 < known (firsts self.now.rows)) }
+    {
+        self.rows[index as usize]
+    }
+
+    /// The Extend rows of the rows that are listed with another last place than they have now.
+    pub(crate) fn extends_over(
+        &self,
+        alloc: Global,
+        earlier: &Earlier,
+    ) -> Result<List<StoreRow>, NoMemory>
+        ensures { IfOk result (λ extends. extends
+            ≡ extends_over (mark_at earlier.now.all) self.now.rows) }
+    {
+        let _ = self.lawful;
+        extend_rows(alloc, self.rows.as_slice(), earlier)
+    }
+
+    /// The Kept rows of the rows from an index on.
+    pub(crate) fn kept_after(&self, alloc: Global, count: u64) -> Result<List<StoreRow>, NoMemory>
+        requires { count ≤ length self.now.rows }
+        ensures { IfOk result (λ kept. kept ≡ kept_after count self.now.rows) }
+    {
+        kept_rows(alloc, &self.rows.as_slice()[count as usize..])
     }
 }
 
@@ -176,7 +222,7 @@ impl Rows for StoreRows {
     }
 
     fn row(&mut self, index: u64) -> Result<Row, RowFault> {
-        Ok(self.rows[index as usize])
+        Ok(self.row_at(index))
     }
 }
 
@@ -210,7 +256,7 @@ fn flow_of(row: &KeptRow) -> Flow
 }
 
 /// The mark of a flow.
-fn mark_of(flow: &Flow) -> Mark
+pub fn mark_of(flow: &Flow) -> Mark
     ensures { result ≡ record { at = flow.now.at; how = flow.now.how; serial = flow.now.serial } }
 {
     Mark {

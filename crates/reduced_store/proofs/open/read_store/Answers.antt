@@ -1,7 +1,9 @@
 use Rattle.std.proofs.Common.{◌∙◌, inr, sym, subst}
 use Rattle.std.proofs.lemmas.Result.{err_from_is_err_and}
+use Rattle.batch_log.specs.declared.open.LogFault.TheVariants.{StoreFault}
 use Rattle.store_check.specs.Conditions.{bounds_of}
 use Rattle.reduced_store.specs.Opening.{AreThere, StopsAt}
+use Rattle.reduced_store.proofs.OpenLemmas.{settles_by_looking, not_blamed}
 use Rattle.reduced_store.proofs.open.read_store.Goals as goal
 
 pub returns-in_err-found-clause-bad : goal.returns-in_err-found-clause-bad
@@ -20,3 +22,15 @@ returns-in_err-found-clause-bad g c = λ told place is.
     let b = p.2 in
     let stops = c.in_err-found.ensures.bad (looks.tells told) payloads there_then place cc in
     inr (payloads, (c.in_ok-log.log.last, opened.1), subst (λ b. StopsAt (bounds_of c.args.limits.now) b payloads place) listed stops)
+
+pub returns-in_err-found-clause-settles : goal.returns-in_err-found-clause-settles
+returns-in_err-found-clause-settles g c = λ told.
+    let state = g.D.Disk.state in
+    let settles = not_blamed (c.in_ok-log.log, c.in_ok-log.batches) StoreFault (c.in_ok-log.ensures.settles told) in
+    inr (settles_by_looking (state c.args.disk.now) (state c.open_on.new.disk) (state c.read_batches.new.disk) settles c.read_batches.ensures.looks (c.open_on.ensures.looks.tells told))
+
+pub returns-clause-settles : goal.returns-clause-settles
+returns-clause-settles g c = λ told.
+    let state = g.D.Disk.state in
+    let settles = not_blamed (c.in_ok-log.log, c.in_ok-log.batches) StoreFault (c.in_ok-log.ensures.settles told) in
+    inr (settles_by_looking (state c.args.disk.now) (state c.open_on.new.disk) (state c.read_batches.new.disk) settles c.read_batches.ensures.looks (c.open_on.ensures.looks.tells told))

@@ -3,7 +3,7 @@ use Rattle.reach_model.specs.Numbers.{known}
 use Rattle.reach_model.specs.Rows.{firsts}
 use Rattle.reduced_store.specs.Held.{Held}
 use Rattle.reduced_store.proofs.HeldLemmas.{all_rows, held_ends}
-use Rattle.reduced_store.proofs.rows.StoreRowsRows.row.Goals as goal
+use Rattle.reduced_store.proofs.rows.StoreRows.row_at.Goals as goal
 
 pub returns-clause-ends : goal.returns-clause-ends
 returns-clause-ends c =

@@ -1,0 +1,42 @@
+-- A store, as contracts see it.
+use Rattle.std.specs.Prelude.{◌≡◌, ℕ, ◌≤◌, List, ◌++◌, length, map, drop}
+use Rattle.reach_model.specs.declared.modes.Mode.{Mode}
+use Rattle.reach_model.specs.Rows.{Row, firsts}
+use Rattle.row_codec.specs.declared.rows.StoreRow.{StoreRow}
+use Rattle.row_codec.specs.declared.rows.StoreRow.TheVariants.{Kept, Extend}
+use Rattle.row_codec.specs.Payload.{IsPayload}
+use Rattle.stored.specs.Batch.{kept_from, extends_from, fresh}
+use Rattle.batch_log.specs.Log.{Log}
+use Rattle.reduced_store.specs.Held.{Held, HasRoom}
+
+-- its disk, the log of the disk's batches, its rows, the rows as the last commit left them, and room to list so many rows
+-- that are extended
+pub record OnDisk (D : Type 0) : Type 0 where
+  pub disk : D
+  pub log : Log
+  pub rows : Held
+  pub saved : List Row
+  pub listing_room : ℕ
+
+-- room for so many flows, each of which may add a row or extend one
+abbrev pub HasRoomFor : {D : Type 0} → OnDisk D → ℕ → Type 0
+HasRoomFor store n = HasRoom store.rows n × (n ≤ store.listing_room)
+
+-- nothing but the rows and the room may differ
+pub record SameBut {D : Type 0} (old new : OnDisk D) : Type 0 where
+  pub disk : new.disk ≡ old.disk
+  pub log : new.log ≡ old.log
+  pub lawful : new.rows.lawful ≡ old.rows.lawful
+  pub saved : new.saved ≡ old.saved
+
+-- the Kept and the Extend rows that lead from the rows of the last commit to those of now
+abbrev pub rows_since : (saved now : List Row) → List StoreRow
+rows_since saved now =
+    map Kept (kept_from (firsts saved) (drop (length saved) now))
+    ++ map Extend (extends_from 0 (saved ++ map fresh (drop (length saved) now)) now)
+
+-- the payload of a batch that has these rows of the store, after rows of entities and before others
+abbrev pub IsCommit : {D : Type 0} → OnDisk D → List ℕ → Type 0
+IsCommit store payload =
+    (mode : Mode) × (entities others : List StoreRow)
+    × IsPayload mode (entities ++ (rows_since store.saved store.rows.rows ++ others)) payload

@@ -1,0 +1,69 @@
+//! New rows, as rows of a batch.
+ghost use Rattle.std.specs.Prelude.{◌≡◌, ◌++◌, map, IfOk, OnOk};
+ghost use Rattle.reduced_store.specs.Saving.{as_kept, extend_if, extends_over, mark_at};
+ghost use Rattle.reach_rows.specs.Kept.{row_of_kept};
+ghost use Rattle.row_codec.specs.declared.rows.StoreRow.TheVariants.{Kept};
+
+use crate::earlier::Earlier;
+use flow_base::{List, NoMemory};
+use reach_rows::{Mark, Row};
+use row_codec::{ExtendRow, KeptRow, StoreRow};
+use std::alloc::Global;
+
+/// The Kept rows of these rows.
+pub fn kept_rows(alloc: Global, rows: &[Row]) -> Result<List<StoreRow>, NoMemory>
+    ensures { IfOk result (λ kept. kept ≡ map as_kept rows.now) }
+{
+    let mut kept = List::new(alloc);
+    for row in rows {
+        kept.push(StoreRow::Kept(kept_row(row)))?;
+    }
+    Ok(kept)
+}
+
+/// The Extend rows of the rows that are listed with another last place than they have now.
+pub fn extend_rows(
+    alloc: Global,
+    rows: &[Row],
+    earlier: &Earlier,
+) -> Result<List<StoreRow>, NoMemory>
+    ensures { IfOk result (λ extends. extends ≡ extends_over
+        (mark_at earlier.now.all) (map row_of_kept rows.now)) }
+{
+    let mut extends = List::new(alloc);
+    for index in 0..rows.len() {
+        put_extend(&mut extends, earlier, index as u64, rows[index].last)?;
+    }
+    Ok(extends)
+}
+
+// Puts an Extend row last for a row with this last mark, if it needs one.
+fn put_extend(
+    to: &mut List<StoreRow>,
+    earlier: &Earlier,
+    row: u64,
+    mark: Mark,
+) -> Result<(), NoMemory>
+    ensures { OnOk result
+        (to.new ≡ to.old ++ extend_if (mark_at earlier.now.all row) row mark) }
+{
+    match earlier.at(row) {
+        Some(was) if was.at.place != mark.at.place => {
+            to.push(StoreRow::Extend(ExtendRow { row, mark }))
+        }
+        _ => Ok(()),
+    }
+}
+
+// A row as its Kept row says it.
+fn kept_row(row: &Row) -> KeptRow
+    ensures { Kept result ≡ as_kept row.now }
+{
+    KeptRow {
+        from: row.from,
+        to: row.to,
+        mark: row.first,
+        before_to: row.before_to,
+        before_from: row.before_from,
+    }
+}
