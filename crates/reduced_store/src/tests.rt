@@ -1,10 +1,9 @@
 //! Stores over disks in memory. The bytes are those of the example in docs/FORMATS.md.
 use super::*;
-use flow_base::{Bytes, EntityId, Flow, How, Limits, List, Stamp};
+use flow_base::{Bytes, Limits, List};
 use outside::MemDisk;
 use reach_model::Mode;
-use reach_rows::{Keep, Mark, Rows};
-use row_codec::{ExtendRow, KeptRow, StoreRow};
+use reach_rows::Rows;
 use std::alloc::Global;
 use std::test::Fail;
 
@@ -69,50 +68,4 @@ fn the_example_opens_in_its_mode_and_in_no_other(rt: HostRuntime) -> Result<(), 
     };
     assert!(rt; matches!(example(alloc, Some(Mode::Full))?, Err(fault) if fault == wrong));
     Ok(())
-}
-
-#[test]
-fn what_is_new_is_a_kept_row_and_an_extend_row(rt: HostRuntime) -> Result<(), Fail> {
-    let alloc = rt.alloc();
-    let Ok(opened) = example(alloc, None)? else {
-        return Err(Fail::new("the example is a store"));
-    };
-    let mut store = opened.store;
-    store.reserve(2)?;
-    store.extend(0, &flow(0, 1, 2));
-    store.add(&flow(1, 0, 3));
-    let new_rows = store.new_rows(alloc)?;
-    let kept = KeptRow {
-        from: EntityId(1),
-        to: EntityId(0),
-        mark: mark(3),
-        before_to: None,
-        before_from: None,
-    };
-    assert!(rt; matches!(new_rows.as_slice(), [StoreRow::Kept(row)] if *row == kept));
-    let extended_rows = store.extended_rows(alloc)?;
-    let extend = ExtendRow {
-        row: 0,
-        mark: mark(2),
-    };
-    assert!(rt; matches!(extended_rows.as_slice(), [StoreRow::Extend(row)] if *row == extend));
-    Ok(())
-}
-
-fn mark(place: u64) -> Mark {
-    Mark {
-        at: Stamp { ms: 1002, place },
-        how: How::Write,
-        serial: 9,
-    }
-}
-
-fn flow(from: u32, to: u32, place: u64) -> Flow {
-    Flow {
-        from: EntityId(from),
-        to: EntityId(to),
-        how: How::Write,
-        at: Stamp { ms: 1002, place },
-        serial: 9,
-    }
 }
