@@ -4,7 +4,8 @@
 
 Of each log: the status is 0; the lines of the answer, with the marks of raised times undone, are the lines of the log and EOE lines, in some order;
 each of those EOE lines is of an event that has a call; the times in the answer never fall; and `--undo` writes the lines of the answer, and those of the
-log, with their marks undone. Other words have the status 2 and write nothing. Without a LOG the checks go over the examples, over
+log, with their marks undone. The events of small logs made by hand stand in the order that the documents say. Other words have the status 2 and write
+nothing. Without a LOG the checks go over the examples, over
 generated logs, and over logs that were made to be odd. Prints what isn't so, and ends with status 1 if there is any.
 """
 import collections
@@ -29,6 +30,52 @@ ODD = {
     'malformed lines': b'\x00\xff\ntype=SYSCALL msg=audit(x:1)\n(((:)))\ntype=SYSCALL msg=audit(1.00:1): x\nmsg=audit(99999999999999999999.000:1)\n',
     'a time far ahead': b'type=PATH msg=audit(999999999999999.999:1): a\ntype=PATH msg=audit(1.000:2): b\n',
 }
+
+
+def call(at, serial, number, pid, more='', node=''):
+    """The records of an event with one call."""
+    kind = f'arch=c000003e syscall={number} success=yes exit=1 a0=3 a1=0 a2=1 a3=0 items=0 ppid=1 pid={pid} comm="p" exe="/p"'
+    return ''.join(f'{node}type={name} msg=audit({at}:{serial}): {text}\n' for name, text in [('SYSCALL', kind), *([('SOCKADDR', more)] if more else []), ('EOE', '')])
+
+
+def torn(event, other):
+    """The records of an event, with another event after the first of them."""
+    first, rest = event.split('\n', 1)
+    return first + '\n' + other + rest
+
+
+READ, WRITE, CONNECT = 0, 1, 42
+EARLY = call('1000.000', 1, WRITE, 9) + call('1000.000', 2, WRITE, 9)
+# Logs made by hand, and the serial numbers of their events in the order of effects.
+ORDERS = {
+    'a read that waited': (EARLY + call('1000.030', 3, WRITE, 1) + call('1000.010', 4, READ, 2) + call('1000.040', 5, WRITE, 2), [1, 2, 3, 4, 5]),
+    'a reader that sleeps ten seconds': (EARLY + call('1000.010', 3, READ, 2) + call('1005.000', 4, WRITE, 1) + call('1010.010', 5, WRITE, 2), [1, 2, 3, 4, 5]),
+    'a call that waited more than two seconds': (EARLY + torn(call('1000.500', 4, CONNECT, 2, 'saddr=0200'), call('1003.000', 3, WRITE, 1)), [1, 2, 4, 3]),
+    'one event far ahead': (EARLY + call('9000.000', 3, WRITE, 7) + call('1000.020', 4, READ, 2) + call('1000.030', 5, WRITE, 1), [1, 2, 4, 5, 3]),
+    'two events far ahead': (EARLY + call('9000.000', 3, WRITE, 7) + call('9000.001', 4, WRITE, 7) + call('1000.020', 5, READ, 2)
+                             + call('1000.030', 6, WRITE, 1), [1, 2, 6, 3, 4, 5]),
+    'a process of an event far ahead': (EARLY + call('9000.000', 3, WRITE, 1) + call('1000.030', 4, WRITE, 1) + call('1000.040', 5, WRITE, 2), [1, 2, 4, 5, 3]),
+    'two nodes with one process number': (EARLY + call('1000.010', 4, READ, 5, node='node=b ') + call('1000.030', 3, READ, 5) + call('1000.015', 5, WRITE, 5, node='node=b '),
+                                          [1, 2, 4, 5, 3]),
+    'two nodes with two clocks': (EARLY + call('1015.000', 4, READ, 5, node='node=b ') + call('1015.000', 6, READ, 5, node='node=b ')
+                                  + call('1000.010', 3, READ, 5) + call('1000.020', 5, WRITE, 6), [1, 2, 3, 5, 4, 6]),
+    'two boots, the clock set back': (EARLY + call('1000.010', 3, WRITE, 5) + 'type=SYSTEM_BOOT msg=audit(500.000:4): pid=1\n' + call('500.010', 6, READ, 5)
+                                      + call('500.020', 5, WRITE, 6), [1, 2, 3, 4, 6, 5]),
+}
+
+
+def events_in(written):
+    """The serial numbers of the events, as their lines stand."""
+    serials = [int(stamp[3]) for line in written if (stamp := STAMP.match(line))]
+    return [it for it, before in zip(serials, [None, *serials]) if it != before]
+
+
+def faults_of_orders():
+    """What isn't so of the logs made by hand."""
+    for name, (log, wanted) in ORDERS.items():
+        found = events_in(lines_of(subprocess.run([PROGRAM], input=log.encode(), stdout=subprocess.PIPE, check=True).stdout))
+        if found != wanted:
+            yield f'{name}: events {found} and not {wanted}'
 
 
 def undone(line):
@@ -98,9 +145,9 @@ def generated(seed):
 
 def main(names):
     logs = {name: Path(name).read_bytes() for name in names} if names else {
-        **ODD, **{path.name: path.read_bytes() for path in sorted((TOP / 'examples').glob('*.log'))},
+        **ODD, **{name: log.encode() for name, (log, _) in ORDERS.items()}, **{path.name: path.read_bytes() for path in sorted((TOP / 'examples').glob('*.log'))},
         **{f'generated log {seed}': generated(seed) for seed in range(1, 21)}}
-    faults = [('words', fault) for fault in faults_of_words()]
+    faults = [('words', fault) for fault in faults_of_words()] + [('order', fault) for fault in faults_of_orders()]
     faults += [(name, fault) for name, log in logs.items() for fault in faults_of(log)]
     for name, fault in faults[:20]:
         print(f'{name}: {fault}')

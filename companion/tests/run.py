@@ -460,12 +460,14 @@ class Ordered(Scratch):
         self.assertEqual((done.returncode, done.stdout.count(b'recorded as'), done.stderr.count(b'stand before ask')), (0, 1, 2))
 
     def test_a_time_far_ahead_is_told(self) -> None:
-        """Reads after it count at the end of the log, with what their process does then."""
-        log = self.log(call(1, 0, at=33000000000) + opened_and(0, '"/a"', 7, 2) + opened_and(1, '"/b"', 8, 4, 'CREATE'))
-        done = run('--order', '-if', log, 'why', '/a', '/b', '--json')
-        self.assertRegex(done.stderr, rb'warning: the log goes back in time, from 3015-.*: if the first is a wrong time, later reads count at the end of the log')
-        self.assertEqual([(it['at'], it['recorded_at']) for it in map(json.loads, done.stdout.splitlines())],
-                         [('33000000000.000', '1780992003.000'), ('33000000000.000', '1780992005.000')])
+        """Reads after two events with it count at the end of the log, with what their process does then. After one event alone they don't."""
+        false = [call(serial, 0, at=33000000000) for serial in (1, 6)]
+        later = opened_and(0, '"/a"', 7, 2) + opened_and(1, '"/b"', 8, 4, 'CREATE')
+        for log, steps in [(false[0] + later, [('1780992003.000', None), ('1780992005.000', None)]),
+                           (false[0] + false[1] + later, [('33000000000.000', '1780992003.000'), ('33000000000.000', '1780992005.000')])]:
+            done = run('--order', '-if', self.log(log), 'why', '/a', '/b', '--json')
+            self.assertRegex(done.stderr, rb'warning: the log goes back in time, from 3015-.*: if the first is a wrong time, later reads may count at the end of ')
+            self.assertEqual([(it['at'], it.get('recorded_at')) for it in map(json.loads, done.stdout.splitlines())], steps)
 
     def test_malformed_lines_are_numbered_as_ordered(self) -> None:
         self.assertIn('malformed lines, as they are numbered when ordered: ', ordered(self.log(WAITED.read_text() + 'garbage\n'), 'stat')[1])

@@ -1,3 +1,4 @@
 pub mod CourseLemmas
 pub mod ReadLemmas
 pub mod UndoneLemmas
+pub mod RipeLemmas

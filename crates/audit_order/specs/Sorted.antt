@@ -1,5 +1,7 @@
 -- What a sorter stands for.
-use Rattle.std.specs.Prelude.{ℕ, List, [], ◌∷◌, ◌++◌, Option}
+use Rattle.std.specs.Prelude.{ℕ, ◌+◌, Bool, false, List, [], ◌∷◌, ◌++◌, Option, None, Some, nat_lt}
+use Rattle.std.specs.List.{list_any}
+use Rattle.order_queue.specs.declared.waiting.Waiting.{Waiting}
 use Rattle.order_queue.specs.Queue.{texts_of}
 use Rattle.audit_order.specs.Course.{Course}
 use Rattle.audit_order.specs.Taken.{Stays}
@@ -21,3 +23,12 @@ Holds old new line =
 -- steps that also write lose nothing
 abbrev pub Goes : (was : Option (List ℕ)) → Sorter → (now : Option (List ℕ)) → Sorter → Type 0
 Goes was old now new = Stays Sorts was old now new
+
+-- the clock is more than 20 seconds past a time, if there is one
+abbrev pub is_past : Option ℕ → ℕ → Bool
+is_past None clock = false
+is_past (Some time) clock = nat_lt (time + 20000) clock
+
+-- a line waits whose place is past
+abbrev pub any_is_past : ℕ → List Waiting → Bool
+any_is_past clock waits = list_any (λ item. is_past (Some item.time) clock) waits

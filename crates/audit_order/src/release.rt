@@ -1,8 +1,8 @@
 //! Lines that are written since their turn has come.
-ghost use Rattle.std.specs.Prelude.{◌≡◌, ◌-◌, ◌≤◌, ◌^◌, ◌∷◌, [], length, OnOk, IfErr};
+ghost use Rattle.std.specs.Prelude.{◌≡◌, ◌-◌, ◌≤◌, ◌^◌, ◌∷◌, [], false, length, OnOk, IfErr};
 ghost use Rattle.outside.specs.Cause.{Rose};
 ghost use Rattle.audit_order.specs.Halts.{HasCauses, GoesUp};
-ghost use Rattle.audit_order.specs.Sorted.{Sorts, Goes};
+ghost use Rattle.audit_order.specs.Sorted.{Sorts, Goes, any_is_past};
 
 use crate::halt::Halt;
 use crate::sorter::{Sorter, hold, is_over, is_ripe, write_end, write_least};
@@ -62,6 +62,8 @@ fn make_room<O: Sink>(sorter: &mut Sorter, sink: &mut O, more: u64) -> Result<()
 fn release_past<O: Sink>(sorter: &mut Sorter, sink: &mut O) -> Result<(), Halt>
     ensures goes { OnOk result
         (Goes (O.written sink.old) sorter.old (O.written sink.new) sorter.new) }
+    ensures past { OnOk result
+        (any_is_past sorter.new.places.clock sorter.new.queue.waits ≡ false) }
     ensures causes { IfErr result (HasCauses ⊥
         (Rose (O.faults sink.old) (O.faults sink.new) (O.spent sink.new))) }
     ensures counts { GoesUp
@@ -79,6 +81,7 @@ impl Taker for Sorter {
     // The line waits for its turn, and lines whose turn has come are written.
     fn take_line<O: Sink>(&mut self, sink: &mut O, line: Bytes) -> Result<(), Halt> {
         let place = self.places.place_of(line.as_slice())?;
+        release_before(self, sink, place.starts)?;
         make_room(self, sink, line.as_slice().len() as u64)?;
         hold(self, place, line)?;
         release_past(self, sink)
@@ -97,6 +100,21 @@ fn release_all<O: Sink>(sorter: &mut Sorter, sink: &mut O) -> Result<(), Halt>
 {
     while sorter.queue.len() > 0 {
         release_least(sorter, sink)?;
+    }
+    Ok(())
+}
+
+// Writes all lines that wait, if a node was started: what comes then may have lesser times, and is to stand after them.
+fn release_before<O: Sink>(sorter: &mut Sorter, sink: &mut O, starts: bool) -> Result<(), Halt>
+    ensures goes { OnOk result
+        (Goes (O.written sink.old) sorter.old (O.written sink.new) sorter.new) }
+    ensures causes { IfErr result (HasCauses ⊥
+        (Rose (O.faults sink.old) (O.faults sink.new) (O.spent sink.new))) }
+    ensures counts { GoesUp
+        (O.faults sink.old) (O.faults sink.new) (O.spent sink.old) (O.spent sink.new) }
+{
+    if starts {
+        return release_all(sorter, sink);
     }
     Ok(())
 }

@@ -1,12 +1,12 @@
 //! The sorter: lines that wait for their turn, and what is written of them.
 ghost use Rattle.std.specs.Prelude.{◌≡◌, ◌-◌, ◌<◌, ◌≤◌, ◌^◌, [], List, ℕ, Option, true, false, length, IfOk, OnOk};
 ghost use Rattle.audit_order.specs.Course.{Gives, Keeps};
-ghost use Rattle.audit_order.specs.Sorted.{Sorts, Moves, Holds};
+ghost use Rattle.audit_order.specs.Sorted.{Sorts, Moves, Holds, is_past, any_is_past};
 
 use crate::end::{End, ends_event};
 use crate::writer::Writer;
 use flow_base::{Bytes, NoMemory};
-use order_place::{Place, Places};
+use order_place::{Place, Places, WINDOW};
 use order_queue::{Queue, Waiting};
 use order_text::read_stamp;
 use std::alloc::Global;
@@ -14,14 +14,12 @@ use std::alloc::Global;
 /// The bytes of lines that may wait. Beyond them the least place is written at once.
 pub const MEMORY: u64 = 64 << 20;
 
-/// How far the time has to be past a place, in milliseconds, before its lines are written.
-pub const WINDOW: u64 = 20_000;
-
 /// The event whose lines are written now, and the line that ends it, if it is a call's event without an end so far.
 #[derive(Drop)]
 pub struct Turn {
     pub ms: u64,
     pub serial: u32,
+    pub node: Bytes,
     pub end: Option<End>,
 }
 
@@ -50,6 +48,7 @@ impl Sorter {
             turn: Turn {
                 ms: 0,
                 serial: 0,
+                node: Bytes::new(alloc),
                 end: None,
             },
             number: 0,
@@ -69,18 +68,27 @@ pub fn write_end(sorter: &mut Sorter) -> Result<(), NoMemory>
 }
 
 // Another event's lines are written from here on: the one before is ended.
-fn turn_to(sorter: &mut Sorter, ms: u64, serial: u32) -> Result<(), NoMemory>
+fn turn_to(sorter: &mut Sorter, item: &Waiting) -> Result<(), NoMemory>
     ensures keeps { OnOk result (Keeps sorter.old.writer sorter.new.writer) }
     ensures waits { sorter.new.queue ≡ sorter.old.queue }
 {
-    if sorter.turn.ms == ms && sorter.turn.serial == serial {
+    if is_of(&sorter.turn, item) {
         return Ok(());
     }
     write_end(sorter)?;
-    sorter.places.forget(sorter.turn.ms, sorter.turn.serial);
-    sorter.turn.ms = ms;
-    sorter.turn.serial = serial;
+    let before = sorter.turn.node.take();
+    sorter
+        .places
+        .forget(before, sorter.turn.ms, sorter.turn.serial)?;
+    sorter.turn.ms = item.ms;
+    sorter.turn.serial = item.serial;
+    sorter.turn.node = item.node.copy()?;
     Ok(())
+}
+
+// Whether a line is of the event whose lines are written.
+fn is_of(turn: &Turn, item: &Waiting) -> bool {
+    turn.ms == item.ms && turn.serial == item.serial && turn.node == item.node
 }
 
 // The line of a call's record owes an end, and a line that ends the event is one.
@@ -100,7 +108,7 @@ fn write_item(sorter: &mut Sorter, item: &Waiting) -> Result<(), NoMemory>
     ensures gives { OnOk result (Gives sorter.old.writer sorter.new.writer item.now.line) }
     ensures waits { sorter.new.queue ≡ sorter.old.queue }
 {
-    turn_to(sorter, item.ms, item.serial)?;
+    turn_to(sorter, item)?;
     note_end(&mut sorter.turn, sorter.alloc, item.line.as_slice())?;
     sorter.writer.write(item.line.as_slice())
 }
@@ -129,6 +137,7 @@ pub fn hold(sorter: &mut Sorter, place: Place, line: Bytes) -> Result<(), NoMemo
         time: place.time,
         serial: place.serial,
         ms: place.ms,
+        node: place.node,
         rank: place.rank,
         number,
         line,
@@ -143,15 +152,18 @@ pub fn is_over(queue: &Queue, more: u64) -> bool
     queue.len() > 0 && queue.bytes() > MEMORY - more.min(MEMORY)
 }
 
-/// Whether the least place is far enough in the past.
+/// Whether a line waits whose place is more than the window past.
 pub fn is_ripe(sorter: &Sorter) -> bool
     ensures some { result ≡ true → 0 < length sorter.now.queue.waits }
+    ensures past { result ≡ any_is_past sorter.now.places.clock sorter.now.queue.waits }
 {
-    sorter.queue.len() > 0 && is_past(sorter.queue.least_time(), sorter.places.clock())
+    is_past(sorter.queue.least_time(), sorter.places.clock())
 }
 
 // Whether the time is past a place by more than the window.
-fn is_past(place: Option<u64>, clock: u64) -> bool {
+fn is_past(place: Option<u64>, clock: u64) -> bool
+    ensures { result ≡ is_past place clock }
+{
     match place {
         Some(time) => time.saturating_add(WINDOW) < clock,
         None => false,

@@ -52,6 +52,36 @@ node=b type=EOE msg=audit(4.990:3): \n\
 node=a type=SYSCALL msg=audit(5.000:7): arch=c000003e syscall=1 a0=4 a1=0 a2=1 a3=0 ppid=1 pid=10\n\
 node=a type=EOE msg=audit(5.000:7): \n";
 
+// Two nodes have an event of one time and one serial number.
+const TWINS: &[u8] =
+    b"node=a type=SYSCALL msg=audit(5.000:7): arch=c000003e syscall=1 a0=4 a1=0 a2=1 a3=0 ppid=1 pid=10\n\
+node=b type=SYSCALL msg=audit(5.000:7): arch=c000003e syscall=1 a0=4 a1=0 a2=1 a3=0 ppid=1 pid=10\n\
+node=a type=PATH msg=audit(5.000:7): name=\"a\"\n\
+node=b type=PROCTITLE msg=audit(5.000:7): proctitle=\"b\"\n";
+
+const TWINS_ORDERED: &[u8] =
+    b"node=a type=SYSCALL msg=audit(5.000:7): arch=c000003e syscall=1 a0=4 a1=0 a2=1 a3=0 ppid=1 pid=10\n\
+node=a type=PATH msg=audit(5.000:7): name=\"a\"\n\
+node=a type=EOE msg=audit(5.000:7): \n\
+node=b type=SYSCALL msg=audit(5.000:7): arch=c000003e syscall=1 a0=4 a1=0 a2=1 a3=0 ppid=1 pid=10\n\
+node=b type=PROCTITLE msg=audit(5.000:7): proctitle=\"b\"\n";
+
+// A node is started anew with its clock behind. A read then doesn't count at the time from before.
+const STARTED: &[u8] =
+    b"type=SYSCALL msg=audit(9.000:8): arch=c000003e syscall=1 a0=4 a1=0 a2=1 a3=0 ppid=1 pid=10\n\
+type=SYSTEM_BOOT msg=audit(5.000:1): pid=1\n\
+type=SYSCALL msg=audit(5.003:3): arch=c000003e syscall=0 a0=4 a1=0 a2=1 a3=0 ppid=1 pid=10\n\
+type=SYSCALL msg=audit(5.004:2): arch=c000003e syscall=1 a0=4 a1=0 a2=1 a3=0 ppid=1 pid=20\n";
+
+const STARTED_ORDERED: &[u8] =
+    b"type=SYSCALL msg=audit(9.000:8): arch=c000003e syscall=1 a0=4 a1=0 a2=1 a3=0 ppid=1 pid=10\n\
+type=EOE msg=audit(9.000:8): \n\
+type=SYSTEM_BOOT msg=audit(9.000:1): pid=1\x1dWAS={ audit(5.000:1) }\n\
+type=SYSCALL msg=audit(9.000:3): arch=c000003e syscall=0 a0=4 a1=0 a2=1 a3=0 ppid=1 pid=10\x1dWAS={ audit(5.003:3) }\n\
+type=EOE msg=audit(9.000:3): \x1dWAS={ audit(5.003:3) }\n\
+type=SYSCALL msg=audit(9.000:2): arch=c000003e syscall=1 a0=4 a1=0 a2=1 a3=0 ppid=1 pid=20\x1dWAS={ audit(5.004:2) }\n\
+type=EOE msg=audit(9.000:2): \x1dWAS={ audit(5.004:2) }\n";
+
 // The blank line follows the line before it.
 const BLANK: &[u8] =
     b"type=PATH msg=audit(2.000:2): name=\"b\"\n\ntype=PATH msg=audit(1.000:1): name=\"a\"";
@@ -92,6 +122,8 @@ fn lines_are_written_in_the_order_of_effects(rt: HostRuntime) -> Result<(), Fail
         (WAITED, WAITED_ORDERED),
         (BOOTS, BOOTS_ORDERED),
         (NODES, NODES_ORDERED),
+        (TWINS, TWINS_ORDERED),
+        (STARTED, STARTED_ORDERED),
         (BLANK, BLANK_ORDERED),
     ];
     for (log, text) in rows {

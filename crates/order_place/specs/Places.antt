@@ -1,18 +1,20 @@
 -- The places of lines.
-use Rattle.std.specs.Prelude.{⊤, ◌≡◌, ◌≤◌, ℕ, List, Bool, Option, None, Some, max, nat_eq, codes, if◌then◌else◌}
-use Rattle.std.specs.List.{ends_with}
+use Rattle.std.specs.Prelude.{◌≡◌, ◌||◌, ℕ, List, [], Bool, Option, None, Some, max, min, nat_eq, codes, if◌then◌else◌}
+use Rattle.std.specs.List.{starts_with, ends_with}
 use Rattle.std.specs.Map.{lookup}
 use Rattle.std.specs.declared.cmp.Ordering.{Ordering}
 use Rattle.std.specs.Ordering.{nat_cmp, ordering_then, is_eq}
+use Rattle.order_text.specs.Cut.{first_cut}
 use Rattle.order_text.specs.Stamp.{Stamp}
 use Rattle.order_place.specs.declared.call.Call.{Call}
+use Rattle.order_place.specs.declared.clock.Clock.{Clock}
 use Rattle.order_place.specs.declared.places.Place.{Place}
+use Rattle.order_place.specs.Clocks.{clock_after}
 
--- What was seen: the greatest time that a line bore, the place of the last line, the time at which each process's last
--- call counts, and that at which each event counts that is held, by its time and its serial number.
+-- What was seen of a node: its clock, the time before which no call of a process counts, and the one at which each event
+-- counts that is held, by its time and its serial number.
 pub record Seen : Type 0 where
-  pub clock : ℕ
-  pub last : Place
+  pub clock : Clock
   pub calls : List (ℕ × ℕ)
   pub events : List ((ℕ × ℕ) × ℕ)
 
@@ -28,31 +30,34 @@ event_cmp a b = ordering_then (nat_cmp a.0 b.0) (nat_cmp a.1 b.1)
 abbrev pub is_event : ℕ × ℕ → ℕ × ℕ → Bool
 is_event a b = is_eq (event_cmp a b)
 
--- the greatest time once a line of this stamp is seen
-abbrev pub clock_with : ℕ → Option Stamp → ℕ
-clock_with clock None = clock
-clock_with clock (Some s) = max clock s.ms
-
 -- A PROCTITLE stands after the other lines of its event, and an EOE after that.
 abbrev pub rank_of : List ℕ → ℕ
 rank_of front =
     if ends_with nat_eq front (codes "type=PROCTITLE msg=audit") then 1
     else if ends_with nat_eq front (codes "type=EOE msg=audit") then 2 else 0
 
--- A place is one of a line of this stamp: it bears the time and the serial number of the line's event, and its rank within
--- that, and the line doesn't count before its time.
+-- the name of the node that a line is of, as `node=NAME`; none if the line doesn't begin so
+abbrev pub before_blank : Option (List ℕ × List ℕ) → List ℕ
+before_blank None = []
+before_blank (Some parts) = parts.0
+
+abbrev pub node_of : List ℕ → List ℕ
+node_of front = if starts_with nat_eq front (codes "node=") then before_blank (first_cut 32 front) else []
+
+-- A node was started, or its audit daemon was, and what happened before that isn't in the log.
+abbrev pub is_boot : List ℕ → Bool
+is_boot front = ends_with nat_eq front (codes "type=SYSTEM_BOOT msg=audit") || ends_with nat_eq front (codes "type=DAEMON_START msg=audit")
+
+-- A place is one of a line of this stamp: it bears the time, the serial number and the node of the line's event, its
+-- rank within that, and whether the node was started.
 pub record IsPlaceOf (s : Stamp) (p : Place) : Type 0 where
+  pub node : p.node ≡ node_of s.front
   pub serial : p.serial ≡ s.number
   pub ms : p.ms ≡ s.ms
   pub rank : p.rank ≡ rank_of s.front
-  pub entry : s.ms ≤ p.time
+  pub starts : p.starts ≡ is_boot s.front
 
--- a line of this stamp, or of none, has this place after what was seen
-abbrev pub HasPlace : Seen → Option Stamp → Place → Type 0
-HasPlace seen None p = p ≡ seen.last
-HasPlace seen (Some s) p = IsPlaceOf s p
-
--- the time at which a process's last call counts, if one was seen
+-- the time before which no call of a process counts, if a call of it was seen
 abbrev pub call_at : Seen → ℕ → Option ℕ
 call_at seen pid = lookup (is_pid pid) seen.calls
 
@@ -60,7 +65,7 @@ call_at seen pid = lookup (is_pid pid) seen.calls
 abbrev pub event_at : Seen → ℕ × ℕ → Option ℕ
 event_at seen event = lookup (is_event event) seen.events
 
--- a call that may have waited counts at the greatest time that was seen
+-- a call that may have waited counts at the time of the clock
 abbrev pub own_time : ℕ → ℕ → Bool → ℕ
 own_time clock ms waits = if waits then max ms clock else ms
 
@@ -71,7 +76,7 @@ not_before time (Some before) = max time before
 
 -- the time at which a call counts: not before its entry, nor before the process's call before it
 abbrev pub call_time : Seen → ℕ → Call → ℕ
-call_time seen ms call = not_before (own_time seen.clock ms call.waits) (call_at seen call.pid)
+call_time seen ms call = not_before (own_time seen.clock.time ms call.waits) (call_at seen call.pid)
 
 -- the time at which an event counts that begins with this line
 abbrev pub first_time : Seen → ℕ → Option Call → ℕ
@@ -86,42 +91,34 @@ time_or (Some time) first = time
 abbrev pub event_time : Seen → ℕ × ℕ → Option Call → ℕ
 event_time seen event call = time_or (event_at seen event) (first_time seen event.0 call)
 
--- the times of the processes' last calls, after a call at this time
+-- the times before which no calls of processes count, after a call at this time
 abbrev pub calls_after : Seen → Option Call → ℕ → ℕ → Option ℕ
 calls_after seen None time pid = call_at seen pid
 calls_after seen (Some call) time pid = if is_pid call.pid pid then Some time else call_at seen pid
 
--- an event that is held has no further call
-abbrev pub calls_of : Seen → Option ℕ → ℕ × ℕ → Option Call → ℕ → Option ℕ
-calls_of seen (Some time) event call pid = call_at seen pid
-calls_of seen None event call pid = calls_after seen call (first_time seen event.0 call) pid
+-- an event that is held has no further call; the first call of another holds its process's calls back, as far as the clock
+-- has come
+abbrev pub calls_of : Seen → Option ℕ → ℕ × ℕ → ℕ → Option Call → ℕ → Option ℕ
+calls_of seen (Some time) event most call pid = call_at seen pid
+calls_of seen None event most call pid = calls_after seen call (min (first_time seen event.0 call) most) pid
 
 -- A line of an event was seen: the event is held at its time, and its call is the last of the process if it is the first line.
-pub record HoldsEvent (old new : Seen) (event : ℕ × ℕ) (call : Option Call) : Type 0 where
+pub record HoldsEvent (old new : Seen) (event : ℕ × ℕ) (most : ℕ) (call : Option Call) : Type 0 where
   pub clock : new.clock ≡ old.clock
-  pub last : new.last ≡ old.last
-  pub calls : (pid : ℕ) → call_at new pid ≡ calls_of old (event_at old event) event call pid
+  pub calls : (pid : ℕ) → call_at new pid ≡ calls_of old (event_at old event) event most call pid
   pub events : (other : ℕ × ℕ) → event_at new other ≡ (if is_event event other then Some (event_time old event call) else event_at old other)
 
--- what is known of the processes and of the events once a line is seen: a line without a stamp changes nothing
-abbrev pub SeesCalls : Seen → Seen → Option Stamp → Option Call → Type 0
-SeesCalls old new None call = (pid : ℕ) → call_at new pid ≡ call_at old pid
-SeesCalls old new (Some s) call = (pid : ℕ) → call_at new pid ≡ calls_of old (event_at old (s.ms, s.number)) (s.ms, s.number) call pid
-
-abbrev pub SeesEvents : Seen → Seen → Option Stamp → Option Call → Type 0
-SeesEvents old new None call = (other : ℕ × ℕ) → event_at new other ≡ event_at old other
-SeesEvents old new (Some s) call =
-    (other : ℕ × ℕ) → event_at new other
-    ≡ (if is_event (s.ms, s.number) other then Some (event_time old (s.ms, s.number) call) else event_at old other)
-
--- a line of this stamp and this call counts at the time of its event
-abbrev pub CountsAt : Seen → Option Stamp → Option Call → Place → Type 0
-CountsAt seen None call p = ⊤
-CountsAt seen (Some s) call p = p.time ≡ max (event_time seen (s.ms, s.number) call) s.ms
+-- A line of this stamp and this call was seen, and counts at this time: that of its event.
+pub record Sees (old new : Seen) (s : Stamp) (call : Option Call) (at : ℕ) : Type 0 where
+  pub time : at ≡ event_time old (s.ms, s.number) call
+  pub clock : new.clock ≡ clock_after old.clock s.ms s.number
+  pub calls : (pid : ℕ) → call_at new pid
+      ≡ calls_of old (event_at old (s.ms, s.number)) (s.ms, s.number) (clock_after old.clock s.ms s.number).time call pid
+  pub events : (other : ℕ × ℕ) → event_at new other
+      ≡ (if is_event (s.ms, s.number) other then Some (event_time old (s.ms, s.number) call) else event_at old other)
 
 -- an event is held no longer
 pub record Forgets (old new : Seen) (event : ℕ × ℕ) : Type 0 where
   pub clock : new.clock ≡ old.clock
-  pub last : new.last ≡ old.last
   pub calls : (pid : ℕ) → call_at new pid ≡ call_at old pid
   pub events : (other : ℕ × ℕ) → event_at new other ≡ (if is_event event other then None else event_at old other)

@@ -1,7 +1,7 @@
 //! What the places of lines promise, for callers to use. The functions do nothing; their contracts are laws.
-ghost use Rattle.order_place.specs.Laws.{SeesOn, WritesOn, CountsTogether, KeepsOrder};
+ghost use Rattle.order_place.specs.Laws.{SeesOn, WritesOn, CountsTogether, KeepsOrder, CountsAfterEntry, IsShared};
 
-/// What is known of processes and events is what was seen, the newest first.
+/// What is known of the processes and events of each node is what was seen of it, the newest first.
 pub fn places_look_back()
     ensures sees { SeesOn }
     ensures writes { WritesOn }
@@ -15,4 +15,14 @@ pub fn lines_of_an_event_count_together()
 /// A call counts no earlier than the call of its process before it.
 pub fn calls_of_a_process_keep_their_order()
     ensures { KeepsOrder }
+{}
+
+/// A line counts no earlier than its own time.
+pub fn lines_count_after_their_entry()
+    ensures { CountsAfterEntry }
+{}
+
+/// One event moves the clock at most as far as the window past the times of the others.
+pub fn the_clock_is_shared()
+    ensures { IsShared }
 {}

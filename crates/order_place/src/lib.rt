@@ -7,10 +7,14 @@
 #![tactic(auto)]
 
 mod call;
+mod clock;
 mod laws;
+mod node;
 mod places;
 
+pub use clock::{Clock, WINDOW};
 pub use laws::{
-    calls_of_a_process_keep_their_order, lines_of_an_event_count_together, places_look_back,
+    calls_of_a_process_keep_their_order, lines_count_after_their_entry,
+    lines_of_an_event_count_together, places_look_back, the_clock_is_shared,
 };
 pub use places::{Place, Places};

@@ -1,71 +1,86 @@
 //! Places, by what was seen before.
-ghost use Rattle.std.specs.Prelude.{◌≡◌, ℕ, [], IfOk, OnOk};
+ghost use Rattle.std.specs.Prelude.{◌≡◌, ℕ, List, [], Some, false, IfOk, OnOk};
 ghost use Rattle.order_text.specs.Seen.{stamp_seen};
 ghost use Rattle.order_text.specs.Stamp.{stamp_of};
 ghost use Rattle.order_place.specs.Calls.{call_of};
-ghost use Rattle.order_place.specs.Sights.{StandsFor};
-ghost use Rattle.order_place.specs.Places.{HasPlace, call_at, CountsAt, SeesCalls, SeesEvents, Forgets, HoldsEvent, event_time, first_time, call_time, calls_after, clock_with, rank_of};
+ghost use Rattle.order_place.specs.Places.{rank_of, node_of, is_boot};
+ghost use Rattle.order_place.specs.Nodes.{is_node, node_at, begun, HasPlace, Keeps, SeesLine, ForgetsOf, StandsForAll};
 
-use crate::call::{Call, call_of};
-use flow_base::NoMemory;
-use order_text::{Stamp, read_stamp};
+use crate::node::Node;
+use flow_base::{Bytes, NoMemory};
+use order_text::{Stamp, at_first, read_stamp};
 use std::alloc::Global;
 use std::collections::BTreeMap;
 use std::marker::Model;
 
-/// The place of a line: the time at which its event counts, the serial number and the time of the event, and 1 or 2 if
-/// the line is one that ends an event.
-#[derive(Clone, Copy, Debug, PartialEq, Eq)]
+/// The place of a line: the time at which its event counts; the serial number, the time and the node of the event; 1 or 2
+/// if the line is one that ends an event; and whether the line says that its node was started.
+#[derive(Drop)]
 pub struct Place {
     pub time: u64,
     pub serial: u32,
     pub ms: u64,
+    pub node: Bytes,
     pub rank: u8,
+    pub starts: bool,
 }
 
-/// What was seen: the greatest time, the place of each process's last call, the places of the events that wait, and the
-/// place of the last line.
+impl Place {
+    // A second value.
+    fn copy(&self) -> Result<Place, NoMemory>
+        ensures { IfOk result (λ made. made ≡ self.now) }
+    {
+        let node = self.node.copy()?;
+        Ok(Place {
+            time: self.time,
+            serial: self.serial,
+            ms: self.ms,
+            node,
+            rank: self.rank,
+            starts: self.starts,
+        })
+    }
+}
+
+/// What was seen: the greatest time of a clock, what was seen of each node, and the place of the last line.
 #[derive(Drop)]
 pub struct Places {
+    alloc: Global,
     clock: u64,
-    calls: BTreeMap<u32, u64>,
-    events: BTreeMap<(u64, u32), u64>,
+    nodes: BTreeMap<Bytes, Node>,
     last: Place,
 }
 
 impl Model for Places {
-    ghost use Rattle.order_place.specs.Places.{Seen};
+    ghost use Rattle.order_place.specs.Nodes.{AllSeen};
 
-    ghost Value = { Seen };
+    ghost Value = { AllSeen };
 
-    ghost view = { λ a. record {
-      clock = a.clock;
-      last = a.last;
-      calls = a.calls.entries;
-      events = a.events.entries;
-    } };
+    ghost view = { λ a. record { clock = a.clock; last = a.last; nodes = a.nodes.entries } };
 }
 
 impl Places {
     /// Nothing was seen.
     pub fn new(alloc: Global) -> Places
         ensures clock { result.clock ≡ 0 }
-        ensures nothing { StandsFor result [] }
+        ensures nothing { StandsForAll result [] }
     {
         Places {
+            alloc,
             clock: 0,
-            calls: BTreeMap::new(alloc),
-            events: BTreeMap::new(alloc),
+            nodes: BTreeMap::new(alloc),
             last: Place {
                 time: 0,
                 serial: 0,
                 ms: 0,
+                node: Bytes::new(alloc),
                 rank: 0,
+                starts: false,
             },
         }
     }
 
-    /// The greatest time that a line bore.
+    /// The greatest time that a node's clock had.
     pub fn clock(&self) -> u64
         ensures { result ≡ self.now.clock }
     {
@@ -75,79 +90,100 @@ impl Places {
     /// The place of the next line. A line without a stamp has the place of the line before it.
     pub fn place_of(&mut self, line: &[u8]) -> Result<Place, NoMemory>
         ensures place { IfOk result (HasPlace self.old (stamp_of line.now)) }
-        ensures time { IfOk result
-            (CountsAt self.old (stamp_of line.now) (call_of line.now)) }
         ensures last { IfOk result (λ place. self.new.last ≡ place) }
-        ensures clock { OnOk result
-            (self.new.clock ≡ clock_with self.old.clock (stamp_of line.now)) }
-        ensures calls { OnOk result
-            (SeesCalls self.old self.new (stamp_of line.now) (call_of line.now)) }
-        ensures events { OnOk result
-            (SeesEvents self.old self.new (stamp_of line.now) (call_of line.now)) }
+        ensures sees { IfOk result
+            (SeesLine self.old self.new (stamp_of line.now) (call_of line.now)) }
     {
         if let Some(stamp) = read_stamp(line) {
-            let time = self.time_of(line, &stamp)?;
-            self.last = Place {
-                time: time.max(stamp.ms),
-                serial: stamp.number,
-                ms: stamp.ms,
-                rank: rank_of(stamp.front),
-            };
-            self.clock = self.clock.max(stamp.ms);
+            self.see(line, &stamp)?;
         }
-        Ok(self.last)
+        self.last.copy()
+    }
+
+    // A line of this stamp is the last one.
+    fn see(&mut self, line: &[u8], stamp: &Stamp<'_>) -> Result<(), NoMemory>
+        ensures place { OnOk result
+            (HasPlace self.old (Some (stamp_seen stamp.now)) self.new.last) }
+        ensures sees { OnOk result (SeesLine
+            self.old self.new (Some (stamp_seen stamp.now)) (call_of line.now) self.new.last) }
+    {
+        let name = Bytes::from_slice(self.alloc, node_of(stamp.front))?;
+        let mut node = self.take_node(&name);
+        let starts = is_boot(stamp.front);
+        start_if(&mut node, starts);
+        let time = node.see(line, stamp)?;
+        self.clock = self.clock.max(node.clock());
+        self.last = Place {
+            time,
+            serial: stamp.number,
+            ms: stamp.ms,
+            node: name.copy()?,
+            rank: rank_of(stamp.front),
+            starts,
+        };
+        self.keep_node(name, node)
     }
 
     /// The event was written, so its place is known no longer.
-    pub fn forget(&mut self, ms: u64, serial: u32)
-        ensures { Forgets self.old self.new (ms, serial) }
+    pub fn forget(&mut self, name: Bytes, ms: u64, serial: u32) -> Result<(), NoMemory>
+        ensures { OnOk result (ForgetsOf self.old self.new name (ms, serial)) }
     {
-        let _ = self.events.remove(&(ms, serial));
+        let mut node = self.take_node(&name);
+        node.forget(ms, serial);
+        self.keep_node(name, node)
     }
 
-    // The time at which the event of a line counts: that of its first line.
-    fn time_of(&mut self, line: &[u8], stamp: &Stamp<'_>) -> Result<u64, NoMemory>
-        ensures time { IfOk result (λ time. time
-            ≡ event_time self.old (stamp.now.ms, stamp.now.number) (call_of line.now)) }
-        ensures holds { OnOk result (HoldsEvent self.old self.new
-            (stamp.now.ms, stamp.now.number) (call_of line.now)) }
+    // What was seen of a node, which is taken out.
+    fn take_node(&mut self, name: &Bytes) -> Node
+        ensures node { result ≡ node_at self.old name.now }
+        ensures others { (other : List ℕ) → is_node name.now other ≡ false
+            → node_at self.new other ≡ node_at self.old other }
+        ensures clock { self.new.clock ≡ self.old.clock }
+        ensures last { self.new.last ≡ self.old.last }
     {
-        let key = (stamp.ms, stamp.number);
-        if let Some(time) = self.events.get(&key) {
-            return Ok(*time);
-        }
-        let time = self.first_time(line, stamp.ms)?;
-        self.events.insert(key, time)?;
-        Ok(time)
-    }
-
-    // The time at which an event counts that begins with this line.
-    fn first_time(&mut self, line: &[u8], ms: u64) -> Result<u64, NoMemory>
-        ensures time { IfOk result (λ time. time ≡ first_time self.old ms (call_of line.now)) }
-        ensures calls { OnOk result ((pid : ℕ) → call_at self.new pid
-            ≡ calls_after self.old (call_of line.now) (first_time self.old ms (call_of line.now)) pid) }
-        ensures same { self.new ≡ record self.old { calls = self.new.calls } }
-    {
-        match call_of(line) {
-            None => Ok(ms),
-            Some(call) => {
-                let time = self.call_time(call, ms);
-                self.calls.insert(call.pid, time)?;
-                Ok(time)
-            }
+        match self.nodes.remove(name) {
+            Some(node) => node,
+            None => Node::new(self.alloc),
         }
     }
 
-    // The time at which a call counts: not before its entry, nor before the process's call before it.
-    fn call_time(&self, call: Call, ms: u64) -> u64
-        ensures { result ≡ call_time self.now ms call }
+    // What was seen of a node is put back.
+    fn keep_node(&mut self, name: Bytes, node: Node) -> Result<(), NoMemory>
+        ensures { OnOk result (Keeps self.old self.new name node) }
     {
-        let own = if call.waits { ms.max(self.clock) } else { ms };
-        match self.calls.get(&call.pid) {
-            Some(before) => own.max(*before),
-            None => own,
-        }
+        self.nodes.insert(name, node)?;
+        Ok(())
     }
+}
+
+// A node is started, if its line says so.
+fn start_if(node: &mut Node, boots: bool)
+    ensures { node.new ≡ begun boots node.old }
+{
+    if boots {
+        node.start();
+    }
+}
+
+// The name of the node that a line is of, as the line has it; none for the node that wrote the log.
+fn node_of(front: &[u8]) -> &[u8]
+    ensures { result.now ≡ node_of front.now }
+{
+    if !front.starts_with(b"node=") {
+        return &front[..0];
+    }
+    match at_first(b' ', front) {
+        Some((name, _)) => name,
+        None => &front[..0],
+    }
+}
+
+// Whether a line says that its node or the node's audit daemon was started.
+fn is_boot(front: &[u8]) -> bool
+    ensures { result ≡ is_boot front.now }
+{
+    front.ends_with(b"type=SYSTEM_BOOT msg=audit")
+        || front.ends_with(b"type=DAEMON_START msg=audit")
 }
 
 // 1 and 2 for the lines that end an event, which stand last.

@@ -1,7 +1,7 @@
 //! The queue of the lines that wait.
-ghost use Rattle.std.specs.Prelude.{◌≡◌, ◌+◌, ◌<◌, ◌≤◌, ◌^◌, [], ◌∷◌, length, OnOk, OnErr, IfSome, IfNone, IsPermutation};
+ghost use Rattle.std.specs.Prelude.{◌≡◌, true, nat_eq, ◌+◌, ◌<◌, ◌≤◌, ◌^◌, [], ◌∷◌, length, OnOk, OnErr, IfSome, IfNone, IsPermutation};
 ghost use Rattle.std.specs.Option.{option_map};
-ghost use Rattle.std.specs.List.{All};
+ghost use Rattle.std.specs.List.{All, list_any};
 ghost use Rattle.order_queue.specs.Queue.{bytes_of};
 ghost use Rattle.order_queue.specs.Order.{IsLeast};
 
@@ -91,6 +91,8 @@ impl Queue {
     /// The time of the least place.
     pub fn least_time(&self) -> Option<u64>
         ensures least { IfSome result (λ time. All (λ item. time ≤ item.time) self.now.waits) }
+        ensures one { IfSome result
+            (λ time. list_any (λ item. nat_eq time item.time) self.now.waits ≡ true) }
         ensures none { IfNone result (self.now.waits ≡ []) }
     {
         let Reverse(item) = self.heap.peek()?;

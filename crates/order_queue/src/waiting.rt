@@ -3,13 +3,14 @@
 use flow_base::Bytes;
 
 /// A line that waits. Lines are compared by their places: by the time at which their event counts, then by its serial
-/// number and its own time, so that the lines of an event stand together; then by rank, so that the lines that end an
+/// number, its own time and its node, so that the lines of an event stand together; then by rank, so that the lines that end an
 /// event stand last; then by the number of the line in the log.
 #[derive(Drop, PartialEq, Eq, PartialOrd, Ord)]
 pub struct Waiting {
     pub time: u64,
     pub serial: u32,
     pub ms: u64,
+    pub node: Bytes,
     pub rank: u8,
     pub number: u64,
     pub line: Bytes,

@@ -11,6 +11,7 @@ mod laws;
 mod mark;
 mod stamp;
 
+pub use cut::at_first;
 pub use laws::{written_lines_are_undone, written_lines_bear_their_stamp};
 pub use mark::{undo, write_after, write_undone};
 pub use stamp::{Stamp, read_stamp};

@@ -1,5 +1,5 @@
 use Rattle.order_place.proofs.PlaceLemmas.{forgotten}
-use Rattle.order_place.proofs.places.Places.forget.Goals as goal
+use Rattle.order_place.proofs.node.Node.forget.Goals as goal
 
 pub returns : goal.returns
 returns c = forgotten c.args.self.now _ c.remove.new.self.entries (c.args.ms, c.args.serial) c.self.view_is c.remove.ensures.updates.0

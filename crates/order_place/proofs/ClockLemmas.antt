@@ -1,0 +1,97 @@
+-- The clock by what was seen.
+use Rattle.std.proofs.Common.{◌≡◌, ◌≤◌, ◌+◌, ◌==◌, ◌∙◌, arith, sym, refl, ap, ℕ, Bool, true, false, List, [], ◌∷◌, Option, None, Some, max, min, subst, if◌then◌else◌}
+use Rattle.std.proofs.lemmas.Bool.Decides.{nat_tests}
+use Rattle.std.proofs.lemmas.Option.{same_Some}
+use Rattle.order_text.specs.Stamp.{Stamp}
+use Rattle.order_place.specs.declared.call.Call.{Call}
+use Rattle.order_place.specs.declared.clock.Clock.{Clock}
+use Rattle.order_place.specs.Clocks.{others_at, time_after, clock_after}
+use Rattle.order_place.specs.Places.{Seen, Sees, is_pid, is_event, call_at, event_at, own_time, not_before, first_time, time_or, event_time, calls_of}
+use Rattle.order_place.specs.Sights.{Sight, Saw, Wrote, Started, others_in, clock_in, event_in, begun_or, StandsFor}
+use Rattle.order_place.proofs.PlaceLemmas.{first_same}
+
+-- after a line, the times of the others
+pub others_step : (clock : Clock) (ms serial other : ℕ) → clock.second ≤ clock.greatest
+    → others_at (clock_after clock ms serial) other ≡ (if other == serial then others_at clock other else max (others_at clock other) ms)
+others_step clock ms serial other below = grind (arith, nat_tests, below)
+
+pub second_step : (clock : Clock) (ms serial : ℕ) → clock.second ≤ clock.greatest
+    → (clock_after clock ms serial).second ≤ (clock_after clock ms serial).greatest
+second_step clock ms serial below = grind (arith, nat_tests, below)
+
+pub time_step : (clock : Clock) (ms serial : ℕ) → (clock_after clock ms serial).time ≡ time_after clock.time (others_at clock serial) ms
+time_step clock ms serial = grind (arith, nat_tests)
+
+kept_back : (time ms : ℕ) (before : Option ℕ) → ms ≤ time → ms ≤ not_before time before
+kept_back time ms None le = le
+kept_back time ms (Some before) le = omega (arith, le)
+
+own_entered : (clock ms : ℕ) (waits : Bool) → ms ≤ own_time clock ms waits
+own_entered clock ms true = omega arith
+own_entered clock ms false = omega arith
+
+first_entered : (seen : Seen) (ms : ℕ) (call : Option Call) → ms ≤ first_time seen ms call
+first_entered seen ms None = omega arith
+first_entered seen ms (Some call) = kept_back (own_time seen.clock.time ms call.waits) ms (call_at seen call.pid) (own_entered seen.clock.time ms call.waits)
+
+entered_by : (ms first : ℕ) (held : Option ℕ) → ms ≤ first → ((time : ℕ) → held ≡ Some time → ms ≤ time) → ms ≤ time_or held first
+entered_by ms first None le held = le
+entered_by ms first (Some time) le held = held time refl
+
+-- the call of a line that begins its event is the newest of its process
+begun_calls : (old : Seen) (held : Option ℕ) (event : ℕ × ℕ) (most time : ℕ) (call : Option Call) (pid : ℕ) → (held ≡ None → time ≡ first_time old event.0 call)
+    → calls_of old held event most call pid ≡ begun_or held call (min time most) pid (call_at old pid)
+begun_calls old (Some at) event most time call pid first = refl
+begun_calls old None event most time None pid first = refl
+begun_calls old None event most time (Some call) pid first =
+    ap (λ (t : ℕ). if is_pid call.pid pid then Some (min t most) else call_at old pid) (sym (first refl))
+
+pub by_test : {P : Type 0} (b : Bool) → (b ≡ true → P) → (b ≡ false → P) → P
+by_test true f g = f refl
+by_test false f g = g refl
+
+-- a line counts no earlier than its own time
+pub entered : (seen : Seen) (event : ℕ × ℕ) (call : Option Call) → ((time : ℕ) → event_at seen event ≡ Some time → event.0 ≤ time) → event.0 ≤ event_time seen event call
+entered seen event call held = entered_by event.0 (first_time seen event.0 call) (event_at seen event) (first_entered seen event.0 call) held
+
+-- whichever event is left out, the clock is near the others
+pub shared : (sights : List Sight) (serial : ℕ) → clock_in sights ≤ others_in sights serial + 20000
+shared [] serial = omega arith
+shared (Wrote event ∷ before) serial = shared before serial
+shared (Started ∷ before) serial = omega arith
+shared (Saw s call time ∷ before) serial =
+    let more = shared before serial in
+    grind (arith, nat_tests, more)
+
+time_is : (old : Seen) (sights : List Sight) (s : Stamp) → StandsFor old sights
+    → (clock_after old.clock s.ms s.number).time ≡ time_after (clock_in sights) (others_in sights s.number) s.ms
+time_is old sights s stands =
+    time_step old.clock s.ms s.number
+    ∙ ap (λ (t : ℕ). time_after t (others_at old.clock s.number) s.ms) stands.clock ∙ ap (λ (o : ℕ). time_after (clock_in sights) o s.ms) (stands.others s.number)
+
+entry_by : (same : Bool) (ms time now : ℕ) (before : Option ℕ) → (same ≡ true → ms ≤ now) → (before ≡ Some time → ms ≤ time)
+    → (if same then Some now else before) ≡ Some time → ms ≤ time
+entry_by true ms time now before here there at = subst (λ (t : ℕ). ms ≤ t) (same_Some _ _ at) (here refl)
+entry_by false ms time now before here there at = there at
+
+pub sees_on : (old new : Seen) (s : Stamp) (call : Option Call) (time : ℕ) (sights : List Sight)
+    → StandsFor old sights → Sees old new s call time → StandsFor new (Saw s call time ∷ sights)
+sees_on old new s call time sights stands sees = record {
+  clock = ap (λ (c : Clock). c.time) sees.clock ∙ time_is old sights s stands;
+  others = λ serial. ap (λ (c : Clock). others_at c serial) sees.clock ∙ others_step old.clock s.ms s.number serial stands.second
+      ∙ ap (λ (o : ℕ). if serial == s.number then o else max o s.ms) (stands.others serial);
+  second = subst (λ (c : Clock). c.second ≤ c.greatest) (sym sees.clock) (second_step old.clock s.ms s.number stands.second);
+  calls = λ pid. sees.calls pid
+      ∙ begun_calls old (event_at old (s.ms, s.number)) (s.ms, s.number) (clock_after old.clock s.ms s.number).time time call pid
+      (λ none. sees.time ∙ ap (λ (o : Option ℕ). time_or o (first_time old s.ms call)) none)
+      ∙ ap (λ (o : Option ℕ). begun_or o call (min time (clock_after old.clock s.ms s.number).time) pid (call_at old pid)) (stands.events (s.ms, s.number))
+      ∙ ap (λ (t : ℕ). begun_or (event_in sights (s.ms, s.number)) call (min time t) pid (call_at old pid)) (time_is old sights s stands)
+      ∙ ap (λ (o : Option ℕ). begun_or (event_in sights (s.ms, s.number)) call (min time (clock_in (Saw s call time ∷ sights))) pid o) (stands.calls pid);
+  events = λ event. sees.events event
+      ∙ ap (λ (t : ℕ). if is_event (s.ms, s.number) event then Some t else event_at old event) (sym sees.time)
+      ∙ ap (λ (o : Option ℕ). if is_event (s.ms, s.number) event then Some time else o) (stands.events event);
+  entry = λ event at is. entry_by (is_event (s.ms, s.number) event) event.0 at (event_time old (s.ms, s.number) call) (event_at old event)
+      (λ same. subst (λ (t : ℕ). t ≤ event_time old (s.ms, s.number) call) (first_same (s.ms, s.number) event same)
+      (entered old (s.ms, s.number) call (stands.entry (s.ms, s.number))))
+      (stands.entry event at) (sym (sees.events event) ∙ is);
+}

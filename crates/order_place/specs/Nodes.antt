@@ -1,0 +1,80 @@
+-- What was seen of the nodes of a log.
+use Rattle.std.specs.Prelude.{◌≡◌, ℕ, Bool, false, List, [], ◌∷◌, Option, None, Some, max, unwrap_or, if◌then◌else◌}
+use Rattle.std.specs.Map.{lookup}
+use Rattle.std.specs.Ordering.{nat_cmp, is_eq}
+use Rattle.std.specs.Cmp.Lexicographic.{slice_cmp}
+use Rattle.order_text.specs.Stamp.{Stamp}
+use Rattle.order_place.specs.declared.call.Call.{Call}
+use Rattle.order_place.specs.declared.clock.Clock.{Clock}
+use Rattle.order_place.specs.declared.places.Place.{Place}
+use Rattle.order_place.specs.Places.{Seen, Sees, Forgets, IsPlaceOf, node_of, is_boot}
+use Rattle.order_place.specs.Sights.{Sight, Started, StandsFor}
+
+-- What was seen: the greatest time of a clock, the place of the last line, and what was seen of each node.
+pub record AllSeen : Type 0 where
+  pub clock : ℕ
+  pub last : Place
+  pub nodes : List (List ℕ × Seen)
+
+-- one node
+abbrev pub is_node : List ℕ → List ℕ → Bool
+is_node a b = is_eq (slice_cmp nat_cmp a b)
+
+-- nothing was seen
+abbrev pub none : Clock
+none = record { time = 0; greatest = 0; serial = 0; second = 0 }
+
+abbrev pub fresh : Seen
+fresh = record { clock = none; calls = []; events = [] }
+
+-- a node that was started: its processes and its clock are new ones
+abbrev pub booted : Seen → Seen
+booted seen = record seen { clock = none; calls = [] }
+
+abbrev pub begun : Bool → Seen → Seen
+begun boots seen = if boots then booted seen else seen
+
+-- what was seen of a node
+abbrev pub node_at : AllSeen → List ℕ → Seen
+node_at all name = unwrap_or (lookup (is_node name) all.nodes) fresh
+
+-- this was seen of a node, and of the others what was seen before
+pub record Keeps (old new : AllSeen) (name : List ℕ) (node : Seen) : Type 0 where
+  pub clock : new.clock ≡ old.clock
+  pub last : new.last ≡ old.last
+  pub here : node_at new name ≡ node
+  pub others : (other : List ℕ) → is_node name other ≡ false → node_at new other ≡ node_at old other
+
+-- a line of this stamp, or of none, has this place after what was seen
+abbrev pub HasPlace : AllSeen → Option Stamp → Place → Type 0
+HasPlace all None p = p ≡ all.last
+HasPlace all (Some s) p = IsPlaceOf s p
+
+-- A line of a node was seen. If it says that the node was started, the processes and the clock from before are forgotten.
+pub record SeesOf (old new : AllSeen) (s : Stamp) (call : Option Call) (p : Place) : Type 0 where
+  pub sees : Sees (begun (is_boot s.front) (node_at old (node_of s.front))) (node_at new (node_of s.front)) s call p.time
+  pub others : (other : List ℕ) → is_node (node_of s.front) other ≡ false → node_at new other ≡ node_at old other
+  pub clock : new.clock ≡ max old.clock (node_at new (node_of s.front)).clock.time
+
+-- a line without a stamp changes nothing
+abbrev pub SeesLine : AllSeen → AllSeen → Option Stamp → Option Call → Place → Type 0
+SeesLine old new None call p = new ≡ old
+SeesLine old new (Some s) call p = SeesOf old new s call p
+
+-- an event of a node is held no longer
+pub record ForgetsOf (old new : AllSeen) (name : List ℕ) (event : ℕ × ℕ) : Type 0 where
+  pub forgets : Forgets (node_at old name) (node_at new name) event
+  pub others : (other : List ℕ) → is_node name other ≡ false → node_at new other ≡ node_at old other
+
+-- what was seen of one node, of what was seen of all, the newest first
+abbrev pub sights_of : List ℕ → List (List ℕ × Sight) → List Sight
+sights_of name [] = []
+sights_of name ((of, sight) ∷ before) = if is_node of name then sight ∷ sights_of name before else sights_of name before
+
+-- what is seen of a node by a line: that it was started, if the line says so, and the line
+abbrev pub seen_by : Bool → List ℕ → Sight → List (List ℕ × Sight)
+seen_by boots name sight = if boots then (name, sight) ∷ (name, Started) ∷ [] else (name, sight) ∷ []
+
+-- what is known of each node is what was seen of it
+pub record StandsForAll (all : AllSeen) (sights : List (List ℕ × Sight)) : Type 0 where
+  pub each : (name : List ℕ) → StandsFor (node_at all name) (sights_of name sights)
