@@ -70,7 +70,8 @@ pub fn reply_of<R: Reducer>(engine: &mut Ingest<R, VecRows>, ask: &Ask<'_>) -> R
     match engine.ask(ask) {
         Ok(reply) => Ok(reply),
         Err(AskFault::NoMemory) => Err(Halt::NoMemory),
-        Err(AskFault::StoreFault) | Err(AskFault::BadStore(_)) => unreachable!(),
+        Err(AskFault::StoreFault) => unreachable!(),
+        Err(AskFault::BadStore(_)) => unreachable!(),
     }
 }
 

@@ -3,8 +3,10 @@ pub mod Beginning
 pub mod CalmActs
 pub mod CountedBirths
 pub mod Drafting
+pub mod Ends
 pub mod Fewness
 pub mod Following
+pub mod GoingOn
 pub mod KnownNames
 pub mod Numbering
 pub mod Numbers
@@ -13,8 +15,15 @@ pub mod Planning
 pub mod Resting
 pub mod Rooming
 pub mod Rooms
+pub mod Safety
 pub mod Sockets
 pub mod UnderWays
 pub mod Unmapped
 pub mod Filling
 pub mod SinceLaws
+pub mod SlotLaws
+pub mod Noting
+pub mod Collecting
+pub mod Sayings
+pub mod Holding
+pub mod RowLaws

@@ -1,13 +1,17 @@
 -- Room changes nothing that the tables stand for.
-use Rattle.std.proofs.Common.{◌≡◌, ◌≤◌, ◌∙◌, ◌++◌, length, ap, sym, subst, append_assoc, ℕ, List, take}
+use Rattle.std.proofs.Common.{◌≡◌, ◌≤◌, ◌+◌, ◌∙◌, ◌++◌, None, arith, length-append, length, ap, sym, subst, append_assoc, ℕ, List, take}
 use Rattle.std.specs.Prelude.{unwrap_or, nat_eq}
+use Rattle.std.proofs.lemmas.Bool.Decides.{nat_tests}
+use Rattle.std.proofs.lemmas.List.{map-append}
 use Rattle.std.specs.Map.{lookup}
 use Rattle.flow_base.specs.contracts.types.FileIdPartialEq.TheImpl.{ghosts}
 use Rattle.acts.specs.declared.act.Taken.{Taken}
 use Rattle.acts.specs.Keys.{all_given, names_of}
-use Rattle.acts.specs.Flows.{acts_of}
+use Rattle.acts.specs.Flows.{acts_of, objects, flows}
+use Rattle.acts.specs.LookBack.{full_at, full_by}
 use Rattle.proc_table.specs.Table.{standing_of}
 use Rattle.flow_base.specs.declared.limits.Limits.{Limits}
+use Rattle.flow_events.specs.declared.plan.Plan.{Plan}
 use Rattle.flow_events.specs.declared.tables.Tables.{Tables}
 use Rattle.flow_base.specs.declared.types.Key.{Key}
 use Rattle.proc_table.specs.Table.{StandsFor as LivesAs}
@@ -15,9 +19,9 @@ use Rattle.fd_table.specs.Table.{HoldsAs, AddressesAs}
 use Rattle.entity_names.specs.Known.{Known, NamesAs, saved_at, names_at as known_at}
 use Rattle.stored.specs.Batch.{names_at}
 use Rattle.flow_events.specs.Births.{BornAs}
-use Rattle.flow_events.specs.Entering.{SavedAlike}
+use Rattle.flow_events.specs.Entering.{SavedAlike, entered}
 use Rattle.flow_events.specs.Remembering.{AreSavedNames, StandsSince, StaysSince}
-use Rattle.flow_events.specs.Standing.{StandsFor, DiffersInRoom}
+use Rattle.flow_events.specs.Standing.{StandsFor, DiffersInRoom, HasLimits, IsPlanOf}
 
 pub stands_still : (text : List ℕ → List ℕ) (old new : Tables) (taken : List Taken) → DiffersInRoom old new → StandsFor text old taken → StandsFor text new taken
 stands_still text old new taken same stands = record {
@@ -42,6 +46,10 @@ pub all_saved : (text : List ℕ → List ℕ) (old new : Known) (taken : List T
 all_saved text old new taken most names same saved key =
     saved key ∙ ap length (same key ∙ names.each key) ∙ ap (λ n. length (names_at text n taken key)) (sym most)
 
+-- the objects at the mark are those of the acts
+pub known_marked : (old new : Known) (count : ℕ) (taken : List Taken) → new ≡ record old { names = new.names } → count ≡ length new.keys → old.keys ≡ objects (acts_of taken) → count ≡ length (objects (acts_of taken))
+known_marked old new count taken rest is keys = is ∙ ap length (ap (λ (e : Known). e.keys) rest ∙ keys)
+
 -- with other marks of names and other memory the tables stand for the same
 pub stands_marked : (text : List ℕ → List ℕ) (old new : Tables) (taken : List Taken) → new.procs ≡ old.procs → new.fds ≡ old.fds → new.births ≡ old.births → new.entities ≡ record old.entities { names = new.entities.names } → ((key : Key) → known_at new.entities key ≡ known_at old.entities key)
     → new.flows ≡ old.flows → new.acts ≡ old.acts → new.limits ≡ old.limits → StandsFor text old taken → StandsFor text new taken
@@ -58,8 +66,23 @@ stands_marked text old new taken procs fds births rest names flows acts limits s
   objects_fit = subst (λ (e : Known). length e.keys ≤ e.limit) (sym rest) stands.objects_fit;
 }
 
+held_joined : (text : List ℕ → List ℕ) (tables : Tables) (now before : List Taken) → StandsFor text tables (now ++ before) → HoldsAs tables.fds (acts_of now ++ acts_of before)
+held_joined text tables now before stands = subst (HoldsAs tables.fds) (map-append (λ (t : Taken). t.act) now before) stands.held_are
+
 pub since_stays : (old new : Tables) → DiffersInRoom old new → StaysSince old new
-since_stays old new same text before now stands = record { stands = stands_still text old new (now ++ before) same stands.stands; since = same.since (acts_of before) (acts_of now) stands.since; saved = saved_still text old.entities new.entities before same.most_names same.saved stands.saved }
+since_stays old new same text before now stands = record { stands = stands_still text old new (now ++ before) same stands.stands; since = same.since (acts_of before) (acts_of now) (held_joined text new now before (stands_still text old new (now ++ before) same stands.stands)) stands.since; saved = saved_still text old.entities new.entities before same.most_names same.saved stands.saved }
 
 pub stands_joined : (text : List ℕ → List ℕ) (tables : Tables) (fresh now before : List Taken) → StandsFor text tables (fresh ++ (now ++ before)) → StandsFor text tables ((fresh ++ now) ++ before)
 stands_joined text tables fresh now before stands = subst (StandsFor text tables) (sym (append_assoc fresh now before)) stands
+
+none_by : (e f o n : ℕ) → o ≤ e → n ≤ f → full_by e f o n ≡ None
+none_by e f o n objects flows = grind (arith, nat_tests, objects, flows)
+
+-- no limit is passed by what a plan does that fits
+pub plan_fits : (text : List ℕ → List ℕ) (tables : Tables) (plan : Plan) (limits : Limits) (before now : List Taken) → HasLimits limits tables → StandsFor text tables before → IsPlanOf text plan before now
+    → length (entered tables.entities.keys plan.keys) ≤ tables.entities.limit → tables.flows + length plan.flows ≤ tables.limits.flows → full_at limits.entities limits.flows (now ++ before) ≡ None
+plan_fits text tables plan limits before now has stands is keys flows_fit =
+    none_by limits.entities limits.flows (length (objects (acts_of (now ++ before)))) (length (flows (now ++ before)))
+    (rw (is.objects_are, sym stands.objects_are, sym (ap (λ (l : Limits). l.entities) has.limits_are), stands.limit_is) keys)
+    (let e : length (flows (now ++ before)) ≡ tables.flows + length plan.flows = ap length is.flows_are ∙ length-append (flows before) plan.flows ∙ ap (λ n. n + length plan.flows) (sym stands.flows_are) in
+    subst (λ (n : ℕ). n ≤ limits.flows) (sym e) (subst (λ (l : Limits). tables.flows + length plan.flows ≤ l.flows) has.limits_are flows_fit))

@@ -1,8 +1,9 @@
 -- Room for names and keys that are entered one after the other.
-use Rattle.std.proofs.Common.{◌≡◌, ◌≤◌, ◌<◌, ◌+◌, ◌++◌, ◌∙◌, ◌⊎◌, ◌||◌, ap, refl, ℕ, Bool, true, false, List, [], ◌∷◌, length, map, min, if◌then◌else◌, arith, append_assoc, subst, reverse, take}
+use Rattle.std.proofs.Common.{◌≡◌, ◌≤◌, ◌<◌, ◌+◌, ◌++◌, ◌∙◌, ◌⊎◌, ◌||◌, ap, refl, ℕ, Bool, true, false, List, [], ◌∷◌, length, map, min, if◌then◌else◌, arith, append_assoc, subst, sym, reverse, take, get_or}
 use Rattle.acts.specs.declared.act.Act.{Act}
 use Rattle.std.specs.List.{list_any}
 use Rattle.std.proofs.lemmas.Grind.{common_steps}
+use Rattle.std.proofs.lemmas.List.{reverse-append, take_more}
 use Rattle.flow_base.specs.declared.types.Key.{Key}
 use Rattle.flow_base.specs.contracts.types.KeyPartialEq.TheImpl.{ghosts}
 use Rattle.acts.specs.Keys.{put_new}
@@ -94,3 +95,9 @@ next_fits seen now all left keys done key most limit is_now is_all is_left same 
 -- so many acts come before the next one
 pub turned_short : (i : ℕ) (acts before : List Act) → length (reverse (take i acts) ++ before) ≤ length before + length acts
 turned_short i acts before = grind (arith, common_steps)
+
+-- with the next act it stands before those so far
+pub turned_next : (i : ℕ) (acts before : List Act) (act : Act) → i < length acts → act ≡ get_or acts i act → act ∷ (reverse (take i acts) ++ before) ≡ reverse (take (i + 1) acts) ++ before
+turned_next i acts before act inside is =
+    ap (λ all. all ++ before) (sym (reverse-append (take i acts) (act ∷ [])))
+    ∙ ap (λ all. reverse all ++ before) (sym (take_more acts i act inside ∙ ap (λ a. take i acts ++ a ∷ []) (sym is)))

@@ -1,7 +1,8 @@
 -- An event that is under way, with one more act.
-use Rattle.std.proofs.Common.{◌≡◌, ◌<◌, ◌≤◌, ◌+◌, ◌++◌, ◌∙◌, ap, sym, subst, ℕ, List, [], ◌∷◌, length, map, take, reverse, get_or}
+use Rattle.std.proofs.Common.{◌≡◌, ◌<◌, ◌≤◌, ◌+◌, ◌++◌, ◌∙◌, ap, sym, subst, ℕ, List, [], ◌∷◌, length, map, take, reverse, get_or, arith}
 use Rattle.std.proofs.lemmas.List.{map-append, reverse-append, take_more, take_all}
 use Rattle.std.proofs.lemmas.List.Elements.{All-get_or}
+use Rattle.std.proofs.lemmas.Grind.{common_steps}
 use Rattle.std.specs.Prelude.{All}
 use Rattle.acts.specs.declared.act.Act.{Act}
 use Rattle.acts.specs.declared.act.Taken.{Taken}
@@ -9,7 +10,7 @@ use Rattle.flow_events.specs.declared.acting.Acting.{Acting}
 use Rattle.flow_events.specs.declared.draft.Draft.{Draft}
 use Rattle.flow_events.specs.declared.draft.Ground.{Ground}
 use Rattle.call_acts.specs.Events.{IsCalm, IsCalmOf}
-use Rattle.flow_events.specs.Drafts.{Drafted, UnderWay, turned}
+use Rattle.flow_events.specs.Drafts.{Drafted, MayGoOn, UnderWay, turned}
 use Rattle.flow_events.proofs.CalmActs.{calm_acting}
 
 abbrev pub taken_at : ℕ → ℕ → Act → Taken
@@ -42,3 +43,16 @@ one_more ground acting old new before now i acts act inside is calm way drafted 
 pub all_done : (ground : Ground) (acting : Acting) (draft : Draft) (before now : List Taken) (i : ℕ) (acts : List Act) → length acts ≤ i
     → UnderWay ground acting draft before (turned ground.ms ground.serial (take i acts) ++ now) → UnderWay ground acting draft before (turned ground.ms ground.serial acts ++ now)
 all_done ground acting draft before now i acts past way = subst (λ all. UnderWay ground acting draft before (turned ground.ms ground.serial all ++ now)) (take_all i acts past) way
+
+short : (ms serial i : ℕ) (acts : List Act) (now : List Taken) → length (turned ms serial (take i acts) ++ now) ≤ length now + length acts
+short ms serial i acts now = grind (arith, common_steps)
+
+-- after some of the acts there are numbers for one more
+pub still_few : (ground : Ground) (acting : Acting) (draft start : Draft) (before now : List Taken) (i : ℕ) (acts : List Act) → MayGoOn ground acting start before now (length acts)
+    → UnderWay ground acting draft before (turned ground.ms ground.serial (take i acts) ++ now) → MayGoOn ground acting draft before (turned ground.ms ground.serial (take i acts) ++ now) 0
+still_few ground acting draft start before now i acts may way = record {
+  way = way;
+  lives_few = may.lives_few;
+  before_few = may.before_few;
+  now_few = (let a = may.now_few in let b = short ground.ms ground.serial i acts now in omega (arith, a, b));
+}

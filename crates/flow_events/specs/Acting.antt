@@ -1,6 +1,7 @@
 -- The process of an event, once it was seen. Every list of acts has the newest first.
-use Rattle.std.specs.Prelude.{◌≡◌, ◌==◌, ◌^◌, ℕ, ⊤, false, List, [], ◌∷◌, Option, None, Some}
+use Rattle.std.specs.Prelude.{◌≡◌, ◌==◌, ◌^◌, ℕ, ⊤, Bool, true, false, List, [], ◌∷◌, Option, None, Some}
 use Rattle.flow_base.specs.declared.types.Key.{Key}
+use Rattle.flow_base.specs.declared.types.Key.TheVariants.{Process}
 use Rattle.acts.specs.declared.act.Act.{Act}
 use Rattle.acts.specs.declared.act.Act.TheVariants.{See}
 use Rattle.acts.specs.Lives.{life_of}
@@ -49,6 +50,11 @@ abbrev pub stated : (ℕ → Option (List ℕ)) → (ℕ → Option Held) → Op
 stated addresses held (Some address) listener = Some address
 stated addresses held None None = None
 stated addresses held None (Some listener) = address_through addresses (socket_held (held listener))
+
+-- the key is that of a process
+abbrev pub is_process : Key → Bool
+is_process (Process pid life) = true
+is_process other = false
 
 -- the act is no see
 abbrev pub IsNoSee : Act → Type 0

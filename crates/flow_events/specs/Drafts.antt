@@ -1,5 +1,5 @@
 -- What is worked out of an event so far. Every list of acts has the newest first, what is added the oldest.
-use Rattle.std.specs.Prelude.{◌≡◌, ◌++◌, ℕ, List, length, map, reverse}
+use Rattle.std.specs.Prelude.{◌≡◌, ◌<◌, ◌+◌, ◌-◌, ◌^◌, ◌++◌, ℕ, List, length, map, reverse}
 use Rattle.name_text.specs.Addresses.{text_of}
 use Rattle.acts.specs.declared.act.Taken.{Taken}
 use Rattle.acts.specs.Keys.{all_given}
@@ -10,8 +10,10 @@ use Rattle.flow_events.specs.declared.draft.Draft.{Draft}
 use Rattle.flow_events.specs.declared.draft.Ground.{Ground}
 use Rattle.flow_events.specs.declared.acting.Acting.{Acting}
 use Rattle.flow_events.specs.Acting.{IsActing}
+use Rattle.flow_events.specs.Added.{AreNumbered}
 use Rattle.flow_events.specs.Births.{Table as Births, BornAs}
 use Rattle.flow_events.specs.Entering.{SameNames, pair_of}
+use Rattle.flow_events.specs.Lives.{LivesBelow}
 
 -- the draft has the births, names, objects and flows that these acts add to those before; a name that its key has by then may be left out
 pub record Drafted (births : Births) (entities : Known) (draft : Draft) (before now : List Taken) : Type 0 where
@@ -27,6 +29,17 @@ pub record UnderWay (ground : Ground) (acting : Acting) (draft : Draft) (before 
   pub drafted : Drafted ground.births.now ground.entities.now draft before now
   pub acting_is : IsActing ground.procs.now ground.fds.now acting (acts_of now ++ acts_of before)
   pub base : ground.flows ≡ length (flows before)
+
+-- the event is under way, and there are numbers for the lives and births of so many more acts of it
+pub record MayGoOn (ground : Ground) (acting : Acting) (draft : Draft) (before now : List Taken) (more : ℕ) : Type 0 where
+  pub way : UnderWay ground acting draft before now
+  pub lives_few : LivesBelow ground.procs.now (2 ^ 64 - 1)
+  pub before_few : length before < 2 ^ 63 - 1
+  pub now_few : length now + more < 2 ^ 63 - 1
+
+-- what the draft adds to the ground is numbered, at the time of the event and from the next place on
+abbrev pub IsNumbered : Ground → Draft → Type 0
+IsNumbered ground draft = AreNumbered ground.entities.now.keys ground.ms ground.flows draft.added
 
 -- acts of one event, with the oldest first, as a log has them, with the newest first
 abbrev pub turned : ℕ → ℕ → List Act → List Taken

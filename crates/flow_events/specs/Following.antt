@@ -10,7 +10,7 @@ use Rattle.acts.specs.Admitted.{Admitted}
 use Rattle.acts.specs.Flows.{acts_of}
 use Rattle.acts.specs.LookBack.{full_at}
 use Rattle.flow_events.specs.declared.tables.Tables.{Tables}
-use Rattle.flow_events.specs.Standing.{StandsFor, HasLimits, IsPlanOf}
+use Rattle.flow_events.specs.Standing.{AreSafe, StandsFor, HasLimits, IsPlanOf}
 use Rattle.flow_events.specs.Drafts.{turned}
 use Rattle.flow_events.specs.declared.plan.Plan.{Plan}
 
@@ -26,11 +26,16 @@ pub record IsCourse (limits : Limits) (tables : Tables) : Type 0 where
   pub stands : StandsFor text_of tables before
   pub admitted : Admitted (acts_of before)
   pub limited : HasLimits limits tables
+  pub safe : AreSafe tables
 
 -- the tables were made with these limits and stand for these acts, which the event may follow
 pub record MayComeAfter (tables : Tables) (event : EventView) (limits : Limits) (before : List Taken) : Type 0 where
   pub limited : HasLimits limits tables
   pub follows : MayFollow tables before (length (event_acts limits.path event.records.now))
+
+-- so many more acts can be counted
+abbrev pub HasNumbersFor : Tables → ℕ → Type 0
+HasNumbersFor tables more = tables.acts + (more + 2) < 2 ^ 63 - 1
 
 -- the acts of an event, the newest first
 abbrev pub turned_by : Limits → EventView → List Taken

@@ -11,3 +11,4 @@ pub mod Following
 pub mod Filling
 pub mod Since
 pub mod Remembering
+pub mod Rows

@@ -5,7 +5,7 @@ use Rattle.acts.specs.declared.act.Taken.{Taken}
 use Rattle.acts.specs.Flows.{acts_of}
 use Rattle.acts.specs.Holding.{address_of}
 use Rattle.proc_table.specs.Table.{Table as Procs, StandsFor as LivesAs}
-use Rattle.fd_table.specs.Table.{Table as Fds, AddressesAs}
+use Rattle.fd_table.specs.Table.{Table as Fds, HoldsAs, AddressesAs}
 use Rattle.flow_base.specs.declared.types.Key.{Key}
 use Rattle.entity_names.specs.Known.{Known, saved_at}
 use Rattle.stored.specs.Batch.{names_at}
@@ -45,6 +45,6 @@ BeginsToRemember old new = (text : List ℕ → List ℕ) (taken : List Taken) �
 -- these acts, the oldest first, are remembered too, if they give one socket this address or none one
 abbrev pub NotesEvent : Option Memory → Option Memory → Procs → Fds → List Act → Option NewAddress → Type 0
 NotesEvent old new procs fds acts address =
-    (before now fresh : List Act) → LivesAs procs (now ++ before) → AddressesAs fds (now ++ before) → fresh ≡ reverse acts
+    (before now fresh : List Act) → LivesAs procs (now ++ before) → HoldsAs fds (now ++ before) → AddressesAs fds (now ++ before) → fresh ≡ reverse acts
     → ((s : ℕ) → address_of (fresh ++ (now ++ before)) s ≡ readdressed address (address_of (now ++ before)) s)
     → Remembers old before now → Remembers new before (fresh ++ now)

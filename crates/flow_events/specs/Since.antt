@@ -7,20 +7,27 @@ use Rattle.std.specs.Option.{option_map}
 use Rattle.flow_base.specs.declared.types.FileId.{FileId}
 use Rattle.flow_base.specs.contracts.types.FileIdPartialEq.TheImpl.{ghosts as files}
 use Rattle.acts.specs.declared.act.Act.{Act}
+use Rattle.acts.specs.declared.act.Act.TheVariants.{Exec, Set, SetBoth, Copy, Close, Mark, Address}
+use Rattle.acts.specs.declared.held.Held.{Held}
 use Rattle.acts.specs.Births.{is_birth_of}
-use Rattle.acts.specs.Holding.{address_of}
+use Rattle.acts.specs.Flows.{objects}
+use Rattle.acts.specs.Holding.{address_of, holds, is_at}
+use Rattle.acts.specs.Lives.{live, beginnings}
 use Rattle.acts.specs.Standing.{standing}
+use Rattle.fd_table.specs.Table.{Table as Fds, HoldsAs, held_at, is_marked}
 use Rattle.proc_table.specs.declared.life.Life.{Life}
 use Rattle.proc_table.specs.Table.{Table as Procs, at, standing_of}
 use Rattle.flow_events.specs.declared.plan.NewAddress.{NewAddress}
-use Rattle.stored.specs.Batch.{names_pid, names_socket, since_names}
+use Rattle.stored.specs.Batch.{names_pid, names_socket, since_names, WasHeld}
 
--- each pid that was named, with its last life at the mark; the file numbers that were born; the sockets that got an address;
--- and the room for more of each
+-- how many objects there were at the mark; each pid that was named, with its last life at the mark; the file numbers that were
+-- born; the sockets that got an address; the descriptors that were touched; and the room for more of some of them
 pub record Memory : Type 0 where
+  pub known : ℕ
   pub pids : List (ℕ × Option Life)
   pub files : List FileId
   pub sockets : List ℕ
+  pub slots : List (ℕ × ℕ)
   pub pid_spare : ℕ
   pub file_spare : ℕ
   pub socket_spare : ℕ
@@ -59,11 +66,28 @@ pub record AreSockets (memory : Memory) (before now : List Act) : Type 0 where
   pub named : (s : ℕ) → has_socket memory s ≡ true → since_names names_socket now before s ≡ true
   pub there : (s : ℕ) → has_socket memory s ≡ true → is_some (address_of (now ++ before) s) ≡ true
 
+-- a descriptor of a pid is among these
+abbrev pub has_slot : List (ℕ × ℕ) → ℕ → ℕ → Bool
+has_slot slots p n = list_any (λ q. is_at q.0 q.1 p n) slots
+
+-- the life that a pid had at the mark goes on
+pub record LivesOn (before now : List Act) (p : ℕ) : Type 0 where
+  pub same : beginnings (now ++ before) p ≡ beginnings before p
+  pub live_is : live (now ++ before) p ≡ true
+
+-- these descriptors were held at the mark or after an act since; and what was held at the mark and is lost is among them, if the
+-- life goes on
+pub record AreSlots (slots : List (ℕ × ℕ)) (before now : List Act) : Type 0 where
+  pub were : (p n : ℕ) → has_slot slots p n ≡ true → WasHeld now before p n
+  pub lost : (p n : ℕ) → LivesOn before now p → is_some (holds before p n) ≡ true → holds (now ++ before) p n ≡ None → has_slot slots p n ≡ true
+
 -- this is remembered of these acts after those before the mark
 pub record IsSince (memory : Memory) (before now : List Act) : Type 0 where
+  pub known_is : memory.known ≡ length (objects before)
   pub pids_are : ArePids memory before now
   pub files_are : AreFiles memory before now
   pub sockets_are : AreSockets memory before now
+  pub slots_are : AreSlots memory.slots before now
 
 -- what is remembered once a pid is named, which is as it was if it is remembered already
 abbrev pub NotesPid : Memory → Memory → Procs → (ℕ → Bool) → Type 0
@@ -87,18 +111,27 @@ abbrev pub DiffersInFiles : Memory → Memory → Type 0
 DiffersInFiles old new = new ≡ record old { files = new.files; file_spare = new.file_spare }
 
 -- at most the pids and file numbers are others
-abbrev pub DiffersInNamed : Memory → Memory → Type 0
-DiffersInNamed old new = (new.sockets ≡ old.sockets) × (new.socket_spare ≡ old.socket_spare)
+pub record DiffersInNamed (old new : Memory) : Type 0 where
+  pub known : new.known ≡ old.known
+  pub sockets : new.sockets ≡ old.sockets
+  pub slots : new.slots ≡ old.slots
+  pub socket_spare : new.socket_spare ≡ old.socket_spare
 
 -- at most the sockets are others
 abbrev pub DiffersInSockets : Memory → Memory → Type 0
 DiffersInSockets old new = new ≡ record old { sockets = new.sockets; socket_spare = new.socket_spare }
 
+-- at most the descriptors are others
+abbrev pub DiffersInSlots : Memory → Memory → Type 0
+DiffersInSlots old new = new ≡ record old { slots = new.slots }
+
 -- at most the room is another
 pub record IsSameMemory (old new : Memory) : Type 0 where
+  pub known : new.known ≡ old.known
   pub pids : new.pids ≡ old.pids
   pub files : new.files ≡ old.files
   pub sockets : new.sockets ≡ old.sockets
+  pub slots : new.slots ≡ old.slots
 
 -- what is remembered once sockets got another address
 abbrev pub NotesSocket : Memory → Memory → (ℕ → Bool) → Type 0
@@ -124,10 +157,39 @@ abbrev pub Remembers : Option Memory → List Act → List Act → Type 0
 Remembers None before now = ⊥
 Remembers (Some memory) before now = IsSince memory before now
 
--- what was remembered still is
-abbrev pub RemembersTheSame : Option Memory → Option Memory → Type 0
-RemembersTheSame old new = (before now : List Act) → Remembers old before now → Remembers new before now
+-- what was remembered still is, if descriptors hold what this table says
+abbrev pub RemembersTheSame : Fds → Option Memory → Option Memory → Type 0
+RemembersTheSame fds old new = (before now : List Act) → HoldsAs fds (now ++ before) → Remembers old before now → Remembers new before now
 
--- the mark is now, whenever that is
-abbrev pub IsMarked : Option Memory → Option Memory → Type 0
-IsMarked old new = (before now next : List Act) → Remembers old before now → Remembers new next []
+-- the mark is now, whenever that is, with this many objects
+abbrev pub IsMarked : ℕ → Option Memory → Option Memory → Type 0
+IsMarked known old new = (before now next : List Act) → known ≡ length (objects next) → Remembers old before now → Remembers new next []
+
+-- an act names this descriptor, which holds this, or closes it by an exec
+abbrev pub touches : Act → ℕ → ℕ → Option Held → Bool
+touches (Exec pid) p n held = pid == p && is_marked held
+touches (Set pid fd what cloexec) p n held = is_at pid fd p n && is_some held
+touches (SetBoth pid first second cloexec) p n held = (is_at pid first p n || is_at pid second p n) && is_some held
+touches (Copy pid from to cloexec) p n held = is_at pid to p n && is_some held
+touches (Close pid fd) p n held = is_at pid fd p n && is_some held
+touches (Mark pid fd cloexec) p n held = is_at pid fd p n && is_some held
+touches (Address pid fd bytes) p n held = is_at pid fd p n && is_some held
+touches other p n held = false
+
+-- one of these acts touches this descriptor, which holds this
+abbrev pub any_touches : List Act → ℕ → ℕ → Option Held → Bool
+any_touches acts p n held = list_any (λ act. touches act p n held) acts
+
+-- besides those that were there, only descriptors are there that hold something
+pub record AddsHeld (fds : Fds) (old new : List (ℕ × ℕ)) : Type 0 where
+  pub stay : (p n : ℕ) → has_slot old p n ≡ true → has_slot new p n ≡ true
+  pub held : (p n : ℕ) → has_slot new p n ≡ true → (has_slot old p n || is_some (held_at fds p n)) ≡ true
+
+-- each descriptor that passes is among these
+abbrev pub HasThose : Fds → List (ℕ × ℕ) → (ℕ → ℕ → Option Held → Bool) → Type 0
+HasThose fds slots test = (p n : ℕ) → test p n (held_at fds p n) ≡ true → has_slot slots p n ≡ true
+
+-- if anything is remembered, it has each descriptor that these acts touch
+abbrev pub HasTouched : Option Memory → Fds → List Act → Type 0
+HasTouched None fds acts = ⊤
+HasTouched (Some memory) fds acts = HasThose fds memory.slots (any_touches acts)

@@ -12,10 +12,12 @@ use Rattle.entity_names.specs.Known.{NamesAs, names_at}
 use Rattle.flow_events.specs.declared.plan.NewAddress.{NewAddress}
 use Rattle.flow_events.specs.declared.plan.Plan.{Plan}
 use Rattle.flow_events.specs.declared.tables.Tables.{Tables}
+use Rattle.flow_events.specs.Added.{StandFrom}
 use Rattle.flow_events.specs.Births.{BornAs}
 use Rattle.flow_events.specs.Changes.{changed, need}
-use Rattle.flow_events.specs.Since.{HasRoomFor, RemembersTheSame}
+use Rattle.flow_events.specs.Since.{HasRoomFor, HasTouched, RemembersTheSame}
 use Rattle.flow_events.specs.Entering.{Covers, SameNames, SavedAlike, entered, pairs_of}
+use Rattle.reach_rows.specs.Kept.{GoOn, known_after}
 
 -- the tables say what these acts say, where an address has this text
 pub record StandsFor (address_text : List ℕ → List ℕ) (tables : Tables) (taken : List Taken) : Type 0 where
@@ -27,6 +29,12 @@ pub record StandsFor (address_text : List ℕ → List ℕ) (tables : Tables) (t
   pub names_are : NamesAs tables.entities (all_given address_text (acts_of taken))
   pub flows_are : tables.flows ≡ length (flows taken)
   pub acts_are : tables.acts ≡ length taken
+  pub limit_is : tables.limits.entities ≡ tables.entities.limit
+  pub objects_fit : length tables.entities.keys ≤ tables.entities.limit
+
+-- the flows aren't too many to be counted on, and the objects fit, whether or not the tables stand for some acts
+pub record AreSafe (tables : Tables) : Type 0 where
+  pub flows_few : tables.flows ≤ 2 ^ 60
   pub limit_is : tables.limits.entities ≡ tables.entities.limit
   pub objects_fit : length tables.entities.keys ≤ tables.entities.limit
 
@@ -59,15 +67,11 @@ pub record IsReady (tables : Tables) (plan : Plan) : Type 0 where
   pub names : Covers tables.entities plan.given
   pub keys : length plan.keys ≤ tables.entities.spare
   pub objects_fit : length (entered tables.entities.keys plan.keys) ≤ tables.entities.limit
-  pub flows_fit : tables.flows + length plan.flows < 2 ^ 64
+  pub flows_fit : tables.flows + length plan.flows ≤ 2 ^ 60
   pub acts_fit : tables.acts + length plan.acts < 2 ^ 64 - 1
+  pub flows_few : length plan.flows ≤ length plan.acts
   pub since : HasRoomFor tables.since (length plan.acts)
-
--- the tables stand for some acts
-pub record Stands (tables : Tables) : Type 0 where
-  pub text : List ℕ → List ℕ
-  pub taken : List Taken
-  pub stands : StandsFor text tables taken
+  pub touched : HasTouched tables.since tables.fds plan.acts
 
 -- there is room for what the plan does to lives, births, descriptors, addresses, names and objects
 pub record HasRooms (tables : Tables) (plan : Plan) : Type 0 where
@@ -78,6 +82,7 @@ pub record HasRooms (tables : Tables) (plan : Plan) : Type 0 where
   pub names : Covers tables.entities plan.given
   pub keys : length plan.keys ≤ tables.entities.spare
   pub since : HasRoomFor tables.since (length plan.acts)
+  pub touched : HasTouched tables.since tables.fds plan.acts
 
 -- the tables differ at most in their room
 pub record DiffersInRoom (old new : Tables) : Type 0 where
@@ -93,7 +98,20 @@ pub record DiffersInRoom (old new : Tables) : Type 0 where
   pub flows : new.flows ≡ old.flows
   pub acts : new.acts ≡ old.acts
   pub limits : new.limits ≡ old.limits
-  pub since : RemembersTheSame old.since new.since
+  pub since : RemembersTheSame new.fds old.since new.since
+
+-- what the plan's flows are after the tables: they number the new objects as these come, and stand from the next place on
+pub record PlanFlows (tables : Tables) (ms : ℕ) (plan : Plan) : Type 0 where
+  pub go_on : GoOn (length tables.entities.keys) plan.flows
+  pub known_are : known_after (length tables.entities.keys) plan.flows ≡ length (entered tables.entities.keys plan.keys)
+  pub stand : StandFrom ms tables.flows plan.flows
+
+-- the plan's acts, flows and keys are counted in
+pub record HasGrown (old new : Tables) (plan : Plan) : Type 0 where
+  pub acts : new.acts ≡ old.acts + length plan.acts
+  pub flows : new.flows ≡ old.flows + length plan.flows
+  pub keys : new.entities.keys ≡ entered old.entities.keys plan.keys
+  pub limits : new.limits ≡ old.limits
 
 -- the tables were made with these limits
 pub record HasLimits (limits : Limits) (tables : Tables) : Type 0 where

@@ -19,6 +19,7 @@ use Rattle.flow_events.specs.Added.{IsPast}
 use Rattle.flow_events.specs.Births.{BornAs}
 use Rattle.flow_events.specs.Changes.{changed}
 use Rattle.flow_events.specs.Drafts.{Drafted, UnderWay}
+use Rattle.flow_events.specs.Lives.{LivesBelow}
 use Rattle.flow_events.specs.Standing.{readdressed}
 
 -- the ground says what these acts say
@@ -32,6 +33,7 @@ pub record Grounded (ground : Ground) (before : List Taken) : Type 0 where
   pub flows_are : ground.flows ≡ length (flows before)
   pub admitted : Admitted (acts_of before)
   pub few : length before < 2 ^ 63 - 1
+  pub lives_few : LivesBelow ground.procs.now (2 ^ 64 - 1)
 
 -- the see of an event as a log has it
 abbrev pub see_at : ℕ → ℕ → ℕ → ℕ → Option (List ℕ) → Taken
@@ -54,6 +56,7 @@ pub record IsRefused (ground : Ground) (full : Full) (before now : List Taken) :
 -- the event was begun by this act, after so many acts, and so many more are few
 pub record IsBegun (ground : Ground) (begun : Begun) (before : List Taken) (first : Taken) (acts more : ℕ) : Type 0 where
   pub way : UnderWay ground begun.acting begun.draft before (first ∷ [])
+  pub lives_few : LivesBelow ground.procs.now (2 ^ 64 - 1)
   pub acts_are : acts ≡ length before
   pub few : length before + (more + 2) < 2 ^ 63 - 1
 

@@ -3,7 +3,9 @@
 //! An event sees its process, has births and moves, and then at most one act of another kind. So after its first act
 //! the process is in one life, and holds what one process holds in the tables: itself, or its parent where the see
 //! linked them.
-ghost use Rattle.std.specs.Prelude.{◌≡◌, ◌==◌, ◌<◌, ◌++◌, ◌^◌, ◌-◌, ◌∷◌, ℕ, List, Option, IfOk};
+//!
+//! The numbers of lives and births that acts leave aren't at their end, but a store might say such ones. They stay there.
+ghost use Rattle.std.specs.Prelude.{◌≡◌, ◌==◌, ◌<◌, ◌++◌, ◌^◌, ◌-◌, ◌∷◌, ℕ, List, Option, Some, IfOk, false};
 ghost use Rattle.flow_base.specs.declared.types.Key.TheVariants as key;
 ghost use Rattle.acts.specs.declared.act.Act.{Act};
 ghost use Rattle.acts.specs.declared.act.Act.TheVariants as act;
@@ -14,10 +16,11 @@ ghost use Rattle.acts.specs.Births.{born, file_key, path_or_none};
 ghost use Rattle.acts.specs.Holding.{holds};
 ghost use Rattle.acts.specs.Keys.{object_key, held_key, thing_key};
 ghost use Rattle.acts.specs.Flows.{between, link_of};
-ghost use Rattle.proc_table.specs.Table.{Table, StandsFor};
+ghost use Rattle.proc_table.specs.Table.{Table, StandsFor, standing_of, at};
 ghost use Rattle.fd_table.specs.Table.{AddressesAs, Table as Descriptors};
 ghost use Rattle.flow_events.specs.Lives.{LivesBelow};
-ghost use Rattle.flow_events.specs.Acting.{IsActing, IsBorn};
+ghost use Rattle.flow_events.specs.Acting.{IsActing, IsBorn, is_process};
+ghost use Rattle.flow_events.specs.Added.{HasTwoEnds};
 
 use crate::births::Births;
 use acts::{FileRef, Link, Object, Thing, copy_key, only_live_pids_hold, sees_hand_on};
@@ -36,9 +39,8 @@ pub struct Acting {
 
 /// The process once it is seen.
 pub fn see_acting(procs: &Procs, pid: u32, ppid: u32) -> Acting
-    requires few { LivesBelow procs.now (2 ^ 64 - 1) }
     ensures pid { result.pid ≡ pid }
-    ensures life { (before : List Act) (exe : Option (List ℕ)) → StandsFor procs.now before → life_of (act.See pid ppid exe ∷ before) pid ≡ result.life }
+    ensures life { LivesBelow procs.now (2 ^ 64 - 1) → (before : List Act) (exe : Option (List ℕ)) → StandsFor procs.now before → life_of (act.See pid ppid exe ∷ before) pid ≡ result.life }
     ensures held { (before : List Act) (exe : Option (List ℕ)) → StandsFor procs.now before → Admitted before → (n : ℕ) → holds (act.See pid ppid exe ∷ before) pid n ≡ holds before result.holder n }
 {
     sees_hand_on();
@@ -50,10 +52,7 @@ pub fn see_acting(procs: &Procs, pid: u32, ppid: u32) -> Acting
             holder: pid,
         };
     }
-    let life = match procs.at(pid) {
-        Some(last) => last.life + 1,
-        None => 0,
-    };
+    let life = next_life(procs, pid);
     let is_linked = ppid != pid && procs.life(ppid).is_some();
     Acting {
         pid,
@@ -64,17 +63,14 @@ pub fn see_acting(procs: &Procs, pid: u32, ppid: u32) -> Acting
 
 /// The link of the see: from its parent, where it begins a life while another pid, the parent, is live.
 pub fn see_link(procs: &Procs, pid: u32, ppid: u32) -> Option<Link>
-    requires few { LivesBelow procs.now (2 ^ 64 - 1) }
-    ensures { (before : List Act) (exe : Option (List ℕ)) → StandsFor procs.now before → result ≡ link_of before (act.See pid ppid exe) }
+    ensures link { LivesBelow procs.now (2 ^ 64 - 1) → (before : List Act) (exe : Option (List ℕ)) → StandsFor procs.now before → result ≡ link_of before (act.See pid ppid exe) }
+    ensures ends { HasTwoEnds result }
 {
     if ppid == pid || procs.life(pid).is_some() {
         return None;
     }
     let parent = procs.life(ppid)?;
-    let life = match procs.at(pid) {
-        Some(last) => last.life + 1,
-        None => 0,
-    };
+    let life = next_life(procs, pid);
     Some(Link {
         from: Key::Process {
             pid: ppid,
@@ -85,14 +81,25 @@ pub fn see_link(procs: &Procs, pid: u32, ppid: u32) -> Option<Link>
     })
 }
 
+// The number of the next life of a pid.
+fn next_life(procs: &Procs, pid: u32) -> u64
+    ensures { LivesBelow procs.now (2 ^ 64 - 1)
+        → result ≡ (standing_of (at procs.now pid)).beginnings }
+{
+    match procs.at(pid) {
+        Some(last) => last.life.saturating_add(1),
+        None => 0,
+    }
+}
+
 // How often a file number was born.
 #[tactic(auto, using(crate::proofs::Numbers::born_both))]
 fn born(births: &Births, fresh: &Births, id: FileId) -> u64
-    requires few { (before now : List Act) × IsBorn births.now fresh.now before now }
     ensures born { (before now : List Act) → IsBorn births.now fresh.now before now → result ≡ born (now ++ before) id }
-    ensures few { result < 2 ^ 64 - 1 }
+    ensures few { (before now : List Act) → IsBorn births.now fresh.now before now
+        → result < 2 ^ 64 - 1 }
 {
-    births.count(id) + fresh.count(id)
+    births.count(id).saturating_add(fresh.count(id))
 }
 
 /// The key of a file.
@@ -102,7 +109,6 @@ pub fn file_key(
     fresh: &Births,
     file: &FileRef,
 ) -> Result<Key, NoMemory>
-    requires few { (before now : List Act) × IsBorn births.now fresh.now before now }
     ensures { (before now : List Act) → IsBorn births.now fresh.now before now → IfOk result (λ made. made ≡ file_key (now ++ before) file.now) }
 {
     match file.file {
@@ -124,13 +130,12 @@ pub fn birth_key(
     fresh: &Births,
     file: &FileRef,
 ) -> Result<Key, NoMemory>
-    requires few { (before now : List Act) × IsBorn births.now fresh.now before now }
     ensures { (before now : List Act) → IsBorn births.now fresh.now before now → IfOk result (λ made. made ≡ file_key (act.Birth file.now ∷ (now ++ before)) file.now) }
 {
     match file.file {
         Some(id) => Ok(Key::Inode {
             file: id,
-            born: born(births, fresh, id) + 1,
+            born: born(births, fresh, id).saturating_add(1),
         }),
         None => Ok(Key::Path {
             path: path_or_none(alloc, &file.path)?,
@@ -187,7 +192,6 @@ pub fn thing_key(
     acting: &Acting,
     what: &Thing,
 ) -> Result<Key, NoMemory>
-    requires few { (before now : List Act) × IsBorn births.now fresh.now before now }
     ensures { (procs : Table) (before now : List Act) → IsBorn births.now fresh.now before now → IsActing procs fds.now acting.now (now ++ before) → IfOk result (λ made. made ≡ thing_key (now ++ before) acting.now.pid what.now) }
 {
     match what {
@@ -199,10 +203,14 @@ pub fn thing_key(
     }
 }
 
-/// Inward is from the thing to the process.
-pub fn between(inward: bool, thing: Key, acting: &Acting, how: How) -> Link
-    ensures { result ≡ between inward thing (key.Process acting.now.pid acting.now.life) how }
+/// Inward is from the thing to the process. A process is no thing.
+pub fn between(inward: bool, thing: Key, acting: &Acting, how: How) -> Option<Link>
+    ensures link { is_process thing ≡ false → result ≡ Some (between inward thing (key.Process acting.now.pid acting.now.life) how) }
+    ensures ends { HasTwoEnds result }
 {
+    if matches!(&thing, Key::Process { .. }) {
+        return None;
+    }
     let process = Key::Process {
         pid: acting.pid,
         life: acting.life,
@@ -212,13 +220,13 @@ pub fn between(inward: bool, thing: Key, acting: &Acting, how: How) -> Link
     } else {
         (process, thing)
     };
-    Link { from, to, how }
+    Some(Link { from, to, how })
 }
 
 /// The link of a fork: to the child, unless the child is the caller or had this parent already.
 pub fn fork_link(procs: &Procs, acting: &Acting, child: u32) -> Option<Link>
-    requires few { LivesBelow procs.now (2 ^ 64 - 1) }
-    ensures { (fds : Descriptors) (acts : List Act) → IsActing procs.now fds acting.now acts → result ≡ link_of acts (act.Fork acting.now.pid child) }
+    ensures link { LivesBelow procs.now (2 ^ 64 - 1) → (fds : Descriptors) (acts : List Act) → IsActing procs.now fds acting.now acts → result ≡ link_of acts (act.Fork acting.now.pid child) }
+    ensures ends { HasTwoEnds result }
 {
     if child == acting.pid {
         return None;
@@ -231,7 +239,7 @@ pub fn fork_link(procs: &Procs, acting: &Acting, child: u32) -> Option<Link>
             }
             last.life
         }
-        Some(last) => last.life + 1,
+        Some(last) => last.life.saturating_add(1),
     };
     Some(Link {
         from: Key::Process {

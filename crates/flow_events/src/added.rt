@@ -1,5 +1,5 @@
 //! The objects and flows that an event adds.
-ghost use Rattle.std.specs.Prelude.{◌≡◌, ◌≤◌, ◌<◌, ◌+◌, ◌++◌, ◌∷◌, [], List, Some, Err, length, OnOk, IfOk, reverse};
+ghost use Rattle.std.specs.Prelude.{◌≡◌, ◌≤◌, ◌<◌, ◌+◌, ◌++◌, ◌∷◌, ◌≢◌, ℕ, [], List, Some, Err, length, OnOk, IfOk, reverse};
 ghost use Rattle.flow_base.specs.declared.types.Key.{Key};
 ghost use Rattle.flow_base.specs.declared.limits.Full.{Full};
 ghost use Rattle.flow_base.specs.contracts.types.KeyPartialEq.TheImpl.{ghosts};
@@ -7,7 +7,7 @@ ghost use Rattle.acts.specs.Keys.{put_new};
 ghost use Rattle.acts.specs.Flows.{number_in, with_ends};
 ghost use Rattle.entity_names.specs.Known.{full_at};
 ghost use Rattle.flow_events.specs.declared.fault.PrepareFault.TheVariants as fault;
-ghost use Rattle.flow_events.specs.Added.{AreNew, flow_of};
+ghost use Rattle.flow_events.specs.Added.{AreNew, AreNumbered, flow_of};
 
 use crate::fault::PrepareFault;
 use crate::parts::newest_keys;
@@ -92,9 +92,12 @@ impl Added {
     ) -> Result<(), PrepareFault>
         requires limit { most ≡ entities.now.limit }
         requires fits { length (entities.now.keys ++ self.old.keys) ≤ most }
+        requires ends { link.from ≢ link.to }
         ensures keys { OnOk result (entities.now.keys ++ self.new.keys ≡ with_ends (entities.now.keys ++ self.old.keys) (Some link)) }
         ensures new { OnOk result (AreNew entities.now.keys self.old.keys → AreNew entities.now.keys self.new.keys) }
         ensures flows { OnOk result (self.new.flows ≡ self.old.flows ++ flow_of (entities.now.keys ++ self.new.keys) at.ms serial at.place link ∷ []) }
+        ensures numbered { OnOk result ((place : ℕ) → at.place ≡ place + length self.old.flows
+            → AreNumbered entities.now.keys at.ms place self.old → AreNumbered entities.now.keys at.ms place self.new) }
         ensures full { (full : Full) → result ≡ Err (fault.Full full) → (full ≡ full_at most) × (most < length (with_ends (entities.now.keys ++ self.old.keys) (Some link))) }
         ensures fits { OnOk result (length (entities.now.keys ++ self.new.keys) ≤ most) }
     {

@@ -1,4 +1,6 @@
 //! How often each file number was born.
+//!
+//! Acts leave no count at the end of its numbers, but a store might say one. A count stays there then.
 ghost use Rattle.std.specs.Prelude.{◌≡◌, ◌≤◌, ◌<◌, ◌+◌, ◌-◌, ◌^◌, ◌∷◌, [], List, OnOk, if◌then◌else◌};
 ghost use Rattle.flow_base.specs.declared.types.FileId.{FileId};
 ghost use Rattle.acts.specs.declared.act.Act.{Act};
@@ -59,12 +61,11 @@ impl Births {
     /// A file with this number was born. It takes no memory.
     fn add(&mut self, id: FileId)
         requires room { 1 ≤ self.old.spare }
-        requires fits { born_at self.old id < 2 ^ 64 - 1 }
-        ensures added { (f : FileId) → born_at self.new f ≡ (if same_file id f then born_at self.old f + 1 else born_at self.old f) }
+        ensures added { born_at self.old id < 2 ^ 64 - 1 → (f : FileId) → born_at self.new f ≡ (if same_file id f then born_at self.old f + 1 else born_at self.old f) }
         ensures spare { self.old.spare ≤ self.new.spare + 1 }
     {
         equal_files_are_one();
-        let count = self.count(id) + 1;
+        let count = self.count(id).saturating_add(1);
         match self.counts.insert(id, count) {
             Ok(_) => {}
             Err(_) => unreachable!(),
@@ -86,8 +87,7 @@ impl Births {
     /// What an act does to births. It takes no memory.
     pub fn act(&mut self, act: &Act)
         requires room { 1 ≤ self.old.spare }
-        requires few { BornBelow self.old (2 ^ 64 - 1) }
-        ensures next { (acts : List Act) → BornAs self.old acts → BornAs self.new (act.now ∷ acts) }
+        ensures next { BornBelow self.old (2 ^ 64 - 1) → (acts : List Act) → BornAs self.old acts → BornAs self.new (act.now ∷ acts) }
         ensures spare { self.old.spare ≤ self.new.spare + 1 }
     {
         if let Act::Birth { file } = act {
@@ -123,8 +123,7 @@ pub fn births_in(acts: &[Act]) -> usize
 /// What an act does to births, with room where it is one. It takes no memory.
 pub fn bear(births: &mut Births, act: &Act)
     requires room { births_of act.now ≤ births.old.spare }
-    requires few { BornBelow births.old (2 ^ 64 - 1) }
-    ensures next { (acts : List Act) → BornAs births.old acts → BornAs births.new (act.now ∷ acts) }
+    ensures next { BornBelow births.old (2 ^ 64 - 1) → (acts : List Act) → BornAs births.old acts → BornAs births.new (act.now ∷ acts) }
     ensures spare { births.old.spare ≤ births.new.spare + births_of act.now }
 {
     if let Act::Birth { .. } = act {

@@ -85,7 +85,6 @@ pub fn opened(
     number: u64,
     what: &Opens,
 ) -> Result<Object, NoMemory>
-    requires few { (before now : List Act) × IsBorn births.now fresh.now before now }
     ensures { (before now : List Act) → IsBorn births.now fresh.now before now → number ≡ length (now ++ before) → IfOk result (λ object. object ≡ opened (now ++ before) what.now) }
 {
     match what {
@@ -237,7 +236,6 @@ pub fn file_name(
     fresh: &Births,
     file: &FileRef,
 ) -> Result<Option<Given>, NoMemory>
-    requires few { (before now : List Act) × IsBorn births.now fresh.now before now }
     ensures { (before now : List Act) → IsBorn births.now fresh.now before now → IfOk result (λ given. pair_if given ≡ name_if (file_key (now ++ before) file.now) file.now.path) }
 {
     match &file.path {
@@ -256,7 +254,6 @@ pub fn birth_name(
     fresh: &Births,
     file: &FileRef,
 ) -> Result<Option<Given>, NoMemory>
-    requires few { (before now : List Act) × IsBorn births.now fresh.now before now }
     ensures { (before now : List Act) → IsBorn births.now fresh.now before now → IfOk result (λ given. pair_if given ≡ name_if (file_key (act.Birth file.now ∷ (now ++ before)) file.now) file.now.path) }
 {
     match &file.path {

@@ -18,7 +18,9 @@ mod naming;
 mod parts;
 mod passes;
 mod plan;
+mod rows;
 mod since;
+mod slots;
 mod steps;
 mod tables;
 mod work;
@@ -30,6 +32,7 @@ pub use fault::PrepareFault;
 pub use given::Given;
 pub use laws::{a_see_starts_the_process, calm_acts_leave_the_process};
 pub use plan::{NewAddress, Plan};
+pub use rows::TableRows;
 pub use tables::Tables;
 
 #[cfg(test)]

@@ -20,8 +20,7 @@ use proc_table::Procs;
 /// What these acts, the oldest first, do to lives.
 pub fn live_through(procs: &mut Procs, acts: &[Act])
     requires room { length acts.now ≤ procs.old.spare }
-    requires few { (before : List Act) × (StandsFor procs.old before × (length before + length acts.now < 2 ^ 64 - 1)) }
-    ensures next { (before : List Act) → StandsFor procs.old before → StandsFor procs.new (reverse acts.now ++ before) }
+    ensures next { (before : List Act) → length before + length acts.now < 2 ^ 64 - 1 → StandsFor procs.old before → StandsFor procs.new (reverse acts.now ++ before) }
 {
     each_beginning_is_an_act();
     for act in acts {
@@ -32,8 +31,7 @@ pub fn live_through(procs: &mut Procs, acts: &[Act])
 /// What these acts, the oldest first, do to births.
 pub fn bear_through(births: &mut Births, acts: &[Act])
     requires room { length acts.now ≤ births.old.spare }
-    requires few { (before : List Act) × (BornAs births.old before × (length before + length acts.now < 2 ^ 64 - 1)) }
-    ensures next { (before : List Act) → BornAs births.old before → BornAs births.new (reverse acts.now ++ before) }
+    ensures next { (before : List Act) → length before + length acts.now < 2 ^ 64 - 1 → BornAs births.old before → BornAs births.new (reverse acts.now ++ before) }
 {
     for act in acts {
         births.act(act);

@@ -6,13 +6,15 @@ ghost use Rattle.std.specs.Prelude.{◌≡◌, ◌≤◌, ◌+◌, ◌==◌, ◌
 ghost use Rattle.flow_base.specs.declared.types.FileId.{FileId};
 ghost use Rattle.acts.specs.declared.act.Act.{Act};
 ghost use Rattle.acts.specs.Births.{has_number, is_birth_of};
+ghost use Rattle.acts.specs.Flows.{objects};
 ghost use Rattle.proc_table.specs.Table.{StandsFor as LivesAs};
 ghost use Rattle.fd_table.specs.Table.{address_at};
 ghost use Rattle.stored.specs.Batch.{names_pid};
-ghost use Rattle.flow_events.specs.Since.{ArePids, AreFiles, DiffersInFiles, DiffersInNamed, DiffersInPids, DiffersInSockets, HasRoom, HasRoomFor, IsMarked, IsSameMemory, IsSince, NotesPid, NotesFile, NotesSocket, RemembersTheSame, changes_address, is_address};
+ghost use Rattle.flow_events.specs.Since.{AddsHeld, ArePids, AreFiles, DiffersInFiles, DiffersInNamed, DiffersInPids, DiffersInSlots, DiffersInSockets, HasRoom, HasRoomFor, HasThose, HasTouched, IsMarked, IsSameMemory, IsSince, NotesPid, NotesFile, NotesSocket, RemembersTheSame, any_touches, changes_address, is_address};
 ghost use Rattle.flow_events.specs.Remembering.{NotesEvent};
 
 use crate::plan::NewAddress;
+use crate::slots::Slots;
 use acts::Act;
 use fd_table::Fds;
 use flow_base::{Bytes, FileId, NoMemory, equal_files_are_one};
@@ -24,12 +26,16 @@ use std::marker::Model;
 /// What is remembered of the acts since a mark.
 #[derive(Drop)]
 pub struct Since {
+    /// How many objects there were at the mark.
+    known: u32,
     /// Each pid that was named, with its last life at the mark.
     pids: IndexMap<u32, Option<Life>>,
     /// The file numbers that were born.
     files: IndexSet<FileId>,
     /// The sockets that got another address.
     sockets: IndexSet<u64>,
+    /// The descriptors that were touched.
+    slots: Slots,
 }
 
 impl Model for Since {
@@ -40,9 +46,11 @@ impl Model for Since {
     ghost Value = { Memory };
 
     ghost view = { λ a. record {
+      known = a.known;
       pids = a.pids.entries;
       files = a.files.keys;
       sockets = a.sockets.keys;
+      slots = a.slots;
       pid_spare = map.spare a.pids;
       file_spare = set.spare a.files;
       socket_spare = set.spare a.sockets;
@@ -50,24 +58,65 @@ impl Model for Since {
 }
 
 impl Since {
-    /// Nothing is remembered: the mark is now.
-    pub fn new(alloc: Global) -> Since
-        ensures { (before : List Act) → IsSince result before [] }
+    /// Nothing is remembered: the mark is now, with this many objects.
+    pub fn new(alloc: Global, known: u32) -> Since
+        ensures { (before : List Act) → known ≡ length (objects before)
+            → IsSince result before [] }
     {
         Since {
+            known,
             pids: IndexMap::new(alloc),
             files: IndexSet::new(alloc),
             sockets: IndexSet::new(alloc),
+            slots: Slots::new(alloc),
         }
     }
 
-    /// Nothing is remembered any more: the mark is now. It takes no memory.
-    pub fn mark(&mut self)
-        ensures { (before : List Act) → IsSince self.new before [] }
+    /// Nothing is remembered any more: the mark is now, with this many objects. It takes no memory.
+    pub fn mark(&mut self, known: u32)
+        ensures { (before : List Act) → known ≡ length (objects before)
+            → IsSince self.new before [] }
     {
+        self.known = known;
         self.pids.clear();
         self.files.clear();
         self.sockets.clear();
+        self.slots.clear();
+    }
+
+    /// How many objects there were at the mark.
+    pub fn known(&self) -> u32
+        ensures { result ≡ self.now.known }
+    {
+        self.known
+    }
+
+    /// Each pid that was named, with its last life at the mark.
+    pub fn pids(&self) -> &IndexMap<u32, Option<Life>>
+        ensures { result.now.entries ≡ self.now.pids }
+    {
+        &self.pids
+    }
+
+    /// The file numbers that were born.
+    pub fn files(&self) -> &[FileId]
+        ensures { result.now ≡ self.now.files }
+    {
+        self.files.as_slice()
+    }
+
+    /// The sockets that got another address.
+    pub fn sockets(&self) -> &[u64]
+        ensures { result.now ≡ self.now.sockets }
+    {
+        self.sockets.as_slice()
+    }
+
+    /// The descriptors that were touched.
+    pub fn slots(&self) -> &[(u32, u32)]
+        ensures { result.now ≡ self.now.slots }
+    {
+        self.slots.as_slice()
     }
 
     /// Makes room for this many acts, and for one address.
@@ -83,6 +132,15 @@ impl Since {
         self.files.reserve(acts)?;
         self.sockets.reserve(1)?;
         Ok(())
+    }
+
+    /// Notes the descriptors that these acts touch. They hold what they do before the acts.
+    pub fn note_slots(&mut self, fds: &Fds, acts: &[Act]) -> Result<(), NoMemory>
+        ensures adds { AddsHeld fds.now self.old.slots self.new.slots }
+        ensures noted { OnOk result (HasThose fds.now self.new.slots (any_touches acts.now)) }
+        ensures rest { DiffersInSlots self.old self.new }
+    {
+        self.slots.note_acts(fds, acts)
     }
 
     // Remembers a pid as it stands, unless it is remembered already.
@@ -227,6 +285,7 @@ pub fn note_event(
     address: &Option<NewAddress>,
 )
     requires room { HasRoomFor since.old (length acts.now) }
+    requires touched { HasTouched since.old fds.now acts.now }
     ensures { NotesEvent since.old since.new procs.now fds.now acts.now address.now }
 {
     if let Some(since) = since {
@@ -235,24 +294,29 @@ pub fn note_event(
     }
 }
 
-#[tactic(auto, using(crate::proofs::SinceLaws::since_still))]
-/// Makes room for this many acts, and for one address, if anything is remembered.
-pub fn reserve_event(since: &mut Option<Since>, acts: usize) -> Result<(), NoMemory>
-    ensures same { RemembersTheSame since.old since.new }
-    ensures room { OnOk result (HasRoomFor since.new acts) }
+#[tactic(auto, using(crate::proofs::SlotLaws::slots_noted))]
+/// Makes room for these acts, and for one address, and notes the descriptors that they touch, if anything is remembered.
+/// Descriptors hold what they do before the acts.
+pub fn reserve_event(since: &mut Option<Since>, fds: &Fds, acts: &[Act]) -> Result<(), NoMemory>
+    ensures same { RemembersTheSame fds.now since.old since.new }
+    ensures room { OnOk result (HasRoomFor since.new (length acts.now)) }
+    ensures touched { OnOk result (HasTouched since.new fds.now acts.now) }
 {
     match since {
-        Some(since) => since.reserve(acts),
+        Some(since) => {
+            since.note_slots(fds, acts)?;
+            since.reserve(acts.len())
+        }
         None => Ok(()),
     }
 }
 
-/// Makes the mark now, if anything is remembered. It takes no memory.
-pub fn mark_event(since: &mut Option<Since>)
-    ensures { IsMarked since.old since.new }
+/// Makes the mark now, with this many objects, if anything is remembered. It takes no memory.
+pub fn mark_event(since: &mut Option<Since>, known: u32)
+    ensures { IsMarked known since.old since.new }
 {
     if let Some(since) = since {
-        since.mark();
+        since.mark(known);
     }
 }
 

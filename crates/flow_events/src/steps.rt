@@ -9,6 +9,7 @@ ghost use Rattle.proc_table.specs.Table.{Table};
 ghost use Rattle.flow_events.specs.Lives.{LivesBelow};
 ghost use Rattle.call_acts.specs.Events.{IsOf};
 ghost use Rattle.flow_events.specs.Acting.{IsActing, IsBorn, IsNoSee, DoesAs, pair_if};
+ghost use Rattle.flow_events.specs.Added.{HasTwoEnds};
 ghost use Rattle.flow_events.specs.Standing.{readdressed};
 
 use crate::acting::{Acting, between, fork_link, thing_key};
@@ -36,10 +37,9 @@ pub fn link_of(
     acting: &Acting,
     act: &Act,
 ) -> Result<Option<Link>, NoMemory>
-    requires few { (before now : List Act) × IsBorn births.now fresh.now before now }
-    requires lives { LivesBelow procs.now (2 ^ 64 - 1) }
     requires of { IsOf acting.now.pid act.now }
-    ensures { (before now : List Act) → IsBorn births.now fresh.now before now → IsActing procs.now fds.now acting.now (now ++ before) → IfOk result (λ link. link ≡ link_of (now ++ before) act.now) }
+    ensures link { LivesBelow procs.now (2 ^ 64 - 1) → (before now : List Act) → IsBorn births.now fresh.now before now → IsActing procs.now fds.now acting.now (now ++ before) → IfOk result (λ link. link ≡ link_of (now ++ before) act.now) }
+    ensures ends { IfOk result HasTwoEnds }
 {
     match act {
         Act::See { .. } => unreachable!(),
@@ -51,7 +51,7 @@ pub fn link_of(
             ..
         } => {
             let thing = thing_key(alloc, fds, births, fresh, acting, what)?;
-            Ok(Some(between(*inward, thing, acting, *how)))
+            Ok(between(*inward, thing, acting, *how))
         }
         _ => Ok(None),
     }
@@ -64,7 +64,6 @@ pub fn name_of(
     fresh: &Births,
     act: &Act,
 ) -> Result<Option<Given>, NoMemory>
-    requires few { (before now : List Act) × IsBorn births.now fresh.now before now }
     requires kind { IsNoSee act.now }
     ensures { (before now : List Act) → IsBorn births.now fresh.now before now → IfOk result (λ name. pair_if name ≡ given text_of (now ++ before) act.now) }
 {
@@ -106,7 +105,6 @@ pub fn change_of(
     act: &Act,
     number: u64,
 ) -> Result<Change, NoMemory>
-    requires few { (before now : List Act) × IsBorn births.now fresh.now before now }
     requires of { IsOf acting.now.pid act.now }
     ensures { (before now : List Act) → IsBorn births.now fresh.now before now → IsActing procs.now fds.now acting.now (now ++ before) → number ≡ length (now ++ before) → IfOk result (λ change. DoesAs change (now ++ before) act.now) }
 {

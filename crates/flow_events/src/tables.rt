@@ -1,5 +1,5 @@
 //! The tables of all that acts are about.
-ghost use Rattle.std.specs.Prelude.{◌≡◌, ◌++◌, ℕ, [], List, Err, None, Some, OnOk, length};
+ghost use Rattle.std.specs.Prelude.{◌≡◌, ◌++◌, ◌^◌, ℕ, [], List, Err, None, Some, OnOk, IfSome, length};
 ghost use Rattle.flow_base.specs.declared.limits.Full.{Full};
 ghost use Rattle.flow_base.specs.declared.limits.Limits.{Limits};
 ghost use Rattle.acts.specs.declared.act.Taken.{Taken};
@@ -14,12 +14,14 @@ ghost use Rattle.name_text.specs.Addresses.{text_of};
 ghost use Rattle.flow_events.specs.Added.{IsPast};
 ghost use Rattle.flow_events.specs.Drafts.{turned};
 ghost use Rattle.flow_events.specs.Entering.{entered};
-ghost use Rattle.flow_events.specs.Following.{MayFollow, MayComeAfter, PlansEvent, EventFits, EventPasses};
+ghost use Rattle.flow_events.specs.Following.{HasNumbersFor, MayFollow, PlansEvent, EventFits, EventPasses};
 ghost use Rattle.call_acts.specs.Events.{IsEvent};
 ghost use Rattle.store_check.specs.Store.{keys};
 ghost use Rattle.flow_events.specs.Filling.{AreRestored};
 ghost use Rattle.flow_events.specs.Remembering.{BeginsAnew, BeginsToRemember, GoesOnSince, StaysSince};
-ghost use Rattle.flow_events.specs.Standing.{StandsFor, Stands, HasLimits, IsPlanOf, IsReady, HasRooms, DiffersInRoom};
+ghost use Rattle.flow_events.specs.Rows.{AreRowsSince};
+ghost use Rattle.flow_events.specs.Standing.{AreSafe, StandsFor, HasGrown, HasLimits, IsPlanOf, IsReady, HasRooms, DiffersInRoom, PlanFlows};
+ghost use Rattle.stored.specs.Words.{state_of};
 
 use crate::births::Births;
 use crate::change::{make_change, need};
@@ -29,6 +31,7 @@ use crate::filled::{Filled, fill_all};
 use crate::parts::named_keys;
 use crate::passes::{bear_through, enter_all, give_all, live_through};
 use crate::plan::{Plan, plan_of, readdress};
+use crate::rows::{TableRows, since_rows};
 use crate::since::{Since, mark_event, note_event, reserve_event};
 use crate::work::work_event;
 use acts::{Act, each_beginning_is_an_act};
@@ -71,6 +74,7 @@ impl Tables {
     /// No acts.
     pub fn new(alloc: Global, limits: &Limits) -> Tables
         ensures stands { (text : List ℕ → List ℕ) → StandsFor text result [] }
+        ensures safe { AreSafe result }
         ensures limits { HasLimits limits.now result }
     {
         Tables {
@@ -89,6 +93,7 @@ impl Tables {
     pub fn restore(alloc: Global, limits: &Limits, rows: &[StoreRow]) -> Result<Tables, NoMemory>
         requires fits { length (keys rows.now) ≤ limits.now.entities }
         ensures stands { IfOk result (AreRestored limits.now rows.now) }
+        ensures safe { IfSome (state_of rows.now) (λ s. s.flows ≤ 2 ^ 60) → IfOk result AreSafe }
         ensures limits { IfOk result (HasLimits limits.now) }
     {
         let Filled {
@@ -114,19 +119,38 @@ impl Tables {
     /// From now on it is remembered what acts are about, and the mark is now. Till then nothing is, and it costs nothing.
     pub fn remember(&mut self, alloc: Global)
         ensures since { BeginsToRemember self.old self.new }
+        ensures safe { AreSafe self.old → AreSafe self.new }
         ensures limits { (limits : Limits) → HasLimits limits self.old → HasLimits limits self.new }
     {
         self.entities.mark_saved();
-        self.since = Some(Since::new(alloc));
+        self.since = Some(Since::new(alloc, self.entities.count()));
     }
 
     /// All of it is saved: the mark is now. It takes no memory.
     pub fn mark_saved(&mut self)
         ensures since { BeginsAnew self.old self.new }
+        ensures safe { AreSafe self.old → AreSafe self.new }
         ensures limits { (limits : Limits) → HasLimits limits self.old → HasLimits limits self.new }
     {
         self.entities.mark_saved();
-        mark_event(&mut self.since);
+        mark_event(&mut self.since, self.entities.count());
+    }
+
+    /// The rows that say what changed since the mark, and none if nothing is remembered.
+    pub fn rows(&self, alloc: Global) -> Result<TableRows, NoMemory>
+        ensures { IfOk result (AreRowsSince self.now) }
+    {
+        match &self.since {
+            Some(since) => since_rows(
+                alloc,
+                since,
+                &self.procs,
+                &self.fds,
+                &self.births,
+                &self.entities,
+            ),
+            None => Ok(TableRows::none(alloc)),
+        }
     }
 
     /// The objects by number, and the names of keys.
@@ -154,11 +178,17 @@ impl Tables {
 
     /// Works out what an event will do, and takes all the memory for it. The tables stand for the same acts as before.
     pub fn prepare(&mut self, alloc: Global, event: &EventView<'_>) -> Result<Plan, PrepareFault>
-        requires stands { (limits : Limits) × (before : List Taken) × MayComeAfter self.old event.now limits before }
+        requires safe { AreSafe self.old }
+        requires few { HasNumbersFor self.old
+            (length (event_acts self.old.limits.path event.now.records.now)) }
         ensures plan { IfOk result (PlansEvent self.old event.now) }
+        ensures acts { IfOk result (λ plan. plan.acts ≡ event_acts self.old.limits.path event.now.records.now) }
+        ensures flows { IfOk result (PlanFlows self.old event.now.ms) }
         ensures unmapped { IfOk result (λ plan. plan.unmapped ≡ is_unmapped event.now.records.now) }
         ensures ready { IfOk result (λ plan. IsReady self.new plan) }
         ensures same { (text : List ℕ → List ℕ) (taken : List Taken) → StandsFor text self.old taken → StandsFor text self.new taken }
+        ensures safe { AreSafe self.new }
+        ensures room { DiffersInRoom self.old self.new }
         ensures since { StaysSince self.old self.new }
         ensures limits { (limits : Limits) → HasLimits limits self.old → HasLimits limits self.new }
         ensures fits { OnOk result (EventFits self.old event.now) }
@@ -182,11 +212,16 @@ impl Tables {
         unmapped: bool,
     ) -> Result<Plan, PrepareFault>
         requires event { IsEvent acts }
-        requires stands { (before : List Taken) × MayFollow self.old before (length acts) }
+        requires safe { AreSafe self.old }
+        requires few { HasNumbersFor self.old (length acts) }
         ensures plan { IfOk result (λ plan. (before : List Taken) → MayFollow self.old before (length acts) → IsPlanOf text_of plan before (turned ms serial acts)) }
+        ensures acts { IfOk result (λ plan. plan.acts ≡ acts) }
+        ensures flows { IfOk result (PlanFlows self.old ms) }
         ensures unmapped { IfOk result (λ plan. plan.unmapped ≡ unmapped) }
         ensures ready { IfOk result (λ plan. IsReady self.new plan) }
         ensures same { (text : List ℕ → List ℕ) (taken : List Taken) → StandsFor text self.old taken → StandsFor text self.new taken }
+        ensures safe { AreSafe self.new }
+        ensures room { DiffersInRoom self.old self.new }
         ensures since { StaysSince self.old self.new }
         ensures limits { (limits : Limits) → HasLimits limits self.old → HasLimits limits self.new }
         ensures fits { IfOk result (λ plan. (limits : Limits) → HasLimits limits self.old → (before : List Taken) → MayFollow self.old before (length acts) → full_at limits.entities limits.flows (turned ms serial acts ++ before) ≡ None) }
@@ -213,12 +248,14 @@ impl Tables {
         unmapped: bool,
     ) -> Result<Plan, PrepareFault>
         requires event { IsEvent acts }
-        requires stands { (before : List Taken) × MayFollow self.now before (length acts) }
+        requires safe { AreSafe self.now }
+        requires few { HasNumbersFor self.now (length acts) }
         ensures plan { IfOk result (λ plan. (before : List Taken) → MayFollow self.now before (length acts) → IsPlanOf text_of plan before (turned ms serial acts)) }
         ensures acts { IfOk result (λ plan. plan.acts ≡ acts) }
         ensures unmapped { IfOk result (λ plan. plan.unmapped ≡ unmapped) }
         ensures fits { IfOk result (λ plan. length (entered self.now.entities.keys plan.keys) ≤ self.now.entities.limit) }
-        ensures flows { IfOk result (λ plan. length plan.flows ≤ length acts) }
+        ensures flows { IfOk result (PlanFlows self.now ms) }
+        ensures more { IfOk result (λ plan. length plan.flows ≤ length acts) }
         ensures full { (full : Full) → result ≡ Err (fault.Full full) → (before : List Taken) → MayFollow self.now before (length acts) → IsPast self.now.limits.entities full (objects (acts_of (turned ms serial acts ++ before))) }
     {
         each_beginning_is_an_act();
@@ -241,13 +278,14 @@ impl Tables {
     pub fn make_room(&mut self, alloc: Global, plan: &Plan) -> Result<(), NoMemory>
         ensures rooms { OnOk result (HasRooms self.new plan.now) }
         ensures same { DiffersInRoom self.old self.new }
+        ensures safe { AreSafe self.old → AreSafe self.new }
     {
         let acts = plan.acts.as_slice().len();
         let named = named_keys(alloc, plan.given.as_slice())?;
         self.procs.reserve(acts)?;
         self.births.reserve(acts)?;
         self.fds.reserve(need(&plan.see) + need(&plan.last), 1)?;
-        reserve_event(&mut self.since, acts)?;
+        reserve_event(&mut self.since, &self.fds, plan.acts.as_slice())?;
         self.entities
             .reserve(plan.keys.as_slice().len(), named.as_slice())?;
         Ok(())
@@ -256,11 +294,14 @@ impl Tables {
     /// Does what was planned, and gives its flows. It takes no memory.
     pub fn apply(&mut self, plan: Plan) -> List<Flow>
         requires ready { IsReady self.old plan }
-        requires stands { Stands self.old }
+        requires safe { AreSafe self.old }
         ensures next { (text : List ℕ → List ℕ) (before now : List Taken) → StandsFor text self.old before → IsPlanOf text plan before now → StandsFor text self.new (now ++ before) }
         ensures flows { (text : List ℕ → List ℕ) (before now : List Taken) → IsPlanOf text plan before now → flows (now ++ before) ≡ flows before ++ result }
         ensures limits { (limits : Limits) → HasLimits limits self.old → HasLimits limits self.new }
         ensures since { GoesOnSince self.old self.new plan }
+        ensures safe { AreSafe self.new }
+        ensures grown { HasGrown self.old self.new plan }
+        ensures same { result ≡ plan.flows }
     {
         let Plan {
             acts,

@@ -10,8 +10,7 @@ ghost use Rattle.flow_events.specs.declared.fault.PrepareFault.TheVariants as fa
 ghost use Rattle.flow_events.specs.Acting.{DoesAs};
 ghost use Rattle.flow_events.specs.Added.{AreNew, IsPast};
 ghost use Rattle.flow_events.specs.Births.{births_in, births_of};
-ghost use Rattle.flow_events.specs.Drafts.{UnderWay, turned};
-ghost use Rattle.flow_events.specs.Lives.{LivesBelow};
+ghost use Rattle.flow_events.specs.Drafts.{IsNumbered, UnderWay, turned};
 ghost use Rattle.flow_events.specs.Working.{Grounded, IsBegun, IsFew, IsRefused, IsWorked, see_at, taken_at};
 
 use crate::acting::{Acting, see_acting};
@@ -50,8 +49,6 @@ pub fn begin(
     exe: &Option<Bytes>,
     more: usize,
 ) -> Result<Begun, PrepareFault>
-    requires grounded { (before : List Taken) × Grounded ground.now before }
-    requires lives { LivesBelow ground.now.procs.now (2 ^ 64 - 1) }
     requires limit { ground.now.most ≡ ground.now.entities.now.limit }
     requires fits { length ground.now.entities.now.keys ≤ ground.now.most }
     requires flows { ground.now.flows < 2 ^ 64 }
@@ -60,6 +57,7 @@ pub fn begin(
     ensures pid { IfOk result (λ begun. begun.acting.pid ≡ pid) }
     ensures room { IfOk result (λ begun. more ≤ begun.draft.births.spare) }
     ensures new { IfOk result (λ begun. AreNew ground.now.entities.now.keys begun.draft.added.keys) }
+    ensures numbered { IfOk result (λ begun. IsNumbered ground.now begun.draft) }
     ensures fits { IfOk result (λ begun. length (ground.now.entities.now.keys ++ begun.draft.added.keys) ≤ ground.now.most) }
     ensures flows { IfOk result (λ begun. length begun.draft.added.flows ≤ 1) }
     ensures full { (full : Full) → result ≡ Err (fault.Full full) → (before : List Taken) → Grounded ground.now before → IsPast ground.now.most full (objects (act.See pid ppid exe.now ∷ acts_of before)) }
@@ -79,8 +77,7 @@ pub fn go_on(
     front: &[Act],
     last: &Act,
 ) -> Result<Worked, PrepareFault>
-    requires few { (before : List Taken) × (first : Taken) × IsBegun ground.now begun before first acts (length front.now) }
-    requires lives { LivesBelow ground.now.procs.now (2 ^ 64 - 1) }
+    requires few { acts + (length front.now + 2) < 2 ^ 64 }
     requires limit { ground.now.most ≡ ground.now.entities.now.limit }
     requires fits { length (ground.now.entities.now.keys ++ begun.draft.added.keys) ≤ ground.now.most }
     requires calm { All (IsCalmOf begun.acting.pid) front.now }
@@ -89,7 +86,11 @@ pub fn go_on(
     requires flows { ground.now.flows + (length begun.draft.added.flows + (length front.now + 1)) < 2 ^ 64 }
     ensures worked { IfOk result (λ worked. (before : List Taken) (first : Taken) → Grounded ground.now before → IsBegun ground.now begun before first acts (length front.now) → DoesAs begun.see (acts_of before) first.act → IsWorked ground.now worked before (taken_at ground.now last.now ∷ (turned ground.now.ms ground.now.serial front.now ++ first ∷ []))) }
     ensures new { IfOk result (λ worked. AreNew ground.now.entities.now.keys begun.draft.added.keys → AreNew ground.now.entities.now.keys worked.draft.added.keys) }
+    ensures numbered { IfOk result
+        (λ worked. IsNumbered ground.now begun.draft → IsNumbered ground.now worked.draft) }
     ensures fits { IfOk result (λ worked. length (ground.now.entities.now.keys ++ worked.draft.added.keys) ≤ ground.now.most) }
+    ensures more { IfOk result
+        (λ worked. length worked.draft.added.flows ≤ length begun.draft.added.flows + (length front.now + 1)) }
     ensures full { IfErr result (λ why. (full : Full) → why ≡ fault.Full full → (before : List Taken) (first : Taken) → IsBegun ground.now begun before first acts (length front.now) → IsPast ground.now.most full (objects (last.now ∷ (acts_of (turned ground.now.ms ground.now.serial front.now ++ first ∷ []) ++ acts_of before)))) }
 {
     let Begun {
@@ -128,15 +129,16 @@ pub fn work_out(
     exe: &Option<Bytes>,
     rest: &[Act],
 ) -> Result<Worked, PrepareFault>
-    requires few { (before : List Taken) × IsFew ground.now before acts (length rest.now) }
-    requires lives { LivesBelow ground.now.procs.now (2 ^ 64 - 1) }
+    requires few { acts + (length rest.now + 2) < 2 ^ 64 }
     requires limit { ground.now.most ≡ ground.now.entities.now.limit }
     requires fits { length ground.now.entities.now.keys ≤ ground.now.most }
     requires rest { AreRest pid rest.now }
     requires flows { ground.now.flows + (length rest.now + 1) < 2 ^ 64 }
     ensures worked { IfOk result (λ worked. (before : List Taken) → Grounded ground.now before → IsFew ground.now before acts (length rest.now) → IsWorked ground.now worked before (turned ground.now.ms ground.now.serial rest.now ++ see_at ground.now.ms ground.now.serial pid ppid exe.now ∷ [])) }
     ensures new { IfOk result (λ worked. AreNew ground.now.entities.now.keys worked.draft.added.keys) }
+    ensures numbered { IfOk result (λ worked. IsNumbered ground.now worked.draft) }
     ensures fits { IfOk result (λ worked. length (ground.now.entities.now.keys ++ worked.draft.added.keys) ≤ ground.now.most) }
+    ensures more { IfOk result (λ worked. length worked.draft.added.flows ≤ length rest.now + 1) }
     ensures full { IfErr result (λ why. (full : Full) → why ≡ fault.Full full → (before : List Taken) → IsFew ground.now before acts (length rest.now) → IsRefused ground.now full before (turned ground.now.ms ground.now.serial rest.now ++ see_at ground.now.ms ground.now.serial pid ppid exe.now ∷ [])) }
 {
     let begun = begin(ground, pid, ppid, exe, births_in(rest))?;
@@ -153,15 +155,16 @@ pub fn work_out(
 
 /// Works out an event by its acts, the oldest first, where so many acts came before it.
 pub fn work_event(ground: &Ground<'_>, number: u64, acts: &[Act]) -> Result<Worked, PrepareFault>
-    requires few { (before : List Taken) × IsFew ground.now before number (length acts.now) }
-    requires lives { LivesBelow ground.now.procs.now (2 ^ 64 - 1) }
+    requires few { number + (length acts.now + 2) < 2 ^ 64 }
     requires limit { ground.now.most ≡ ground.now.entities.now.limit }
     requires fits { length ground.now.entities.now.keys ≤ ground.now.most }
     requires event { IsEvent acts.now }
     requires flows { ground.now.flows + (length acts.now + 1) < 2 ^ 64 }
     ensures worked { IfOk result (λ worked. (before : List Taken) → IsFew ground.now before number (length acts.now) → IsWorked ground.now worked before (turned ground.now.ms ground.now.serial acts.now)) }
     ensures new { IfOk result (λ worked. AreNew ground.now.entities.now.keys worked.draft.added.keys) }
+    ensures numbered { IfOk result (λ worked. IsNumbered ground.now worked.draft) }
     ensures fits { IfOk result (λ worked. length (ground.now.entities.now.keys ++ worked.draft.added.keys) ≤ ground.now.most) }
+    ensures more { IfOk result (λ worked. length worked.draft.added.flows ≤ length acts.now) }
     ensures full { IfErr result (λ why. (full : Full) → why ≡ fault.Full full → (before : List Taken) → IsFew ground.now before number (length acts.now) → IsRefused ground.now full before (turned ground.now.ms ground.now.serial acts.now)) }
 {
     match acts {

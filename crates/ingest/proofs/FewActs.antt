@@ -1,5 +1,5 @@
 -- Acts are few: an event takes its records along.
-use Rattle.std.proofs.Common.{◌≡◌, ◌≤◌, ◌+◌, ◌*◌, ◌^◌, ◌++◌, ◌∙◌, sym, ap, subst, ℕ, List, length, map, arith, length-append, Option, Some}
+use Rattle.std.proofs.Common.{◌≡◌, ◌≤◌, ◌<◌, ◌+◌, ◌-◌, ◌*◌, ◌^◌, ◌++◌, ◌∙◌, sym, ap, subst, ℕ, List, length, map, arith, length-append, Option, Some}
 use Rattle.std.proofs.lemmas.List.{length-map, length-reverse}
 use Rattle.std.specs.Option.{option_to_list}
 use Rattle.std.specs.Prelude.{Result, Ok, Err, OnOk, OnErr}
@@ -25,7 +25,8 @@ event_records limits s event is =
     omega (arith, own, hold_at limits s (ripe_key limits s))
 
 -- there is room for the acts of an event
-pub acts_room : {K : Type 0} (joined : Joined K) (records : ℕ) (f : IsFew records joined) → records ≤ 2 ^ 60 → (event : Event) → Some event ≡ next_event f.limits f.s → joined.tables.acts + 2 * length event.records ≤ 6 * 2 ^ 60
+pub acts_room : {K : Type 0} (joined : Joined K) (records : ℕ) (f : IsFew records joined) → records ≤ 2 ^ 59 + 2 ^ 57 → (event : Event) → Some event ≡ next_event f.limits f.s
+    → joined.tables.acts + (2 * length event.records + 4 + 2) < 2 ^ 63 - 1
 acts_room joined records f within event is = omega (arith, f.few, within, event_records f.limits f.s event is)
 
 -- an event was followed
@@ -67,15 +68,6 @@ few_closed joined after records f stands acts = record {
   few = omega (arith, f.few, acts);
 }
 
--- no more records than that are no more than a greater number
-pub few_more : {K : Type 0} (joined : Joined K) (fewer more : ℕ) → fewer ≤ more → IsFew fewer joined → IsFew more joined
-few_more joined fewer more le f = record {
-  limits = f.limits;
-  s = f.s;
-  join = f.join;
-  few = omega (arith, f.few, le);
-}
-
 pub few_at : {K : Type 0} (joined seen : Joined K) (records : ℕ) → seen ≡ joined → IsFew records joined → IsFew records seen
 few_at {K} joined seen records is f = subst (λ (j : Joined K). IsFew records j) (sym is) f
 
@@ -83,30 +75,24 @@ few_at {K} joined seen records is f = subst (λ (j : Joined K). IsFew records j)
 abbrev pub ActsAreFew : Type 0
 ActsAreFew = (limit : ℕ) (records : List Record) → length (event_acts limit records) ≤ 4 + 2 * length records
 
-length_turned : (limits : Limits) (event : Event) → length (turned_by limits event) ≡ length (acts_of_event limits event)
-length_turned limits event =
-    let acts = map (taken_at event.ms event.key.serial) (acts_of_event limits event) in
-    length-reverse acts ∙ length-map (acts_of_event limits event) (taken_at event.ms event.key.serial)
-
 -- so many acts there are then
-pub acts_then : ActsAreFew → (limits : Limits) (event : Event) (taken : List Taken) (old new : ℕ) → old ≡ length taken → new ≡ length (turned_by limits event ++ taken)
-    → new ≤ old + (4 + 2 * length event.records)
-acts_then few limits event taken old new old_is new_is =
-    omega (arith, old_is, new_is, length-append (turned_by limits event) taken, length_turned limits event, few limits.path event.records)
+pub acts_then : (old prepared new plan records : ℕ) → prepared ≡ old → new ≡ prepared + plan → plan ≤ 4 + 2 * records → new ≤ old + (4 + 2 * records)
+acts_then old prepared new plan records same grown few = omega (arith, same, grown, few)
 
 -- ---- an engine's lines
 
 pub bounded_of : {K : Type 0} (reader : Reader) (joined : Joined K) → HasFewRecords reader joined → IsBounded joined
-bounded_of reader joined w = record { records = reader.cut.lines; few = w.few; within = w.within }
+bounded_of reader joined w = record { records = w.records; few = w.few; within = omega (arith, w.paid, w.within) }
 
 pub few_stays : {K : Type 0} (reader : Reader) (old new : Joined K) → HasFewRecords reader old → StaysFew old new → HasFewRecords reader new
-few_stays reader old new w stays = record { few = stays reader.cut.lines w.few; within = w.within }
+few_stays reader old new w stays = record { records = w.records; few = stays w.records w.few; paid = w.paid; within = w.within }
 
 pub few_kept : {K : Type 0} (old new : Reader) (joined : Joined K) → HasFewRecords old joined → KeepsLines old new → HasFewRecords new joined
-few_kept old new joined w keeps = record { few = few_more joined old.cut.lines new.cut.lines keeps.no_less w.few; within = keeps.within }
+few_kept old new joined w keeps = record { records = w.records; few = w.few; paid = omega (arith, w.paid, keeps.pays.paid); within = keeps.pays.within }
 
 pub few_ended : {K : Type 0} (old new : Reader) (before after : Joined K) → HasFewRecords old before → OneMore before after → EndsLine old new → HasFewRecords new after
-few_ended old new before after w more ends = record { few = subst (λ n. IsFew n after) (sym ends.one) (more old.cut.lines w.few); within = ends.within }
+few_ended old new before after w more ends =
+    record { records = w.records + 1; few = more w.records w.few; paid = omega (arith, w.paid, ends.pays.paid); within = ends.pays.within }
 
 pub few_asked : {K : Type 0} (reader : Reader) (old new : Joined K) → HasFewRecords reader old → new ≡ record old { keep = new.keep } → HasFewRecords reader new
 few_asked {K} reader old new w same =

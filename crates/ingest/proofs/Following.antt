@@ -1,5 +1,5 @@
 -- One more event is followed.
-use Rattle.std.proofs.Common.{◌≡◌, ◌≤◌, ◌+◌, ◌*◌, ◌^◌, ◌++◌, ◌∙◌, sym, refl, ap, subst, ℕ, suc, true, List, [], ◌∷◌, length, map, arith, append-nil, Option, None, Some}
+use Rattle.std.proofs.Common.{◌≡◌, ◌≤◌, ◌<◌, ◌+◌, ◌-◌, ◌*◌, ◌^◌, ◌++◌, ◌∙◌, sym, refl, ap, subst, ℕ, suc, true, List, [], ◌∷◌, length, map, arith, append-nil, Option, None, Some}
 use Rattle.std.specs.Prelude.{is_some, reverse, OnSome, Result, Err}
 use Rattle.std.specs.List.{flat_map}
 use Rattle.std.proofs.lemmas.List.{map-append}
@@ -84,19 +84,9 @@ module _ (limits : Limits) where
 abbrev pub EventsAdmitted : Type 0
 EventsAdmitted = (limit : ℕ) (events : List Event) (before : List Act) → Admitted before → Admitted (reverse (acts_of_events limit events) ++ before)
 
--- so are those of one event after others
-abbrev pub EventAdmitted : Type 0
-EventAdmitted = (limit : ℕ) (records : List Record) (before : List Act) → Admitted before → Admitted (reverse (event_acts limit records) ++ before)
-
 pub admitted_in : EventsAdmitted → (limits : Limits) (events : List Event) → Admitted (acts_of (taken_in limits events))
 admitted_in admitted limits events =
     subst Admitted (append-nil (reverse (acts_of_events limits.path events)) ∙ sym (acts_in limits events)) (admitted limits.path events [] tt)
-
-admitted_then : EventAdmitted → (limits : Limits) (event : Event) (taken : List Taken) → Admitted (acts_of taken) → Admitted (acts_of (turned_by limits event ++ taken))
-admitted_then admitted limits event taken before =
-    subst Admitted
-    (ap (λ (l : List Act). l ++ acts_of taken) (sym (acts_turned event.ms event.key.serial (acts_of_event limits event))) ∙ sym (acts_of_append (turned_by limits event) taken))
-    (admitted limits.path event.records (acts_of taken) before)
 
 -- ---- times
 
@@ -116,7 +106,7 @@ rise_then limits event taken rise later =
 
 -- ---- what is asked before an event
 
-pub may_follow : (tables : Tables) (taken : List Taken) (acts records : ℕ) → HasTaken tables taken → tables.acts + 2 * records ≤ 6 * 2 ^ 60 → acts ≤ 4 + 2 * records → MayFollow tables taken acts
+pub may_follow : (tables : Tables) (taken : List Taken) (acts records : ℕ) → HasTaken tables taken → tables.acts + (2 * records + 4 + 2) < 2 ^ 63 - 1 → acts ≤ 4 + 2 * records → MayFollow tables taken acts
 may_follow tables taken acts records has few acts_few = record {
   stands = has.tables_are;
   admitted = has.admitted;
@@ -141,15 +131,6 @@ on_some {A} r P a is on = subst (λ (o : Option A). OnSome o P) is on
 
 pub has_taken : {K : Type 0} → EventsAdmitted → (limits : Limits) (joined : Joined K) (s : Joining) (released : List Event) → JoinedStandsFor limits joined s released → HasTaken joined.tables (taken_in limits released)
 has_taken admitted limits joined s released stands = record { tables_are = stands.tables; admitted = admitted_in admitted limits released }
-
--- an event may come after the acts that the tables and the kept flows are those of
-pub may_come_own : (limits : Limits) (join : Joiner) (tables : Tables) (kept : KeptFlows) (event : Event) (w : IsInTime limits join tables kept) → Some event ≡ next_event limits w.s → MayComeAt event.ms tables kept w.taken
-may_come_own limits join tables kept event w next = record {
-  has = record { tables_are = w.tables_are; admitted = w.admitted };
-  kept_are = w.kept_are;
-  rise = w.rise;
-  no_later = omega (arith, w.later, ap (λ (c : JoinClock). c.effective) w.join_is.clock, (released_so limits w.s event next).no_less);
-}
 
 pub may_come : {K : Type 0} → EventsAdmitted → (limits : Limits) (joined : Joined K) (s : Joining) (released : List Event) (event : Event) → JoinedStandsFor limits joined s released → Some event ≡ next_event limits s
     → MayComeAt event.ms joined.tables joined.kept (taken_in limits released)
@@ -179,11 +160,6 @@ come_next lawful limits event plan taken rise later plan_is fits =
       few_objects = omega (arith, count, few.0, limits.entities_within);
       few_flows = omega (arith, ap length plan_is.flows_are, few.1, limits.flows_within);
     }
-
--- the flows know as many objects as the tables
-pub kept_known : FlowsAreLawful → (limits : Limits) (join : Joiner) (tables : Tables) (kept : KeptFlows) → IsInTime limits join tables kept → kept.objects ≡ length tables.entities.keys
-kept_known lawful limits join tables kept w =
-    sym w.kept_are.objects_known ∙ (lawful w.taken w.rise).objects ∙ ap length (sym w.tables_are.objects_are)
 
 -- ---- after an event
 
@@ -245,30 +221,11 @@ stands_next limits joined after s released event stands next own join excess cou
 pub same_event : {K : Type 0} (limits : Limits) (after : Joined K) (t : Joining) (released : List Event) (seen event : Event) → seen ≡ event → JoinedStandsFor limits after t (released ++ seen ∷ []) → JoinedStandsFor limits after t (released ++ event ∷ [])
 same_event limits after t released seen event is stands = subst (λ (e : Event). JoinedStandsFor limits after t (released ++ e ∷ [])) is stands
 
-pub in_time_next : EventAdmitted → (limits : Limits) (join after : Joiner) (tables more : Tables) (kept all : KeptFlows) (event : Event) (w : IsInTime limits join tables kept) → Some event ≡ next_event limits w.s
-    → JoinStandsFor limits after (next_left limits w.s) → TablesStandFor text_of more (turned_by limits event ++ w.taken) → HasLimits limits more → KeptStandsFor all (flows (turned_by limits event ++ w.taken))
-    → IsInTime limits after more all
-in_time_next admitted limits join after tables more kept all event w next stands tables_are bounds kept_are =
-    let so = released_so limits w.s event next in
-    let later : latest w.taken ≤ event.ms = omega (arith, w.later, ap (λ (c : JoinClock). c.effective) w.join_is.clock, so.no_less) in
-    let then = rise_then limits event w.taken w.rise later in
-    record {
-      s = next_left limits w.s;
-      join_is = stands;
-      taken = turned_by limits event ++ w.taken;
-      tables_are = tables_are;
-      admitted = admitted_then admitted limits event w.taken w.admitted;
-      bounds = bounds;
-      kept_are = kept_are;
-      rise = then.0;
-      later = omega (arith, then.1, ap (λ (c : JoinClock). c.effective) stands.clock, so.time);
-    }
-
 pub length_seen : {K : Type 0} (joined seen : Joined K) (n : ℕ) → seen ≡ joined → length seen.join.groups ≡ suc n → length joined.join.groups ≡ suc n
 length_seen {K} joined seen n is e = subst (λ (j : Joined K). length j.join.groups ≡ suc n) is e
 
 -- the tables may follow an event with few acts
-pub may_come_after : (tables : Tables) (taken : List Taken) (event : EventView) → HasLimits tables.limits tables → HasTaken tables taken → tables.acts + 2 * length event.records.now ≤ 6 * 2 ^ 60
+pub may_come_after : (tables : Tables) (taken : List Taken) (event : EventView) → HasLimits tables.limits tables → HasTaken tables taken → tables.acts + (2 * length event.records.now + 4 + 2) < 2 ^ 63 - 1
     → length (event_acts tables.limits.path event.records.now) ≤ 4 + 2 * length event.records.now → MayComeAfter tables event tables.limits taken
 may_come_after tables taken event limited has few acts_few = record {
   limited = limited;
@@ -279,20 +236,3 @@ may_come_after tables taken event limited has few acts_few = record {
 
 pub in_time_by : (limits own : Limits) (join : Joiner) (tables : Tables) (kept : KeptFlows) → own ≡ limits → IsInTime limits join tables kept → IsInTime own join tables kept
 in_time_by limits own join tables kept is w = subst (λ (l : Limits). IsInTime l join tables kept) (sym is) w
-
--- tables and kept flows that say the same as before
-pub in_time_still : (join : Joiner) (tables after : Tables) (kept all : KeptFlows) (w : IsInTime tables.limits join tables kept) → HasTaken after w.taken → HasLimits tables.limits after → all ≡ kept
-    → IsInTime after.limits join after all
-in_time_still join tables after kept all w has bounds same =
-    in_time_by tables.limits after.limits join after all bounds.limits_are
-    (record {
-      s = w.s;
-      join_is = w.join_is;
-      taken = w.taken;
-      tables_are = has.tables_are;
-      admitted = has.admitted;
-      bounds = bounds;
-      kept_are = subst (λ (k : KeptFlows). KeptStandsFor k (flows w.taken)) (sym same) w.kept_are;
-      rise = w.rise;
-      later = w.later;
-    })

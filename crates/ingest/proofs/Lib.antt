@@ -3,7 +3,12 @@ pub mod Telling
 pub mod Bytes
 pub mod Limiting
 pub mod Reading
+pub mod PutBack
+pub mod Waited
+pub mod WaitingStates
 pub mod Tallying
+pub mod StoreLines
+pub mod HeldTails
 pub mod ReaderSteps
 pub mod Answered
 pub mod Asked
@@ -13,7 +18,9 @@ pub mod Clocking
 pub mod FewEvents
 pub mod FewActs
 pub mod Releasing
+pub mod Together
 pub mod Following
+pub mod Rejoined
 pub mod Named
 pub mod Quiet
 pub mod Closing
@@ -22,6 +29,8 @@ pub mod StopLemmas
 pub mod KeyTimes
 pub mod FewRecords
 pub mod StoreTimes
-pub mod StoreLines
 pub mod StoreMoments
 pub mod Parting
+pub mod Restored
+pub mod WaitingRowLemmas
+pub mod CommitRowLemmas

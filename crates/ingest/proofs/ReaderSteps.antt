@@ -1,8 +1,7 @@
 -- The reader after some bytes, after a line feed, and after a settle.
-use Rattle.std.proofs.Common.{◌≡◌, ◌≤◌, ◌<◌, ◌+◌, ◌^◌, ◌++◌, ◌∙◌, sym, refl, ap, subst, ℕ, false, List, [], ◌∷◌, length, take, arith, length-append, Option}
+use Rattle.std.proofs.Common.{◌≡◌, ◌≤◌, ◌<◌, ◌+◌, ◌^◌, ◌++◌, ◌∙◌, sym, refl, ap, subst, ℕ, Bool, true, false, List, [], ◌∷◌, length, arith, length-append, Option}
 use Rattle.std.specs.List.{position_or_len}
 use Rattle.std.proofs.lemmas.Grind.{common_steps}
-use Rattle.std.proofs.lemmas.List.{length-take-le}
 use Rattle.memchr.specs.Find.{is_byte}
 use Rattle.flow_base.specs.declared.limits.Limits.{Limits}
 use Rattle.audit_lex.specs.History.{History, Settle, Cuts, settled, lines_of, tail_of, with_bytes, is_long, short_text}
@@ -15,8 +14,10 @@ use Rattle.ingest.specs.Bounds.{EndsLine, KeepsLines}
 use Rattle.ingest.specs.Counting.{bytes_in, tally_of_lines, total}
 use Rattle.ingest.specs.LineRecords.{record_of}
 use Rattle.ingest.specs.Parts.{Reader}
-use Rattle.ingest.specs.StandsFor.{IsWithin, ReaderStandsFor, HasNoTail}
-use Rattle.ingest.proofs.Bytes.{few_lines, bytes_more, bytes_settled}
+use Rattle.ingest.specs.StandsFor.{IsHeld, IsWithin, ReaderStandsFor, HasNoTail}
+use Rattle.ingest.proofs.Bytes.{bytes_more, bytes_settled}
+use Rattle.ingest.proofs.HeldTails.{HasMore}
+use Rattle.store_check.specs.Conditions.{begun}
 
 pub reader_at : (limits : Limits) (reader seen : Reader) (h : History) → seen ≡ reader → ReaderStandsFor limits reader h → ReaderStandsFor limits seen h
 reader_at limits reader seen h is stands = subst (λ (r : Reader). ReaderStandsFor limits r h) (sym is) stands
@@ -36,6 +37,10 @@ pub begun_so : (inside seen : Reader) (h : History) → inside ≡ seen → (Has
 begun_so inside seen h is begun stands none =
     let both = held_none inside.cut h stands none in
     begun (subst (λ (r : Reader). HasNoTail r) is (record { tail = both.0; long = both.1 }))
+
+-- no bytes are short enough
+pub short_none : (limit : ℕ) → length (short_text limit []) ≡ 0
+short_none limit = grind (arith, common_steps)
 
 -- ---- one more line
 
@@ -74,17 +79,42 @@ cut_after cut limit h g text ends stands = record {
 
 -- ---- within
 
-pub few : (limits : Limits) (cut : Cutter) (tally : Tally) (bytes : ℕ) → IsWithin limits cut tally bytes → cut.lines ≤ bytes
-few limits cut tally bytes w = omega (arith, w.cut_is.count, few_lines w.h, w.bytes_are)
+next_held : (limit lines : ℕ) → IsHeld (next_cut limit lines)
+next_held limit lines = record {
+  no_feed = λ there. omega (arith, there.1);
+  short = omega arith;
+  none = λ is. refl;
+}
 
-pub within_more : (limits : Limits) (cut after : Cutter) (tally : Tally) (bytes n : ℕ) (piece : List ℕ) → IsWithin limits cut tally bytes
-    → ((h : History) → CutStandsFor cut h → CutStandsFor after (with_bytes h (take n piece)))
-    → n ≤ length piece → bytes + n ≤ limits.input → total tally ≤ after.lines → IsWithin limits after tally (bytes + n)
-within_more limits cut after tally bytes n piece w stands short room counted = record {
-  h = with_bytes w.h (take n piece);
-  cut_is = stands w.h w.cut_is;
-  bytes_are = omega (arith, bytes_more w.h (take n piece), w.bytes_are, length-take-le n piece short);
-  counted = counted;
+begun_one : (long : Bool) (tail : List ℕ) → begun long tail ≤ 1
+begun_one true tail = omega arith
+begun_one false [] = omega arith
+begun_one false (b ∷ tail) = omega arith
+
+begun_some : (long : Bool) (tail : List ℕ) → 1 ≤ length tail → begun long tail ≡ 1
+begun_some true tail some = refl
+begun_some false [] some = absurd (omega (arith, some))
+begun_some false (b ∷ tail) some = refl
+
+begun_none : (cut : Cutter) → ((cut.tail ≡ []) × (cut.long ≡ false) → ⊥) → begun cut.long cut.tail ≡ 1
+begun_none cut begins = one_if cut.long cut.tail begins
+  where
+    one_if : (long : Bool) (tail : List ℕ) → ((tail ≡ []) × (long ≡ false) → ⊥) → begun long tail ≡ 1
+    one_if true tail begins = refl
+    one_if false [] begins = absurd (begins (refl, refl))
+    one_if false (b ∷ tail) begins = refl
+
+pub few : (limits : Limits) (cut : Cutter) (tally : Tally) (bytes : ℕ) → IsWithin limits cut tally bytes → cut.lines ≤ bytes
+few limits cut tally bytes w = omega (arith, w.paid)
+
+pub within_more : (limits : Limits) (cut after : Cutter) (tally : Tally) (bytes n : ℕ) (part : List ℕ) → IsWithin limits cut tally bytes → HasMore cut after part → after.limit ≡ cut.limit
+    → n ≡ length part → 1 ≤ length part → bytes + n ≤ limits.input → IsWithin limits after tally (bytes + n)
+within_more limits cut after tally bytes n part w more limit all some room = record {
+  line = limit ∙ w.line;
+  held = more.held;
+  paid = omega (arith, w.paid, more.lines, begun_one after.long after.tail, all, some);
+  counted = w.counted ∙ sym more.lines;
+  listed = w.listed;
   within = room;
   input = w.input;
 }
@@ -94,54 +124,53 @@ pub record HasRoom (cut : Cutter) (tally : Tally) : Type 0 where
   pub lines : cut.lines < 2 ^ 60
   pub counted : total tally < 2 ^ 60
 
-room_for : (limits : Limits) (cut : Cutter) (tally : Tally) (bytes : ℕ) (w : IsWithin limits cut tally bytes) (g : History) (text : List ℕ) → Ends w.h g text → bytes_in g ≤ limits.input → HasRoom cut tally
-room_for limits cut tally bytes w g text ends room =
-    let lines : length (lines_of g) ≡ length (lines_of w.h) + 1 = simp length-append at (ap length ends.lines) in
-    let short : cut.lines < 2 ^ 60 = omega (arith, lines, few_lines g, w.cut_is.count, room, w.input) in
-    record { lines = short; counted = omega (arith, short, w.counted) }
+room_for : (limits : Limits) (cut : Cutter) (tally : Tally) (bytes : ℕ) → IsWithin limits cut tally bytes → cut.lines + 1 ≤ limits.input → HasRoom cut tally
+room_for limits cut tally bytes w room = record { lines = omega (arith, room, w.input); counted = omega (arith, room, w.input, w.counted) }
 
-within_line : (limits : Limits) (cut after : Cutter) (tally more : Tally) (bytes limit : ℕ) (w : IsWithin limits cut tally bytes) (g : History) (text : List ℕ) → Ends w.h g text → bytes_in g ≤ limits.input
-    → after ≡ next_cut limit cut.lines → total more ≡ total tally + 1 → IsWithin limits after more (bytes_in g)
-within_line limits cut after tally more bytes limit w g text ends room is one = rw is record {
-  h = g;
-  cut_is = cut_after cut limit w.h g text ends w.cut_is;
-  bytes_are = refl;
+within_line : (limits : Limits) (cut after : Cutter) (tally more : Tally) (bytes all : ℕ) → IsWithin limits cut tally bytes → cut.lines + 1 ≤ all → all ≤ limits.input
+    → after ≡ next_cut limits.line cut.lines → total more ≡ total tally + 1 → length more.bad ≤ limits.shown
+    → IsWithin limits after more all
+within_line limits cut after tally more bytes all w paid room is one listed = rw is record {
+  line = refl;
+  held = next_held limits.line cut.lines;
+  paid = omega (arith, paid);
   counted = omega (arith, one, w.counted);
+  listed = listed;
   within = room;
   input = w.input;
 }
 
-fed_room : (limits : Limits) (bytes : ℕ) (h : History) (part : List ℕ) → bytes_in h ≡ bytes → bytes + (length part + 1) ≤ limits.input → bytes_in (with_bytes h (part ++ 10 ∷ [])) ≤ limits.input
-fed_room limits bytes h part are room = omega (arith, are, room, bytes_ended h part)
+pub room_fed : (limits : Limits) (cut : Cutter) (tally : Tally) (bytes : ℕ) (part : List ℕ) → IsWithin limits cut tally bytes → bytes + (length part + 1) ≤ limits.input → HasRoom cut tally
+room_fed limits cut tally bytes part w room = room_for limits cut tally bytes w (omega (arith, w.paid, room))
 
-pub room_fed : (limits : Limits) (cut : Cutter) (tally : Tally) (bytes : ℕ) (part : List ℕ) → IsWithin limits cut tally bytes → position_or_len (is_byte 10) part ≡ length part
-    → bytes + (length part + 1) ≤ limits.input → HasRoom cut tally
-room_fed limits cut tally bytes part w none room =
-    room_for limits cut tally bytes w (with_bytes w.h (part ++ 10 ∷ [])) (tail_of w.h ++ part) (ends_by_feed w.h part none) (fed_room limits bytes w.h part w.bytes_are room)
+pub within_fed : (limits : Limits) (cut after : Cutter) (tally more : Tally) (bytes : ℕ) (part : List ℕ) → IsWithin limits cut tally bytes → bytes + (length part + 1) ≤ limits.input
+    → after ≡ next_cut limits.line cut.lines → total more ≡ total tally + 1 → length more.bad ≤ limits.shown
+    → IsWithin limits after more (bytes + (length part + 1))
+within_fed limits cut after tally more bytes part w room is one listed =
+    within_line limits cut after tally more bytes (bytes + (length part + 1)) w (omega (arith, w.paid)) room is one listed
 
-pub within_fed : (limits : Limits) (cut after : Cutter) (tally more : Tally) (bytes limit : ℕ) (part : List ℕ) → IsWithin limits cut tally bytes → position_or_len (is_byte 10) part ≡ length part
-    → bytes + (length part + 1) ≤ limits.input → after ≡ next_cut limit cut.lines → total more ≡ total tally + 1 → IsWithin limits after more (bytes + (length part + 1))
-within_fed limits cut after tally more bytes limit part w none room is one =
-    let g = with_bytes w.h (part ++ 10 ∷ []) in
-    let bytes_are : bytes_in g ≡ bytes + (length part + 1) = omega (arith, bytes_ended w.h part, w.bytes_are) in
-    subst (λ n. IsWithin limits after more n) bytes_are
-    (within_line limits cut after tally more bytes limit w g (tail_of w.h ++ part) (ends_by_feed w.h part none) (fed_room limits bytes w.h part w.bytes_are room) is one)
+pub room_settled : (limits : Limits) (cut : Cutter) (tally : Tally) (bytes : ℕ) → IsWithin limits cut tally bytes → begun cut.long cut.tail ≡ 1 → HasRoom cut tally
+room_settled limits cut tally bytes w some = room_for limits cut tally bytes w (omega (arith, w.paid, w.within, some))
 
-settled_bytes : (bytes : ℕ) (h : History) → bytes_in h ≡ bytes → bytes_in (h ++ Settle ∷ []) ≡ bytes
-settled_bytes bytes h are = bytes_settled h ∙ are
+pub within_settled : (limits : Limits) (cut after : Cutter) (tally more : Tally) (bytes : ℕ) → IsWithin limits cut tally bytes → begun cut.long cut.tail ≡ 1
+    → after ≡ next_cut limits.line cut.lines → total more ≡ total tally + 1 → length more.bad ≤ limits.shown → IsWithin limits after more bytes
+within_settled limits cut after tally more bytes w some is one listed =
+    within_line limits cut after tally more bytes bytes w (omega (arith, w.paid, some)) w.within is one listed
 
-settled_room : (limits : Limits) (bytes : ℕ) (h : History) → bytes_in h ≡ bytes → bytes ≤ limits.input → bytes_in (h ++ Settle ∷ []) ≤ limits.input
-settled_room limits bytes h are room = omega (arith, settled_bytes bytes h are, room)
+-- a line has begun
+pub begun_own : (inside seen : Reader) → inside ≡ seen → (HasNoTail seen → ⊥) → begun inside.cut.long inside.cut.tail ≡ 1
+begun_own inside seen is begins =
+    begun_none inside.cut (λ both. begins (subst (λ (r : Reader). HasNoTail r) is (record { tail = both.0; long = both.1 })))
 
-pub room_settled : (limits : Limits) (cut : Cutter) (tally : Tally) (bytes : ℕ) (w : IsWithin limits cut tally bytes) → (tail_of w.h ≡ [] → ⊥) → HasRoom cut tally
-room_settled limits cut tally bytes w some =
-    room_for limits cut tally bytes w (w.h ++ Settle ∷ []) (tail_of w.h) (ends_by_settle w.h some) (settled_room limits bytes w.h w.bytes_are w.within)
+pub two_so : (inside seen : Reader) (more : ℕ) → inside ≡ seen → 2 ≤ length seen.cut.tail + more → 2 ≤ length inside.cut.tail + more
+two_so inside seen more is two = subst (λ (r : Reader). 2 ≤ length r.cut.tail + more) (sym is) two
 
-pub within_settled : (limits : Limits) (cut after : Cutter) (tally more : Tally) (bytes limit : ℕ) (w : IsWithin limits cut tally bytes) → (tail_of w.h ≡ [] → ⊥)
-    → after ≡ next_cut limit cut.lines → total more ≡ total tally + 1 → IsWithin limits after more bytes
-within_settled limits cut after tally more bytes limit w some is one =
-    subst (λ n. IsWithin limits after more n) (settled_bytes bytes w.h w.bytes_are)
-    (within_line limits cut after tally more bytes limit w (w.h ++ Settle ∷ []) (tail_of w.h) (ends_by_settle w.h some) (settled_room limits bytes w.h w.bytes_are w.within) is one)
+pub two_seen : (inside seen : Reader) (more : ℕ) → inside ≡ seen → 2 ≤ length inside.cut.tail + more → 2 ≤ length seen.cut.tail + more
+two_seen inside seen more is two = subst (λ (r : Reader). 2 ≤ length r.cut.tail + more) is two
+
+-- so has one of two bytes
+pub two_begin : (seen : Reader) → 2 ≤ length seen.cut.tail → HasNoTail seen → ⊥
+two_begin seen two none = omega (arith, two, ap length none.tail)
 
 -- ---- standing
 
@@ -200,22 +229,33 @@ own_line limits reader h stands = stands.line ∙ ap (λ (l : Limits). l.line) (
 
 -- ---- how many lines have ended
 
-pub ends_line : (inside old new : Reader) (limit : ℕ) → inside ≡ old → new.cut ≡ next_cut limit inside.cut.lines → inside.cut.lines < 2 ^ 60 → EndsLine old new
-ends_line inside old new limit is cut room =
+pub ends_line : (inside old new : Reader) (limit : ℕ) → inside ≡ old → new.cut ≡ next_cut limit inside.cut.lines → inside.cut.lines < 2 ^ 60
+    → 2 + inside.bytes ≤ new.bytes + length inside.cut.tail → new.bytes ≤ 2 ^ 60 → EndsLine old new
+ends_line inside old new limit is cut room two most =
     let lines : new.cut.lines ≡ inside.cut.lines + 1 = ap (λ (k : Cutter). k.lines) cut in
-    let same : inside.cut.lines ≡ old.cut.lines = ap (λ (r : Reader). r.cut.lines) is in
-    record { one = omega (arith, lines, same); within = omega (arith, lines, room) }
+    let none : length new.cut.tail ≡ 0 = ap (λ (k : Cutter). length k.tail) cut in
+    subst (λ (r : Reader). EndsLine r new) is
+    (record { one = lines; within = omega (arith, lines, room); pays = record { paid = omega (arith, none, two); within = most } })
 
-pub keeps_line : (inside old new : Reader) (limit : ℕ) → inside ≡ old → new.cut ≡ next_cut limit inside.cut.lines → inside.cut.lines < 2 ^ 60 → KeepsLines old new
-keeps_line inside old new limit is cut room =
-    let ends = ends_line inside old new limit is cut room in
-    record { no_less = omega (arith, ends.one); within = ends.within }
+pub keeps_line : (inside old new : Reader) (limit : ℕ) → inside ≡ old → new.cut ≡ next_cut limit inside.cut.lines → inside.cut.lines < 2 ^ 60
+    → inside.bytes ≤ new.bytes → new.bytes ≤ 2 ^ 60 → KeepsLines old new
+keeps_line inside old new limit is cut room no_less most =
+    let lines : new.cut.lines ≡ inside.cut.lines + 1 = ap (λ (k : Cutter). k.lines) cut in
+    let none : length new.cut.tail ≡ 0 = ap (λ (k : Cutter). length k.tail) cut in
+    subst (λ (r : Reader). KeepsLines r new) is
+    (record { no_less = omega (arith, lines); within = omega (arith, lines, room); pays = record { paid = omega (arith, none, no_less); within = most } })
 
 pub keeps_own : (inside old : Reader) → inside ≡ old → IsWithin inside.limits inside.cut inside.tally inside.bytes → KeepsLines old old
 keeps_own inside old is w =
-    subst (λ (r : Reader). KeepsLines r r) is (record { no_less = omega arith; within = omega (arith, few _ _ _ _ w, w.within, w.input) })
+    subst (λ (r : Reader). KeepsLines r r) is
+    (record { no_less = omega arith; within = omega (arith, few _ _ _ _ w, w.within, w.input); pays = record { paid = omega arith; within = omega (arith, w.within, w.input) } })
 
-pub keeps_lines : (inside old new : Reader) → inside ≡ old → IsWithin new.limits new.cut new.tally new.bytes → inside.cut.lines ≤ new.cut.lines → KeepsLines old new
-keeps_lines inside old new is w no_less =
-    let same : inside.cut.lines ≡ old.cut.lines = ap (λ (r : Reader). r.cut.lines) is in
-    record { no_less = omega (arith, same, no_less); within = omega (arith, few _ _ _ _ w, w.within, w.input) }
+pub keeps_lines : (inside old new : Reader) (part : List ℕ) → inside ≡ old → IsWithin new.limits new.cut new.tally new.bytes → HasMore inside.cut new.cut part → new.bytes ≡ inside.bytes + length part
+    → KeepsLines old new
+keeps_lines inside old new part is w more bytes =
+    subst (λ (r : Reader). KeepsLines r new) is
+    (record {
+      no_less = omega (arith, more.lines);
+      within = omega (arith, few _ _ _ _ w, w.within, w.input);
+      pays = record { paid = omega (arith, more.grown, bytes); within = omega (arith, w.within, w.input) };
+    })

@@ -11,7 +11,7 @@ use Rattle.record_join.specs.Keys.{ends_event}
 use Rattle.record_join.specs.contracts.event.TakenPartialEq.TheImpl.{ghosts}
 use Rattle.record_join.specs.declared.event.Taken.{Taken}
 use Rattle.record_join.specs.declared.event.Taken.TheVariants.{Held, Closed, Excess}
-use Rattle.record_join.specs.Events.{Joining, enter, saw, close, put, waits, group_of, is_excess, taken_as, ripe_key, event_of, event_at, next_event, next_left}
+use Rattle.record_join.specs.Events.{Joining, enter, settled, saw, close, put, waits, group_of, is_excess, taken_as, ripe_key, event_of, event_at, next_event, next_left}
 use Rattle.record_join.specs.History.{released, released_after, left_after}
 use Rattle.record_join.specs.StandsFor.{Joiner, StandsFor as JoinStandsFor}
 use Rattle.record_join.specs.declared.clock.JoinClock.{JoinClock}
@@ -26,6 +26,7 @@ use Rattle.ingest.specs.declared.stop.StopWhy.TheVariants as why
 use Rattle.record_join.proofs.Turns.{none_released, none_left, one_release, one_left}
 use Rattle.ingest.proofs.Clocking.{released_entered}
 use Rattle.ingest.proofs.Fewer.{released_so, enter_time}
+use Rattle.ingest.proofs.Together.{in_time_clock}
 
 -- some events of those that s releases were followed, and the rest is left
 pub record IsUnderWay {K : Type 0} (limits : Limits) (s : Joining) (before : List Event) (joined : Joined K) : Type 0 where
@@ -122,17 +123,12 @@ joined_at {K} limits joined seen s released is stands = subst (λ (j : Joined K)
 
 module _ (limits : Limits) (join after : Joiner) (tables : Tables) (kept : KeptFlows) (w : IsInTime limits join tables kept) where
   in_time_at : (t : Joining) → JoinStandsFor limits after t → t.clock.effective ≡ w.s.clock.effective → IsInTime limits after tables kept
-  in_time_at t stands same = record {
-    s = t;
-    join_is = stands;
-    taken = w.taken;
-    tables_are = w.tables_are;
-    admitted = w.admitted;
-    bounds = w.bounds;
-    kept_are = w.kept_are;
-    rise = w.rise;
-    later = omega (arith, w.later, ap (λ (c : JoinClock). c.effective) w.join_is.clock, ap (λ (c : JoinClock). c.effective) stands.clock, same);
-  }
+  in_time_at t stands same =
+      in_time_clock limits join after tables kept t w stands
+      (ap (λ (c : JoinClock). c.effective) stands.clock ∙ same ∙ sym (ap (λ (c : JoinClock). c.effective) w.join_is.clock))
+
+  pub in_time_closed : JoinStandsFor limits after (settled w.s) → IsInTime limits after tables kept
+  in_time_closed stands = in_time_at (settled w.s) stands refl
 
   pub in_time_entered : (item : Record) → JoinStandsFor limits after (enter limits w.s item) → IsInTime limits after tables kept
   in_time_entered item stands = in_time_at (enter limits w.s item) stands (enter_time limits w.s item)

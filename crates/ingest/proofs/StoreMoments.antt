@@ -57,7 +57,7 @@ all_classed limit number [] = refl
 all_classed limit number (line ∷ lines) = ap suc (all_classed limit (number + 1) lines)
 
 module _ (limits : Limits) (h : History) where
-  total_is : LinesAreCounted → total (tally_in limits h) ≡ length (lines_of h)
+  pub total_is : LinesAreCounted → total (tally_in limits h) ≡ length (lines_of h)
   total_is counted = counted limits.shown (classed_from limits.line 1 (lines_of h)) ∙ all_classed limits.line 1 (lines_of h)
 
   counts_are : LinesAreCounted → ActsAreFew → (p : ℕ) → p ≤ 2 ^ 60 → bytes_in h ≤ limits.input → length (flows (taken_in limits (events_of limits h))) ≤ limits.flows

@@ -1,7 +1,9 @@
 -- One more line is counted.
-use Rattle.std.proofs.Common.{◌≡◌, ◌+◌, ◌++◌, ◌∙◌, ap, sym, ℕ, List, [], ◌∷◌, length, arith}
+use Rattle.std.proofs.Common.{◌≡◌, ◌≤◌, ◌+◌, ◌++◌, ◌∙◌, ap, sym, refl, ℕ, Bool, true, false, List, [], ◌∷◌, length, length-append, arith, nat_lt, if◌then◌else◌}
+use Rattle.std.proofs.lemmas.Bool.{ltb-true}
 use Rattle.std.proofs.lemmas.List.Sums.{fold-append}
 use Rattle.flow_base.specs.declared.limits.Limits.{Limits}
+use Rattle.flow_base.specs.declared.types.Bad.{Bad}
 use Rattle.audit_lex.specs.LineClass.{Class, Used, Other, Blank, Malformed, class_of}
 use Rattle.audit_lex.specs.Tally.{Classed, nothing_counted, one_counted, tally_of}
 use Rattle.audit_lex.specs.declared.fields.Kind.{Kind}
@@ -55,3 +57,14 @@ one_adds shown number tally (Used key kind) = omega arith
 one_adds shown number tally Other = omega arith
 one_adds shown number tally Blank = omega arith
 one_adds shown number tally (Malformed f) = omega arith
+
+list_if : (shown : ℕ) (bad : List Bad) (line : Bad) (b : Bool) → nat_lt (length bad) shown ≡ b → length bad ≤ shown → length (if b then bad ++ line ∷ [] else bad) ≤ shown
+list_if shown bad line true is few = let less = ltb-true (length bad) shown is in omega (arith, less, length-append bad (line ∷ []))
+list_if shown bad line false is few = few
+
+-- few malformed lines are listed then too
+pub few_listed : (shown number : ℕ) (tally : Tally) (class : Class) → length tally.bad ≤ shown → length (one_counted shown tally (record { number = number; class = class })).bad ≤ shown
+few_listed shown number tally (Used key kind) few = few
+few_listed shown number tally Other few = few
+few_listed shown number tally Blank few = few
+few_listed shown number tally (Malformed f) few = list_if shown tally.bad _ (nat_lt (length tally.bad) shown) refl few

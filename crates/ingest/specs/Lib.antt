@@ -7,6 +7,7 @@ pub mod Clocks
 pub mod Bounds
 pub mod Stops
 pub mod Following
+pub mod Together
 pub mod StandsFor
 pub mod Owing
 pub mod PartTaken
@@ -19,3 +20,8 @@ pub mod Replies
 pub mod Faults
 pub mod Asking
 pub mod Storing
+pub mod Waiting
+pub mod Rejoining
+pub mod StateParts
+pub mod WaitingRows
+pub mod Committing

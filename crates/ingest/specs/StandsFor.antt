@@ -1,5 +1,6 @@
 -- What an engine stands for.
-use Rattle.std.specs.Prelude.{◌≡◌, ◌≤◌, ◌^◌, ℕ, List, [], false, None}
+use Rattle.std.specs.Prelude.{◌≡◌, ◌≤◌, ◌+◌, ◌^◌, ℕ, List, [], length, true, false, None}
+use Rattle.std.specs.List.{Contains}
 use Rattle.flow_base.specs.declared.limits.Limits.{Limits}
 use Rattle.audit_lex.specs.History.{History}
 use Rattle.audit_lex.specs.LineCut.{Cutter, StandsFor as CutStandsFor}
@@ -8,17 +9,18 @@ use Rattle.record_join.specs.Events.{Joining}
 use Rattle.record_join.specs.StandsFor.{Joiner, StandsFor as JoinStandsFor}
 use Rattle.name_text.specs.Addresses.{text_of}
 use Rattle.acts.specs.declared.act.Taken.{Taken}
-use Rattle.acts.specs.Admitted.{Admitted}
-use Rattle.acts.specs.Flows.{acts_of, flows, latest, TimesNeverFall}
+use Rattle.acts.specs.Flows.{latest, TimesNeverFall}
 use Rattle.flow_events.specs.declared.tables.Tables.{Tables}
 use Rattle.flow_events.specs.Standing.{StandsFor as TablesStandFor, HasLimits}
 use Rattle.kept_flows.specs.KeptFlows.{KeptFlows, StandsFor as KeptStandsFor}
+use Rattle.store_check.specs.Conditions.{begun}
 use Rattle.record_join.specs.declared.event.Event.{Event}
 use Rattle.ingest.specs.Clocks.{HasReleased}
 use Rattle.ingest.specs.Counting.{bytes_in, tally_in, counts_in, total}
 use Rattle.ingest.specs.Events.{taken_in, flows_in, state_of, events_of}
 use Rattle.ingest.specs.Parts.{Reader, Joined, Engine}
 use Rattle.ingest.specs.Stops.{Fits, full_of}
+use Rattle.ingest.specs.Together.{GoTogether}
 
 -- the lines of the history were cut and counted, and the rest is held
 pub record ReaderStandsFor (limits : Limits) (reader : Reader) (h : History) : Type 0 where
@@ -33,28 +35,30 @@ pub record HasNoTail (reader : Reader) : Type 0 where
   pub tail : reader.cut.tail ≡ []
   pub long : reader.cut.long ≡ false
 
--- the lines are those of some history of so many bytes, no more of them were counted, and there may be so many bytes; so no
--- count comes to its end, whatever the reader stands for
+-- the tail is that of a line that may go on: it has no line feed, and isn't held once the line is too long
+pub record IsHeld (cut : Cutter) : Type 0 where
+  pub no_feed : ¬ Contains cut.tail 10
+  pub short : length cut.tail ≤ cut.limit
+  pub none : cut.long ≡ true → cut.tail ≡ []
+
+-- Each line that ended or began took a byte, each that ended was counted, few are listed, and there may be so many bytes. So no
+-- count comes to its end, whatever the reader stands for.
 pub record IsWithin (limits : Limits) (cut : Cutter) (tally : Tally) (bytes : ℕ) : Type 0 where
-  pub h : History
-  pub cut_is : CutStandsFor cut h
-  pub bytes_are : bytes_in h ≡ bytes
-  pub counted : total tally ≤ cut.lines
+  pub line : cut.limit ≡ limits.line
+  pub held : IsHeld cut
+  pub paid : cut.lines + begun cut.long cut.tail ≤ bytes
+  pub counted : total tally ≡ cut.lines
+  pub listed : length tally.bad ≤ limits.shown
   pub within : bytes ≤ limits.input
   pub input : limits.input ≤ 2 ^ 60
 
--- the joiner stands for something that waits, the tables and kept flows for acts that are admitted, and none of these is
--- later than what the joiner released last
+-- the joiner stands for something that waits, and the tables and kept flows go together, none of which is later than what the
+-- joiner released last
 pub record IsInTime (limits : Limits) (join : Joiner) (tables : Tables) (kept : KeptFlows) : Type 0 where
   pub s : Joining
   pub join_is : JoinStandsFor limits join s
-  pub taken : List Taken
-  pub tables_are : TablesStandFor text_of tables taken
-  pub admitted : Admitted (acts_of taken)
   pub bounds : HasLimits limits tables
-  pub kept_are : KeptStandsFor kept (flows taken)
-  pub rise : TimesNeverFall taken
-  pub later : latest taken ≤ join.clock.effective
+  pub together : GoTogether join.clock.effective tables kept
 
 -- the times of the acts never fall, and none is later than what was released last
 pub record AreInTime (taken : List Taken) (s : Joining) : Type 0 where

@@ -8,7 +8,7 @@ ghost use Rattle.flow_base.specs.declared.limits.Limits.{Limits};
 ghost use Rattle.audit_lex.specs.History.{History, Settle};
 ghost use Rattle.record_join.specs.Events.{next_event};
 ghost use Rattle.record_join.specs.StandsFor.{NothingRipe};
-ghost use Rattle.kept_flows.specs.Answering.{NeverFail};
+ghost use Rattle.kept_flows.specs.Answering.{AlwaysTold, NeverFail};
 ghost use Rattle.ingest.specs.Ending.{EndsLast};
 ghost use Rattle.ingest.specs.Events.{events_of};
 ghost use Rattle.ingest.specs.Asking.{AskHasCauses, SameButRows, StandsStill};
@@ -17,7 +17,7 @@ ghost use Rattle.ingest.specs.EngineSteps.{StopsIn, HaltsIn, HaltsOwing};
 ghost use Rattle.ingest.specs.Owing.{MayOwe, SettleHalts};
 ghost use Rattle.ingest.specs.PartTaken.{count_on, done_in};
 ghost use Rattle.ingest.specs.Replies.{IsQuestion, IsReply};
-ghost use Rattle.ingest.specs.StandsFor.{StandsFor, HasNoTail};
+ghost use Rattle.ingest.specs.StandsFor.{StandsFor, HasNoTail, WhereJoined};
 ghost use Rattle.ingest.specs.Stops.{Fits, Stops};
 ghost use Rattle.ingest.specs.declared.ask_fault.AskFault.TheVariants as fault;
 ghost use Rattle.ingest.specs.declared.stop.StopWhy.TheVariants as why;
@@ -87,6 +87,7 @@ impl<R: Reducer, K: Keep> Ingest<R, K> {
         ensures owed_first { IfErr result (λ stop. (limits : Limits) (h : History)
             → MayOwe limits self.old h → 0 < stop.done → Fits limits h) }
         ensures part { self.new.part ≡ count_on self.old.part (done_in piece.now result) }
+        ensures alike { K.alike self.old.joined.keep self.new.joined.keep }
     {
         let part = self.part;
         let result = self.feed_next(piece);
@@ -108,6 +109,7 @@ impl<R: Reducer, K: Keep> Ingest<R, K> {
             → Stops limits (h ++ Settle ∷ []) full }
         ensures halts { IfErr result (SettleHalts self.old self.new) }
         ensures part { self.new.part ≡ self.old.part }
+        ensures alike { K.alike self.old.joined.keep self.new.joined.keep }
     {
         match self.joined.release() {
             Ok(()) => {}
@@ -155,6 +157,7 @@ impl<R: Reducer, K: Keep> Ingest<R, K> {
     pub fn new_part(&mut self)
         ensures part { self.new ≡ record self.old { part = 0 } }
         ensures stands { StandsStill self.old self.new }
+        ensures alike { K.alike self.old.joined.keep self.new.joined.keep }
     {
         self.part = 0;
     }
@@ -178,9 +181,13 @@ impl<R: Reducer, K: Keep> Ingest<R, K> {
         ensures reply { IfOk result (λ reply. (limits : Limits) (h : History)
             → StandsFor limits self.old h → IsReply R.mode limits h ask.now reply) }
         ensures cause { AskHasCauses K.faults K.spent self.old self.new result }
-        ensures never { NeverFail K.faults K.spent → IfErr result (λ why. why ≡ fault.NoMemory) }
+        ensures never { NeverFail K.faults K.spent → WhereJoined self.old.joined (λ limits events.
+            IfErr result (λ why. why ≡ fault.NoMemory)) }
+        ensures always { NeverFail K.faults K.spent → AlwaysTold K.rows
+            → IfErr result (λ why. why ≡ fault.NoMemory) }
         ensures stands { StandsStill self.old self.new }
         ensures same { SameButRows self.old self.new }
+        ensures alike { K.alike self.old.joined.keep self.new.joined.keep }
     {
         match ask {
             Ask::Question(question) => answer_question(&mut self.joined, question),
@@ -200,6 +207,7 @@ impl<R: Reducer, K: Keep> Ingest<R, K> {
         ensures halts { IfErr result (HaltsOwing piece.now self.old self.new) }
         ensures owed_first { IfErr result (λ stop. (limits : Limits) (h : History)
             → MayOwe limits self.old h → 0 < stop.done → Fits limits h) }
+        ensures alike { K.alike self.old.joined.keep self.new.joined.keep }
     {
         match self.joined.release() {
             Ok(()) => self.feed_bounded(piece),
@@ -213,6 +221,7 @@ impl<R: Reducer, K: Keep> Ingest<R, K> {
         ensures ok { OnOk result (Takes piece.now self.old self.new) }
         ensures stop { IfErr result (StopsIn piece.now self.old) }
         ensures halts { IfErr result (HaltsIn piece.now self.old self.new) }
+        ensures alike { K.alike self.old.joined.keep self.new.joined.keep }
     {
         let room = self.reader.most() - self.reader.bytes();
         if piece.len() as u64 <= room {
@@ -239,6 +248,7 @@ impl<R: Reducer, K: Keep> Ingest<R, K> {
         ensures ok { OnOk result (Takes piece.now self.old self.new) }
         ensures stop { IfErr result (StopsIn piece.now self.old) }
         ensures halts { IfErr result (HaltsIn piece.now self.old self.new) }
+        ensures alike { K.alike self.old.joined.keep self.new.joined.keep }
     {
         let mut done = 0;
         while done < piece.len() {
@@ -265,6 +275,7 @@ impl<R: Reducer, K: Keep> Ingest<R, K> {
         ensures ok { IfOk result (λ n. Takes (take n piece.now) self.old self.new) }
         ensures stop { IfErr result (StopsIn piece.now self.old) }
         ensures halts { IfErr result (HaltsIn piece.now self.old self.new) }
+        ensures alike { K.alike self.old.joined.keep self.new.joined.keep }
     {
         let end = end_of_line(piece);
         if end == piece.len() || !self.reader.is_between_lines() {
@@ -317,6 +328,7 @@ impl<R: Reducer, K: Keep> Ingest<R, K> {
         ensures ok { OnOk result (Takes (part.now ++ 10 ∷ []) self.old self.new) }
         ensures stop { IfErr result (StopsIn (part.now ++ 10 ∷ []) self.old) }
         ensures halts { IfErr result (HaltsIn (part.now ++ 10 ∷ []) self.old self.new) }
+        ensures alike { K.alike self.old.joined.keep self.new.joined.keep }
     {
         match self.join_line(part) {
             Ok(()) => {}
@@ -349,6 +361,7 @@ impl<R: Reducer, K: Keep> Ingest<R, K> {
             (self.new.reader.bytes ≡ self.old.reader.bytes + (length part.now + 1)) }
         ensures ok { OnOk result (OwesAfter (part.now ++ 10 ∷ []) self.old self.new) }
         ensures err { OnErr result (self.new ≡ self.old) }
+        ensures alike { K.alike self.old.joined.keep self.new.joined.keep }
     {
         match self.reader.read(part)? {
             Some(item) => {
@@ -369,6 +382,7 @@ impl<R: Reducer, K: Keep> Ingest<R, K> {
         ensures err { OnErr result (self.new ≡ self.old) }
         ensures begun { OnErr result (¬ HasNoTail self.old.reader) }
         ensures part { self.new.part ≡ self.old.part }
+        ensures alike { K.alike self.old.joined.keep self.new.joined.keep }
     {
         match self.reader.read(&[])? {
             Some(item) => {

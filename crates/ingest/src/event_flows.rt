@@ -2,29 +2,34 @@
 //!
 //! An event that is ripe is prepared by the tables, with all the memory for it. Then its flows are taken in, and last the
 //! tables follow it, which can't fail: so an event that is refused has changed nothing, and stays in the joiner.
-ghost use Rattle.std.specs.Prelude.{◌≡◌, ◌≤◌, ◌<◌, ◌+◌, ◌*◌, ◌^◌, [], suc, List, None, Some, Err, true};
+ghost use Rattle.std.specs.Prelude.{◌≡◌, ◌≤◌, ◌<◌, ◌+◌, ◌-◌, ◌*◌, ◌^◌, [], suc, List, None, Some, Err, true};
 ghost use Rattle.std.specs.Prelude.{length, is_some, OnOk, IfOk, OnErr, IfErr, slice_get};
 ghost use Rattle.flow_base.specs.declared.limits.Full.{Full};
-ghost use Rattle.record_join.specs.Events.{count_keys, ripe_key, next_event};
+ghost use Rattle.reach_model.specs.Rows.{Row};
+ghost use Rattle.record_join.specs.Events.{Joining, count_keys, ripe_key, next_event};
 ghost use Rattle.record_join.specs.History.{start};
 ghost use Rattle.record_join.specs.StandsFor.{NothingRipe, WhereStands, event_seen};
+ghost use Rattle.record_join.specs.StandsFor.{StandsFor as JoinStandsFor};
 ghost use Rattle.reach_rows.specs.Asked.{subject};
-ghost use Rattle.acts.specs.declared.act.Taken.{Taken};
-ghost use Rattle.flow_events.specs.Standing.{HasLimits, IsReady};
+ghost use Rattle.flow_events.specs.Standing.{AreSafe, DiffersInRoom, HasLimits, IsReady, PlanFlows};
 ghost use Rattle.query_walk.specs.declared.fault.WalkFault.TheVariants as walk;
-ghost use Rattle.kept_flows.specs.Answering.{AnswersFor, NeverFail, ShowsFor};
+ghost use Rattle.kept_flows.specs.Answering.{AlwaysTold, AnswersFor, NeverFail, ShowsFor};
+ghost use Rattle.query_walk.specs.Walks.{SameRows};
+ghost use Rattle.kept_flows.specs.KeptFlows.{kept_of};
 ghost use Rattle.ingest.specs.Asking.{WalkHasCauses};
 ghost use Rattle.ingest.specs.Bounds.{IsFew, IsBounded, StaysFew, OneMore};
 ghost use Rattle.ingest.specs.EventActs.{is_unmapped};
-ghost use Rattle.ingest.specs.Events.{flows_in, objects_in};
+ghost use Rattle.ingest.specs.Events.{flows_in, objects_in, taken_in};
 ghost use Rattle.ingest.specs.Faults.{of_refused};
-ghost use Rattle.ingest.specs.Following.{HasTaken, MayComeAt, KeepTaken, KeptWith};
+ghost use Rattle.ingest.specs.Following.{KeepTaken, KeptWith};
 ghost use Rattle.ingest.specs.Following.{IsPlanFor, IsFullWith};
 ghost use Rattle.ingest.specs.GoingOn.{EntersOne, ClosesAll, ReleasesAll, ReleasesNext};
 ghost use Rattle.ingest.specs.GoingOn.{OwesRest, StaysJoined};
 ghost use Rattle.ingest.specs.Naming.{named_in, names_in};
 ghost use Rattle.ingest.specs.Owing.{NextPasses};
+ghost use Rattle.ingest.specs.Rejoining.{RejoinsAlike, RejoinsFrom, StandsForLeft};
 ghost use Rattle.ingest.specs.Replies.{KeepsSoMany};
+ghost use Rattle.ingest.specs.Together.{GoTogether, GoWithPlan};
 ghost use Rattle.ingest.specs.StandsFor.{JoinedStandsFor, WhereJoined, WhereWaiting};
 ghost use Rattle.ingest.specs.declared.stop.StopWhy.TheVariants as why;
 
@@ -32,14 +37,15 @@ use crate::event_counts::EventCounts;
 use crate::stop::StopWhy;
 use acts::flows_of_acts_are_lawful;
 use audit_record::Record;
-use call_acts::{acts_are_few, acts_of_events_are_admitted, event_acts_are_admitted};
+use call_acts::{acts_are_few, acts_of_events_are_admitted};
 use flow_base::{Bytes, EntityId, Key, Limits, List, NoMemory};
 use flow_events::{Plan, PrepareFault, Tables};
-use kept_flows::{KeptFlows, Way};
+use kept_flows::{KeptFlows, Unrestored, Way};
 use query_walk::WalkFault;
 use reach_model::Mode;
 use reach_rows::{Keep, Question, Reducer};
-use record_join::{EventView, Join, Taken as Entered};
+use record_join::{EventView, Join, JoinClock, Taken as Entered};
+use row_codec::StateRow;
 use std::alloc::Global;
 use std::marker::Model;
 
@@ -95,6 +101,57 @@ impl<R: Reducer, K: Keep> EventFlows<R, K> {
         }
     }
 
+    /// What an earlier run left: what waited, its tables, and the rows that kept its flows, each of which the new reducer
+    /// recalls. The counts of events and of dropped records are those of the State.
+    ///
+    /// `StoreFault` means that a read of the rows failed during this call, or that the rows have stopped counting failed
+    /// reads. `BadStore` comes only from rows that aren't observable, and `NoMemory` means that allocation failed. A refusal
+    /// hands the rows back as they were.
+    pub fn restore(
+        alloc: Global,
+        join: Join,
+        tables: Tables,
+        reducer: R,
+        keep: K,
+        state: &StateRow,
+    ) -> Result<EventFlows<R, K>, Unrestored<K>>
+    where
+        R: Drop,
+        requires stands { R.stands_for reducer [] }
+        requires holds { R.holds reducer [] }
+        requires waits { (s : Joining) × JoinStandsFor tables.limits join s }
+        requires limits { HasLimits tables.limits tables }
+        requires together { GoTogether join.clock.effective tables
+            (kept_of R.mode K.rows K.count K.known keep) }
+        requires acts { tables.acts ≤ 2 ^ 62 }
+        ensures stands { IfOk result
+            (StandsForLeft R.mode (K.rows keep) join tables state.now) }
+        ensures join { IfOk result (λ again. again.join ≡ join) }
+        ensures tables { IfOk result (λ again. again.tables ≡ tables) }
+        ensures cause { RejoinsFrom K.rows K.faults K.spent keep result }
+        ensures never { NeverFail K.faults K.spent → (S : List Row) → K.rows keep ≡ Some S
+            → IfErr result (λ back. back.fault ≡ walk.NoMemory) }
+        ensures same { IfErr result (λ back. SameRows K.rows K.count K.known keep back.rows) }
+        ensures alike { RejoinsAlike K.alike keep result }
+    {
+        flows_of_acts_are_lawful();
+        match KeptFlows::restore(reducer, keep) {
+            Ok(kept) => Ok(EventFlows {
+                alloc,
+                join,
+                tables,
+                kept,
+                counts: EventCounts {
+                    events: state.events,
+                    late: state.late,
+                    unmapped: state.unmapped,
+                },
+                excess: state.excess,
+            }),
+            Err(back) => Err(back),
+        }
+    }
+
     /// The rows that keep the flows.
     pub fn into_keep(self) -> K
     where
@@ -110,6 +167,7 @@ impl<R: Reducer, K: Keep> EventFlows<R, K> {
         ensures ok { OnOk result (EntersOne item self.old self.new) }
         ensures few { OnOk result (OneMore self.old self.new) }
         ensures err { OnErr result (self.new ≡ self.old) }
+        ensures alike { K.alike self.old.keep self.new.keep }
     {
         let taken = self.join.take(item)?;
         if taken == Entered::Excess {
@@ -122,6 +180,7 @@ impl<R: Reducer, K: Keep> EventFlows<R, K> {
     pub fn close(&mut self)
         ensures closed { ClosesAll self.old self.new }
         ensures few { StaysFew self.old self.new }
+        ensures alike { K.alike self.old.keep self.new.keep }
     {
         self.join.settle();
     }
@@ -134,6 +193,7 @@ impl<R: Reducer, K: Keep> EventFlows<R, K> {
         ensures few { StaysFew self.old self.new }
         ensures ok { OnOk result (ReleasesAll self.old self.new) }
         ensures owed { IfErr result (OwesRest self.old self.new) }
+        ensures alike { K.alike self.old.keep self.new.keep }
     {
         while self.join.ripe() {
             match self.follow() {
@@ -191,6 +251,23 @@ impl<R: Reducer, K: Keep> EventFlows<R, K> {
         self.tables.flows()
     }
 
+    /// How many acts there were.
+    pub fn acts(&self) -> u64
+        ensures { WhereJoined self.now (λ limits events.
+            result ≡ length (taken_in limits events)) }
+    {
+        let _ = &self.join;
+        self.tables.acts()
+    }
+
+    /// How far joining has come.
+    pub fn clock(&self) -> JoinClock
+        ensures { WhereWaiting self.now (λ limits s released. result ≡ s.clock) }
+    {
+        let _ = &self.tables;
+        self.join.clock()
+    }
+
     /// The mode.
     pub fn mode(&self) -> Mode
         ensures { result ≡ R.mode }
@@ -215,10 +292,13 @@ impl<R: Reducer, K: Keep> EventFlows<R, K> {
         ensures exact { IfOk result (λ found. WhereJoined self.old (λ limits events.
             AnswersFor R.mode (flows_in limits events) question.now found)) }
         ensures cause { WalkHasCauses K.faults K.spent self.old self.new result }
-        ensures never { NeverFail K.faults K.spent → IfErr result (λ why. why ≡ walk.NoMemory) }
+        ensures never { NeverFail K.faults K.spent → WhereJoined self.old (λ limits events.
+            IfErr result (λ why. why ≡ walk.NoMemory)) }
+        ensures always { NeverFail K.faults K.spent → AlwaysTold K.rows
+            → IfErr result (λ why. why ≡ walk.NoMemory) }
         ensures same { self.new ≡ record self.old { keep = self.new.keep } }
+        ensures alike { K.alike self.old.keep self.new.keep }
     {
-        flows_of_acts_are_lawful();
         self.kept.ask(self.alloc, question)
     }
 
@@ -235,10 +315,13 @@ impl<R: Reducer, K: Keep> EventFlows<R, K> {
         ensures exact { IfOk result (λ way. WhereJoined self.old (λ limits events.
             ShowsFor R.mode (flows_in limits events) from.0 to.0 until way)) }
         ensures cause { WalkHasCauses K.faults K.spent self.old self.new result }
-        ensures never { NeverFail K.faults K.spent → IfErr result (λ why. why ≡ walk.NoMemory) }
+        ensures never { NeverFail K.faults K.spent → WhereJoined self.old (λ limits events.
+            IfErr result (λ why. why ≡ walk.NoMemory)) }
+        ensures always { NeverFail K.faults K.spent → AlwaysTold K.rows
+            → IfErr result (λ why. why ≡ walk.NoMemory) }
         ensures same { self.new ≡ record self.old { keep = self.new.keep } }
+        ensures alike { K.alike self.old.keep self.new.keep }
     {
-        flows_of_acts_are_lawful();
         self.kept.path(self.alloc, from, to, until)
     }
 
@@ -284,9 +367,9 @@ impl<R: Reducer, K: Keep> EventFlows<R, K> {
         ensures refused { OnErr result (StaysJoined self.old self.new) }
         ensures full { (full : Full) → result ≡ Err (why.Full full)
             → WhereWaiting self.old (λ limits s released. NextPasses limits s released full) }
+        ensures alike { K.alike self.old.keep self.new.keep }
     {
         acts_are_few();
-        event_acts_are_admitted();
         acts_of_events_are_admitted();
         let Some(event) = self.join.peek() else {
             unreachable!()
@@ -310,14 +393,21 @@ fn take_event<R: Reducer, K: Keep>(
     kept: &mut KeptFlows<R, K>,
     event: &EventView<'_>,
 ) -> Result<Plan, StopWhy>
-    requires taken { (taken : List Taken) × MayComeAt event.now.ms tables.old kept.old.kept taken }
+    requires together { GoTogether event.now.ms tables.old kept.old.kept }
     requires limits { HasLimits tables.old.limits tables.old }
-    requires few { tables.old.acts + 2 * length event.now.records.now ≤ 6 * 2 ^ 60 }
+    requires few { tables.old.acts + (2 * length event.now.records.now + 4 + 2) < 2 ^ 63 - 1 }
     ensures same { KeepTaken tables.old tables.new }
+    ensures room { DiffersInRoom tables.old tables.new }
+    ensures safe { AreSafe tables.new }
     ensures limits { HasLimits tables.old.limits tables.new }
+    ensures acts { IfOk result (λ plan.
+        length plan.acts ≤ 4 + 2 * length event.now.records.now) }
     ensures kept { IfOk result (λ plan.
         KeptWith tables.old (event_seen event.now) kept.old.kept kept.new.kept) }
     ensures refused { OnErr result (kept.new.kept ≡ kept.old.kept) }
+    ensures alike { K.alike kept.old.keep kept.new.keep }
+    ensures goes_on { IfOk result (λ plan.
+        GoWithPlan event.now.ms tables.old plan kept.new.kept) }
     ensures ready { IfOk result (λ plan. IsReady tables.new plan) }
     ensures unmapped { IfOk result (λ plan. plan.unmapped ≡ is_unmapped (event_seen event.now)) }
     ensures plan { IfOk result (IsPlanFor tables.old (event_seen event.now)) }
@@ -338,11 +428,16 @@ fn take_event<R: Reducer, K: Keep>(
 
 // Works out what an event does, with all the memory for it. The tables say the same as before.
 fn plan_event(alloc: Global, tables: &mut Tables, event: &EventView<'_>) -> Result<Plan, StopWhy>
-    requires taken { (taken : List Taken) × HasTaken tables.old taken }
+    requires safe { AreSafe tables.old }
     requires limits { HasLimits tables.old.limits tables.old }
-    requires few { tables.old.acts + 2 * length event.now.records.now ≤ 6 * 2 ^ 60 }
+    requires few { tables.old.acts + (2 * length event.now.records.now + 4 + 2) < 2 ^ 63 - 1 }
     ensures same { KeepTaken tables.old tables.new }
+    ensures room { DiffersInRoom tables.old tables.new }
+    ensures safe { AreSafe tables.new }
     ensures limits { HasLimits tables.old.limits tables.new }
+    ensures acts { IfOk result (λ plan.
+        length plan.acts ≤ 4 + 2 * length event.now.records.now) }
+    ensures flows { IfOk result (PlanFlows tables.old event.now.ms) }
     ensures ready { IfOk result (λ plan. IsReady tables.new plan) }
     ensures unmapped { IfOk result (λ plan. plan.unmapped ≡ is_unmapped (event_seen event.now)) }
     ensures plan { IfOk result (IsPlanFor tables.old (event_seen event.now)) }

@@ -8,16 +8,21 @@
 #![tactic(auto)]
 
 mod ask_fault;
+mod commit;
 mod engine;
 mod event_counts;
 mod event_flows;
 mod laws;
 mod line_reader;
 mod replies;
+mod spellable;
+mod state_row;
 mod stop;
 mod store_laws;
 #[cfg(test)]
 mod tests;
+mod waiting;
+mod waiting_rows;
 
 pub use ask_fault::AskFault;
 pub use engine::Ingest;
@@ -26,4 +31,7 @@ pub use laws::{
     what_owes_nothing_stands, what_stands_owes_nothing,
 };
 pub use stop::{Stop, StopWhy};
-pub use store_laws::{histories_may_be_committed, stores_follow_histories};
+pub use store_laws::{
+    histories_may_be_committed, stores_follow_histories, stores_say_what_was_left,
+};
+pub use waiting::restore_join;

@@ -2,7 +2,7 @@
 //!
 //! A line that came whole is read where it stands. Only a line that began in an earlier piece is held.
 ghost use Rattle.std.specs.Prelude.{◌≡◌, ◌≤◌, ◌<◌, ◌+◌, ◌⊎◌, ◌^◌, ◌++◌, [], None, Ok, true, false};
-ghost use Rattle.std.specs.Prelude.{length, IfOk, OnOk, OnErr};
+ghost use Rattle.std.specs.Prelude.{ℕ, length, IfOk, IsSome, OnOk, OnErr};
 ghost use Rattle.std.specs.List.{position_or_len};
 ghost use Rattle.memchr.specs.Find.{is_byte};
 ghost use Rattle.flow_base.specs.declared.limits.Limits.{Limits};
@@ -16,10 +16,15 @@ ghost use Rattle.ingest.specs.LineRecords.{record_of};
 ghost use Rattle.ingest.specs.LineSteps.{HoldsMore, EndsUsed, EndsOther, SettlesUsed, SettlesOther};
 ghost use Rattle.ingest.specs.LineSteps.{CountsOne};
 ghost use Rattle.ingest.specs.StandsFor.{ReaderStandsFor, HasNoTail};
+ghost use Rattle.ingest.specs.StateParts.{reader_of};
+ghost use Rattle.ingest.specs.Storing.{moment_of};
+ghost use Rattle.store_check.specs.Conditions.{HasCounts, HasListed, HasTail};
+ghost use Rattle.stored.specs.Moment.{state_at};
 
-use audit_lex::{Lexed, LineCut, LineFault, Tally, lex};
+use audit_lex::{Lexed, LineCut, LineFault, Tally, lex, lines_are_counted};
 use audit_record::{Record, read_record};
-use flow_base::{Bytes, Limits, NoMemory};
+use flow_base::{Bad, Bytes, Limits, List, NoMemory};
+use row_codec::StateRow;
 use std::alloc::Global;
 use std::marker::Model;
 
@@ -65,6 +70,35 @@ impl LineReader {
         }
     }
 
+    /// The reader whose counts, tail and bytes a State says.
+    pub fn restore(alloc: Global, limits: &Limits, state: &StateRow) -> Result<LineReader, NoMemory>
+        requires counts { HasCounts state.now }
+        requires tail { HasTail limits.now.line state.now }
+        requires listed { HasListed limits.now.shown state.now }
+        requires input { state.now.taken ≤ limits.now.input }
+        ensures parts { IfOk result (λ reader. reader ≡ reader_of limits.now state.now) }
+        ensures stands { IfOk result (λ reader. (h : History) (p : ℕ)
+            → state.now ≡ state_at (moment_of limits.now h p)
+            → ReaderStandsFor limits.now reader h) }
+    {
+        lines_are_counted();
+        let tail = Bytes::from_slice(alloc, state.tail.as_slice())?;
+        let bad = copy_bad(alloc, state.bad.as_slice())?;
+        Ok(LineReader {
+            alloc,
+            limits: *limits,
+            cut: LineCut::resume(limits.line, state.lines, tail, state.long),
+            tally: Tally {
+                used: state.used,
+                other: state.other,
+                blank: state.blank,
+                malformed: state.malformed,
+                bad,
+            },
+            bytes: state.taken,
+        })
+    }
+
     /// How many bytes were taken.
     pub fn bytes(&self) -> u64
         ensures { result ≡ self.now.bytes }
@@ -89,9 +123,27 @@ impl LineReader {
 
     /// The counts of the lines.
     pub fn tally(&self) -> &Tally
-        ensures { result.now ≡ self.now.tally }
+        ensures same { result.now ≡ self.now.tally }
+        ensures counted { total result.now ≡ self.now.cut.lines }
+        ensures listed { length result.now.bad ≤ self.now.limits.shown }
     {
         &self.tally
+    }
+
+    /// The bytes of the line that has begun, unless they are too many.
+    pub fn tail(&self) -> &[u8]
+        ensures same { result.now ≡ self.now.cut.tail }
+        ensures short { length result.now ≤ self.now.limits.line }
+    {
+        self.cut.tail()
+    }
+
+    /// Whether the line that has begun has too many bytes. Then none of them is held.
+    pub fn is_long(&self) -> bool
+        ensures same { result ≡ self.now.cut.long }
+        ensures none { result ≡ true → self.now.cut.tail ≡ [] }
+    {
+        self.cut.long()
     }
 
     /// Whether no byte of a line has come.
@@ -112,6 +164,10 @@ impl LineReader {
         ensures stands { OnOk result (HoldsMore part.now self.old self.new) }
         ensures err { OnErr result (self.new ≡ self.old) }
     {
+        let _ = &self.bytes;
+        if part.is_empty() {
+            return Ok(());
+        }
         let (count, _) = self.cut.next(part)?;
         self.bytes += count as u64;
         Ok(())
@@ -125,6 +181,8 @@ impl LineReader {
             → ReaderStandsFor limits self.now h
             → r ≡ record_of limits.line (tail_of h ++ part.now)) }
         ensures nothing { HasNoTail self.now → part.now ≡ [] → result ≡ Ok None }
+        ensures two { IfOk result (λ r. IsSome r
+            → 2 ≤ length self.now.cut.tail + length part.now) }
     {
         if self.cut.long() {
             return Ok(None);
@@ -142,6 +200,7 @@ impl LineReader {
         requires room { self.old.bytes + (length part.now + 1) ≤ self.old.limits.input }
         requires no_feed { position_or_len (is_byte 10) part.now ≡ length part.now }
         requires whole { HasNoTail self.old ⊎ (part.now ≡ []) }
+        requires two { 2 ≤ length self.old.cut.tail + length part.now }
         ensures limits { self.new.limits ≡ self.old.limits }
         ensures bytes { self.new.bytes ≡ self.old.bytes + (length part.now + 1) }
         ensures lines { EndsLine self.old self.new }
@@ -171,7 +230,7 @@ impl LineReader {
 
     /// Ends a used last line, which has no line feed.
     pub fn settle_used(&mut self)
-        requires begun { HasNoTail self.old → ⊥ }
+        requires two { 2 ≤ length self.old.cut.tail }
         ensures limits { self.new.limits ≡ self.old.limits }
         ensures bytes { self.new.bytes ≡ self.old.bytes }
         ensures lines { EndsLine self.old self.new }
@@ -199,6 +258,14 @@ impl LineReader {
     }
 }
 
+/// A copy of the malformed lines.
+pub fn copy_bad(alloc: Global, bad: &[Bad]) -> Result<List<Bad>, NoMemory>
+    ensures { IfOk result (λ made. made ≡ bad.now) }
+{
+    let made = Vec::from_slice(alloc, bad)?;
+    Ok(List::from_vec(made))
+}
+
 // A cutter that has given one more line, and holds nothing.
 fn after_line(alloc: Global, cut: &LineCut, limit: usize) -> LineCut
     requires { cut.now.lines < 2 ^ 61 }
@@ -219,6 +286,8 @@ fn count_line(
     requires room { total tally.old < 2 ^ 60 }
     ensures one { OnOk result (total tally.new ≡ total tally.old + 1) }
     ensures counted { OnOk result (CountsOne limits.now cut.now part.now tally.old tally.new) }
+    ensures listed { OnOk result (length tally.old.bad ≤ limits.now.shown
+        → length tally.new.bad ≤ limits.now.shown) }
     ensures err { OnErr result (tally.new ≡ tally.old) }
 {
     let class = class_of_line(cut, part, limits.line);

@@ -1,7 +1,7 @@
 //! Replies to what is asked.
 ghost use Rattle.std.specs.Prelude.{◌≡◌, ◌<◌, ℕ, List, Option, length, IfOk, IfErr};
 ghost use Rattle.flow_base.specs.declared.types.Flow.{Flow};
-ghost use Rattle.kept_flows.specs.Answering.{AreAnswers, NeverFail, ShowsFor};
+ghost use Rattle.kept_flows.specs.Answering.{AlwaysTold, AreAnswers, NeverFail, ShowsFor};
 ghost use Rattle.ingest.specs.Asking.{FaultsHaveCauses};
 ghost use Rattle.ingest.specs.Replies.{AnswersFind, AnswersQuestion, AnswersShow};
 ghost use Rattle.ingest.specs.Replies.{AnswersWhy, SaysAnswers, SaysCounts};
@@ -12,8 +12,8 @@ ghost use Rattle.ingest.specs.declared.ask_fault.AskFault.TheVariants as fault;
 
 use crate::ask_fault::{AskFault, fault_of};
 use crate::event_flows::EventFlows;
-use crate::line_reader::LineReader;
-use flow_base::{Bad, Bytes, EntityId, List, NoMemory};
+use crate::line_reader::{LineReader, copy_bad};
+use flow_base::{Bytes, EntityId, List, NoMemory};
 use kept_flows::Way;
 use name_text::key_text;
 use reach_model::Mode;
@@ -30,8 +30,12 @@ pub fn answer_question<R: Reducer, K: Keep>(
         AnswersQuestion R.mode (length (objects_in limits events)) (flows_in limits events)
         question.now said)) }
     ensures cause { FaultsHaveCauses K.faults K.spent joined.old joined.new result }
-    ensures never { NeverFail K.faults K.spent → IfErr result (λ why. why ≡ fault.NoMemory) }
+    ensures never { NeverFail K.faults K.spent → WhereJoined joined.old (λ limits events.
+        IfErr result (λ why. why ≡ fault.NoMemory)) }
+    ensures always { NeverFail K.faults K.spent → AlwaysTold K.rows
+        → IfErr result (λ why. why ≡ fault.NoMemory) }
     ensures same { joined.new ≡ record joined.old { keep = joined.new.keep } }
+    ensures alike { K.alike joined.old.keep joined.new.keep }
 {
     if question.subject().0 >= joined.known() {
         return Ok(Reply::Unknown);
@@ -54,8 +58,12 @@ pub fn answer_why<R: Reducer, K: Keep>(
         AnswersWhy R.mode (length (objects_in limits events)) (flows_in limits events)
         from to until said)) }
     ensures cause { FaultsHaveCauses K.faults K.spent joined.old joined.new result }
-    ensures never { NeverFail K.faults K.spent → IfErr result (λ why. why ≡ fault.NoMemory) }
+    ensures never { NeverFail K.faults K.spent → WhereJoined joined.old (λ limits events.
+        IfErr result (λ why. why ≡ fault.NoMemory)) }
+    ensures always { NeverFail K.faults K.spent → AlwaysTold K.rows
+        → IfErr result (λ why. why ≡ fault.NoMemory) }
     ensures same { joined.new ≡ record joined.old { keep = joined.new.keep } }
+    ensures alike { K.alike joined.old.keep joined.new.keep }
 {
     let known = joined.known();
     if from.0 >= known || to.0 >= known {
@@ -172,12 +180,4 @@ pub fn answer_stat<R: Reducer, K: Keep>(
         used: tally.used,
         waiting: joined.waiting(),
     }))
-}
-
-// A copy of the malformed lines.
-fn copy_bad(alloc: Global, bad: &[Bad]) -> Result<List<Bad>, NoMemory>
-    ensures { IfOk result (λ made. made ≡ bad.now) }
-{
-    let made = Vec::from_slice(alloc, bad)?;
-    Ok(List::from_vec(made))
 }

@@ -1,5 +1,5 @@
 //! What a store of a history promises.
-ghost use Rattle.std.specs.Prelude.{◌≡◌, ◌⊎◌, ◌≤◌, ◌^◌, ◌++◌, ◌∷◌, [], ℕ, List};
+ghost use Rattle.std.specs.Prelude.{◌≡◌, ◌⊎◌, ◌≤◌, ◌^◌, ◌++◌, ◌∷◌, [], ℕ, List, Option};
 ghost use Rattle.flow_base.specs.declared.limits.Limits.{Limits};
 ghost use Rattle.audit_lex.specs.History.{History};
 ghost use Rattle.batch_log.specs.Batches.{IsStore, IsBeforeOrAfter};
@@ -9,6 +9,12 @@ ghost use Rattle.row_codec.specs.Payload.{IsPayload};
 ghost use Rattle.store_check.specs.Conditions.{bounds_of};
 ghost use Rattle.stored.specs.Going.{MayCommit};
 ghost use Rattle.stored.specs.Moment.{nothing};
+ghost use Rattle.flow_events.specs.declared.tables.Tables.{Tables};
+ghost use Rattle.reach_model.specs.Rows.{Row};
+ghost use Rattle.record_join.specs.StandsFor.{Joiner};
+ghost use Rattle.row_codec.specs.declared.state.StateRow.{StateRow};
+ghost use Rattle.ingest.specs.Events.{events_of, state_of};
+ghost use Rattle.ingest.specs.Rejoining.{IsLeftOf, WereLeft};
 ghost use Rattle.ingest.specs.Parts.{Engine};
 ghost use Rattle.ingest.specs.PartTaken.{StandsWith};
 ghost use Rattle.ingest.specs.StandsFor.{StandsFor};
@@ -60,3 +66,11 @@ pub fn stores_follow_histories<K: Keep>()
     histories_may_be_committed::<K>();
     commits_store();
 }
+
+/// What rows and a State say of a history was left of what it released and of what waits.
+pub fn stores_say_what_was_left()
+    ensures { (limits : Limits) (mode : Mode) (told : Option (List Row)) (join : Joiner)
+        (tables : Tables) (state : StateRow) (h : History) (part : ℕ)
+        → IsLeftOf limits mode told join tables state h part
+        → WereLeft limits mode told join tables state (state_of limits h) (events_of limits h) }
+{}

@@ -5,3 +5,6 @@ pub mod Those
 pub mod Answered
 pub mod Shown
 pub mod Recalled
+pub mod Changes
+pub mod Later
+pub mod OnlyMemory

@@ -1,12 +1,14 @@
 -- Rows that come back one by one.
-use Rattle.std.proofs.Common.{◌≡◌, ℕ, ◌<◌, ◌≤◌, ◌^◌, List, length, get_or, take, sym, ap, subst, ◌∙◌, arith}
+use Rattle.std.proofs.Common.{◌≡◌, ℕ, ◌<◌, ◌≤◌, ◌+◌, ◌^◌, List, [], ◌∷◌, ◌++◌, length, get_or, take, sym, ap, subst, ◌∙◌, arith, inl, inr}
 use Rattle.std.specs.List.{Contains}
-use Rattle.std.proofs.lemmas.List.{get_or_default, length-map, get_or-map, get_or-take, length-take-le}
+use Rattle.std.proofs.lemmas.List.{get_or_default, length-append, length-map, map-append, get_or-map, get_or-take, length-take-le}
+use Rattle.std.proofs.lemmas.List.Elements.{Contains-push_cases}
 use Rattle.flow_base.specs.declared.types.Flow.{Flow}
-use Rattle.reach_model.specs.Flows.{place}
-use Rattle.reach_model.specs.Rows.{Row, firsts}
+use Rattle.reach_model.specs.Flows.{place, source, target}
+use Rattle.reach_model.specs.Rows.{Row, firsts, lasts}
 use Rattle.reach_rows.specs.Kept.{AreRows}
 use Rattle.reach_rows.specs.Verdicts.{IsRecalled}
+use Rattle.kept_flows.specs.KeptFlows.{AreCounted}
 
 module _ (R : List Row) (are : AreRows R) (i : ℕ) (r : Row) (h : i < length R) (is : get_or R i r ≡ r) where
   all : length (take i R) ≡ i
@@ -33,3 +35,13 @@ module _ (R : List Row) (are : AreRows R) (i : ℕ) (r : Row) (h : i < length R)
     after = before;
     few = subst (λ n. n < 2 ^ 63) (sym all) few;
   }
+
+-- one more row between known objects
+pub counted_more : (S : List Row) (n o : ℕ) (r : Row) → (source r.last < o) × (target r.last < o) → AreCounted S n o → AreCounted (S ++ r ∷ []) (n + 1) o
+counted_more S n o r below are = record {
+  counted = length-append S (r ∷ []) ∙ ap (λ k. k + 1) are.counted;
+  ends = λ g c. elim (Contains-push_cases (lasts S) r.last g (subst (λ K. Contains K g) (map-append (λ (x : Row). x.last) S (r ∷ [])) c)) [
+    | inl old ↦ are.ends g old
+    | inr e ↦ subst (λ (x : Flow). (source x < o) × (target x < o)) e below
+  ];
+}

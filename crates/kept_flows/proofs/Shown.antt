@@ -1,12 +1,12 @@
 -- From a path over the rows to one over all flows.
-use Rattle.std.proofs.Common.{◌≡◌, ℕ, ◌≤◌, ◌↔◌, List, [], Option, None, Some, sym, subst, ap, ◌∙◌, arith}
+use Rattle.std.proofs.Common.{◌≡◌, ℕ, ◌↔◌, List, [], Option, None, Some, sym, subst, ap, ◌∙◌, arith}
 use Rattle.std.specs.Option.{unwrap_or}
 use Rattle.flow_base.specs.declared.types.EntityId.{EntityId}
 use Rattle.flow_base.specs.declared.types.Flow.{Flow}
 use Rattle.reach_model.specs.declared.modes.Mode.{Mode}
 use Rattle.reach_model.specs.declared.modes.Mode.TheVariants.{Plain, Continuous, Full, Source}
 use Rattle.reach_model.specs.Flows.{IsLawful}
-use Rattle.reach_model.specs.Paths.{Back, Path}
+use Rattle.reach_model.specs.Paths.{Back}
 use Rattle.reach_model.specs.Rows.{Row, Keeps, firsts}
 use Rattle.reach_model.proofs.Faithful.{kept_first}
 use Rattle.reach_model.proofs.PathLemmas.{path_weaker}

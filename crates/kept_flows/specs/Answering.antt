@@ -94,3 +94,7 @@ is_for_sources Source (Fore of since) = false
 -- no read of such rows ever fails
 abbrev pub NeverFail : {K : Type 0} → (faults : K → ℕ) → (spent : K → Type 0) → Type 0
 NeverFail {K} faults spent = (s : K) → (faults s ≡ 0) × ¬ spent s
+
+-- such rows are always observable
+abbrev pub AlwaysTold : {K : Type 0} → (rows : K → Option (List Row)) → Type 0
+AlwaysTold {K} rows = (s : K) → (R : List Row) × (rows s ≡ Some R)

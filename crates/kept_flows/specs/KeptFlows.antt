@@ -4,9 +4,10 @@ use Rattle.flow_base.specs.declared.types.Flow.{Flow}
 use Rattle.reach_model.specs.declared.modes.Mode.{Mode}
 use Rattle.reach_model.specs.Flows.{IsLawful}
 use Rattle.reach_model.specs.Numbers.{IsNumbered, known}
-use Rattle.reach_model.specs.Rows.{Row, Keeps, firsts}
+use Rattle.reach_model.specs.Rows.{Row, Keeps, firsts, lasts}
 use Rattle.query_walk.specs.declared.fault.WalkFault.{WalkFault}
 use Rattle.query_walk.specs.Fault.{IsWalk}
+use Rattle.query_walk.specs.Walks.{AreEndsBelow}
 
 -- a mode, the rows that are kept where they are told, and how many rows and objects there are
 pub record KeptFlows : Type 0 where
@@ -66,9 +67,18 @@ pub record AreTold (told : Option (List Row)) (count objects : ℕ) (R : List Ro
   pub counted : length R ≡ count
   pub objects_known : known (firsts R) ≡ objects
 
--- where rows are told, the tables of the mode are theirs
-abbrev pub AreTied : (stands holds : List Row → Type 0) → Option (List Row) → (count objects : ℕ) → Type 0
-AreTied stands holds told count objects = IfSome told (λ R. AreTold told count objects R × stands R × holds R)
+-- so many rows, whose last flows lie between so many objects
+pub record AreCounted (R : List Row) (count objects : ℕ) : Type 0 where
+  pub counted : length R ≡ count
+  pub ends : AreEndsBelow objects (lasts R)
+
+-- The tables of a mode are tied to rows, whatever these are: they hold as many rows as there are. If the rows are told, the
+-- tables are theirs.
+pub record AreTied (stands holds : List Row → Type 0) (told : Option (List Row)) (count objects : ℕ) : Type 0 where
+  pub rows : List Row
+  pub counted : AreCounted rows count objects
+  pub held : holds rows
+  pub theirs : IfSome told (λ R. AreTold told count objects R × stands R × holds R)
 
 -- the same of the tables of a reducer and the rows of a keep
 abbrev pub AreTiedTo : {M K : Type 0} → (stands holds : M → List Row → Type 0)

@@ -21,3 +21,8 @@ RestoresFrom rows faults spent old (Ok kept) =
     (faults old ≤ faults kept.keep) × (spent old → spent kept.keep)
 RestoresFrom {K} rows faults spent old (Err back) =
     IsWalkOver {T = K} rows faults spent old back.rows (Err back.fault)
+
+-- the rows of the result, or those that a refusal hands back, are like the ones that were given
+abbrev pub RestoresAlike : {K : Type 0} → (alike : K → K → Type 0) → K → Result (OverRows K) (Unrestored K) → Type 0
+RestoresAlike alike old (Ok kept) = alike old kept.keep
+RestoresAlike alike old (Err back) = alike old back.rows

@@ -1,15 +1,17 @@
 //! A reducer with its rows.
-ghost use Rattle.std.specs.Prelude.{◌≡◌, ◌<◌, ◌≤◌, ◌^◌, [], List, Some, IfOk, IfErr, OnErr, OnOk};
+ghost use Rattle.std.specs.Prelude.{◌≡◌, ◌<◌, ◌≤◌, ◌+◌, ◌^◌, [], List, length, Some};
+ghost use Rattle.std.specs.Prelude.{IfOk, IfErr, OnErr, OnOk};
 ghost use Rattle.flow_base.specs.declared.types.Flow.{Flow as AFlow};
 ghost use Rattle.reach_model.specs.Numbers.{known};
 ghost use Rattle.reach_rows.specs.Asked.{subject};
+ghost use Rattle.reach_rows.specs.Kept.{known_after};
 ghost use Rattle.query_walk.specs.declared.fault.WalkFault.TheVariants as fault;
 ghost use Rattle.reach_model.specs.Rows.{Row as ARow};
 ghost use Rattle.query_walk.specs.Walks.{SameRows};
 ghost use Rattle.kept_flows.specs.KeptFlows.{StandsFor, TakesIn, SameFaults, HasCauses, kept_of};
-ghost use Rattle.kept_flows.specs.Restoring.{StandsAgain, RestoresFrom};
-ghost use Rattle.kept_flows.specs.Taking.{MayTakeIn};
-ghost use Rattle.kept_flows.specs.Answering.{AnswersBy, NeverFail, ShowsBy};
+ghost use Rattle.kept_flows.specs.Restoring.{StandsAgain, RestoresFrom, RestoresAlike};
+ghost use Rattle.kept_flows.specs.Taking.{BringsOnly, MayTakeIn};
+ghost use Rattle.kept_flows.specs.Answering.{AlwaysTold, AnswersBy, NeverFail, ShowsBy};
 
 use crate::one_flow::take_all;
 use crate::one_path::{Way, find_way};
@@ -76,6 +78,7 @@ impl<R: Reducer, K: Keep> KeptFlows<R, K> {
         ensures never { NeverFail K.faults K.spent → (S : List ARow) → K.rows rows ≡ Some S
             → IfErr result (λ back. back.fault ≡ fault.NoMemory) }
         ensures same { IfErr result (λ back. SameRows K.rows K.count K.known rows back.rows) }
+        ensures alike { RestoresAlike K.alike rows result }
     {
         first_flows_are_kept();
         let mut reducer = reducer;
@@ -123,11 +126,19 @@ impl<R: Reducer, K: Keep> KeptFlows<R, K> {
 
     /// Takes in the flows that come next. The only error is that allocation fails, and then the kept flows are as before.
     /// Taking flows in reads no rows, so no read of them can fail.
+    ///
+    /// The kept flows need not stand for any flows, as rows that no log left don't. `taken` speaks of whatever flows they
+    /// stand for.
     pub fn take(&mut self, flows: &[Flow]) -> Result<(), NoMemory>
         requires next { MayTakeIn self.old.kept flows.now }
         ensures taken { OnOk result (TakesIn self.old.kept flows.now self.new.kept) }
+        ensures objects { OnOk result
+            (self.new.kept.objects ≡ known_after self.old.kept.objects flows.now) }
+        ensures count { self.new.kept.count ≤ self.old.kept.count + length flows.now }
+        ensures brings { BringsOnly self.old.kept.told flows.now self.new.kept.told }
         ensures same { OnErr result (self.new.kept ≡ self.old.kept) }
         ensures faults { SameFaults K.faults K.spent self.old.keep self.new.keep }
+        ensures alike { K.alike self.old.keep self.new.keep }
     {
         take_all(&mut self.reducer, &mut self.rows, flows)
     }
@@ -147,7 +158,10 @@ impl<R: Reducer, K: Keep> KeptFlows<R, K> {
         ensures cause { HasCauses K.faults K.spent self.old self.new result }
         ensures never { NeverFail K.faults K.spent → (F : List AFlow) → StandsFor self.old.kept F
             → IfErr result (λ why. why ≡ fault.NoMemory) }
+        ensures always { NeverFail K.faults K.spent → AlwaysTold K.rows
+            → IfErr result (λ why. why ≡ fault.NoMemory) }
         ensures same { self.new.kept ≡ self.old.kept }
+        ensures alike { K.alike self.old.keep self.new.keep }
     {
         answer(alloc, &self.reducer, &mut self.rows, question)
     }
@@ -167,7 +181,10 @@ impl<R: Reducer, K: Keep> KeptFlows<R, K> {
         ensures cause { HasCauses K.faults K.spent self.old self.new result }
         ensures never { NeverFail K.faults K.spent → (F : List AFlow) → StandsFor self.old.kept F
             → IfErr result (λ why. why ≡ fault.NoMemory) }
+        ensures always { NeverFail K.faults K.spent → AlwaysTold K.rows
+            → IfErr result (λ why. why ≡ fault.NoMemory) }
         ensures same { self.new.kept ≡ self.old.kept }
+        ensures alike { K.alike self.old.keep self.new.keep }
     {
         find_way(alloc, &self.reducer, &mut self.rows, from, to, until)
     }

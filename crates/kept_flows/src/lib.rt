@@ -6,12 +6,14 @@
 #![tactic(auto)]
 
 mod kept_flows;
+mod laws;
 mod one_flow;
 mod one_path;
 mod one_question;
 mod restoring;
 
 pub use kept_flows::KeptFlows;
+pub use laws::flows_that_come_next_may_be_taken;
 pub use one_path::Way;
 pub use restoring::Unrestored;
 

@@ -1,8 +1,8 @@
 //! Flows on their way from the verdict to the rows and the tables.
-ghost use Rattle.std.specs.Prelude.{◌<◌, ◌≤◌, ◌+◌, ◌^◌, ◌∷◌, List, length, OnErr, OnOk};
+ghost use Rattle.std.specs.Prelude.{◌≡◌, ◌<◌, ◌≤◌, ◌+◌, ◌^◌, ◌∷◌, List, length, OnErr, OnOk};
 ghost use Rattle.flow_base.specs.declared.types.Flow.{Flow as AFlow};
 ghost use Rattle.reach_model.specs.Rows.{Row as ARow};
-ghost use Rattle.reach_rows.specs.Kept.{GoesOn};
+ghost use Rattle.reach_rows.specs.Kept.{GoesOn, known_after};
 ghost use Rattle.query_walk.specs.Walks.{SameRows};
 ghost use Rattle.kept_flows.specs.KeptFlows.{AreTiedTo, SameFaults, TakesIn, kept_of};
 ghost use Rattle.kept_flows.specs.Taking.{
@@ -11,12 +11,14 @@ ghost use Rattle.kept_flows.specs.Taking.{
   MayTakeIn,
   MayTake,
   Takes,
+  BringsOnly,
   MayPut,
   Puts,
+  PutsSomehow,
 };
 
 use flow_base::{Flow, NoMemory};
-use reach_model::{Verdict, first_flows_are_kept};
+use reach_model::Verdict;
 use reach_rows::{Keep, Reducer, verdicts_make_the_rows};
 
 /// Takes in the flows that come next. If allocation fails the tables and the rows are as before: room for
@@ -31,14 +33,17 @@ pub fn take_all<M: Reducer, K: Keep>(
     ensures tied { AreTiedTo M.stands_for M.holds K.rows K.count K.known reducer.new rows.new }
     ensures taken { OnOk result (TakesIn (kept_of M.mode K.rows K.count K.known rows.old) flows.now
         (kept_of M.mode K.rows K.count K.known rows.new)) }
+    ensures objects { OnOk result (K.known rows.new ≡ known_after (K.known rows.old) flows.now) }
+    ensures count { K.count rows.new ≤ K.count rows.old + length flows.now }
+    ensures brings { BringsOnly (K.rows rows.old) flows.now (K.rows rows.new) }
     ensures same { OnErr result (SameRows K.rows K.count K.known rows.old rows.new) }
     ensures faults { SameFaults K.faults K.spent rows.old rows.new }
+    ensures alike { K.alike rows.old rows.new }
 {
     // Most events make no flow.
     if flows.is_empty() {
         return Ok(());
     }
-    verdicts_make_the_rows();
     make_room(reducer, rows, flows)?;
     put_all(reducer, rows, flows);
     Ok(())
@@ -56,6 +61,7 @@ fn make_room<M: Reducer, K: Keep>(
     ensures holds { (R : List ARow) → M.holds reducer.old R → M.holds reducer.new R }
     ensures same { SameRows K.rows K.count K.known rows.old rows.new }
     ensures faults { SameFaults K.faults K.spent rows.old rows.new }
+    ensures alike { K.alike rows.old rows.new }
 {
     reducer.reserve(flows)?;
     rows.reserve(flows.len())
@@ -65,13 +71,16 @@ fn make_room<M: Reducer, K: Keep>(
 fn put_all<M: Reducer, K: Keep>(reducer: &mut M, rows: &mut K, flows: &[Flow])
     requires tied { AreTiedTo M.stands_for M.holds K.rows K.count K.known reducer.old rows.old }
     requires next { MayTakeIn (kept_of M.mode K.rows K.count K.known rows.old) flows.now }
-    requires few { K.count rows.old + length flows.now < 2 ^ 63 }
     requires covers { M.covers reducer.old flows.now }
     requires room { K.has_room rows.old (length flows.now) }
     ensures tied { AreTiedTo M.stands_for M.holds K.rows K.count K.known reducer.new rows.new }
     ensures taken { TakesIn (kept_of M.mode K.rows K.count K.known rows.old) flows.now
         (kept_of M.mode K.rows K.count K.known rows.new) }
+    ensures objects { K.known rows.new ≡ known_after (K.known rows.old) flows.now }
+    ensures count { K.count rows.new ≤ K.count rows.old + length flows.now }
+    ensures brings { BringsOnly (K.rows rows.old) flows.now (K.rows rows.new) }
     ensures faults { SameFaults K.faults K.spent rows.old rows.new }
+    ensures alike { K.alike rows.old rows.new }
 {
     for flow in flows {
         put(reducer, rows, flow);
@@ -82,19 +91,18 @@ fn put_all<M: Reducer, K: Keep>(reducer: &mut M, rows: &mut K, flows: &[Flow])
 fn put<M: Reducer, K: Keep>(reducer: &mut M, rows: &mut K, flow: &Flow)
     requires tied { AreTiedTo M.stands_for M.holds K.rows K.count K.known reducer.old rows.old }
     requires next { MayTake (kept_of M.mode K.rows K.count K.known rows.old) flow.now }
-    requires few { K.count rows.old < 2 ^ 63 }
     requires covers { (rest : List AFlow) × M.covers reducer.old (flow.now ∷ rest) }
     requires room { HasRoomFor (K.has_room rows.old) 1 }
     ensures tied { AreTiedTo M.stands_for M.holds K.rows K.count K.known reducer.new rows.new }
     ensures taken { Takes (kept_of M.mode K.rows K.count K.known rows.old) flow.now
         (kept_of M.mode K.rows K.count K.known rows.new) }
-    ensures count { K.count rows.new ≤ K.count rows.old + 1 }
+    ensures puts { PutsSomehow K.rows K.count K.known rows.old flow.now rows.new }
     ensures covers { (rest : List AFlow) → M.covers reducer.old (flow.now ∷ rest)
         → M.covers reducer.new rest }
     ensures room { UsesRoom (K.has_room rows.old) (K.has_room rows.new) }
     ensures faults { SameFaults K.faults K.spent rows.old rows.new }
+    ensures alike { K.alike rows.old rows.new }
 {
-    first_flows_are_kept();
     verdicts_make_the_rows();
     let verdict = reducer.decide(flow);
     put_row(rows, flow, verdict);
@@ -105,11 +113,11 @@ fn put<M: Reducer, K: Keep>(reducer: &mut M, rows: &mut K, flow: &Flow)
 fn put_row<K: Keep>(rows: &mut K, flow: &Flow, verdict: Verdict)
     requires room { HasRoomFor (K.has_room rows.old) 1 }
     requires goes_on { GoesOn (K.known rows.old) flow.now }
-    requires rows { MayPut K.rows K.count K.known rows.old flow.now verdict }
-    ensures rows { Puts K.rows K.count K.known rows.old flow.now verdict rows.new }
-    ensures count { K.count rows.new ≤ K.count rows.old + 1 }
+    requires puts { MayPut K.rows K.count K.known rows.old flow.now verdict }
+    ensures puts { Puts K.rows K.count K.known rows.old flow.now verdict rows.new }
     ensures room { UsesRoom (K.has_room rows.old) (K.has_room rows.new) }
     ensures faults { SameFaults K.faults K.spent rows.old rows.new }
+    ensures alike { K.alike rows.old rows.new }
 {
     match verdict {
         Verdict::Drop => {}

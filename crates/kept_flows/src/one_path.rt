@@ -35,6 +35,7 @@ pub fn find_way<M: Reducer, W: Rows>(
     ensures exact { IfOk result (λ way. ShowsOver M.mode (W.rows rows.old) from.0 to.0 until way) }
     ensures cause { IsWalkOver W.rows W.faults W.spent rows.old rows.new result }
     ensures same { SameRows W.rows W.count W.known rows.old rows.new }
+    ensures alike { W.alike rows.old rows.new }
 {
     first_flows_are_told();
     what_is_allowed_is_answerable();

@@ -35,6 +35,7 @@ pub fn answer<M: Reducer, W: Rows>(
     ensures exact { IfOk result (λ found. AnswersOver M.mode (W.rows rows.old) question.now found) }
     ensures cause { IsWalkOver W.rows W.faults W.spent rows.old rows.new result }
     ensures same { SameRows W.rows W.count W.known rows.old rows.new }
+    ensures alike { W.alike rows.old rows.new }
 {
     first_flows_are_kept();
     first_flows_are_told();
@@ -61,6 +62,7 @@ fn found<W: Rows>(
         AreFound mode R question.now ids)) }
     ensures cause { IsWalkOver W.rows W.faults W.spent rows.old rows.new result }
     ensures same { SameRows W.rows W.count W.known rows.old rows.new }
+    ensures alike { W.alike rows.old rows.new }
 {
     let ids = walk(alloc, rows, question)?;
     let those = chosen(alloc, mode, rows, question, ids)?;
@@ -79,6 +81,7 @@ fn walk<W: Rows>(
         AreAllFound R question.now ids)) }
     ensures cause { IsWalkOver W.rows W.faults W.spent rows.old rows.new result }
     ensures same { SameRows W.rows W.count W.known rows.old rows.new }
+    ensures alike { W.alike rows.old rows.new }
 {
     match *question {
         Question::Back { of, until } => backward(alloc, rows, of, until),

@@ -23,6 +23,7 @@ pub fn recall_all<M: Reducer, W: Rows>(reducer: &mut M, rows: &mut W) -> Result<
         (AreTiedTo M.stands_for M.holds W.rows W.count W.known reducer.new rows.new) }
     ensures cause { IsWalkOver W.rows W.faults W.spent rows.old rows.new result }
     ensures same { SameRows W.rows W.count W.known rows.old rows.new }
+    ensures alike { W.alike rows.old rows.new }
 {
     let _ = rows.known();
     for index in 0..rows.count() {

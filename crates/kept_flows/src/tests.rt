@@ -2,6 +2,7 @@ ghost use Rattle.std.specs.Prelude.{[], IfOk, IfSome};
 ghost use Rattle.reach_model.specs.Numbers.{IsLawfulWith};
 
 use crate::kept_flows::KeptFlows;
+use crate::laws::flows_that_come_next_may_be_taken;
 use crate::one_path::Way;
 use flow_base::{EntityId, Flow, How, List, NoMemory, Stamp};
 use reach_model::{Mode, lawful_flows_grow};
@@ -53,6 +54,7 @@ where
     requires holds { R.holds reducer [] }
     requires lawful { IsLawfulWith count flows.now }
 {
+    flows_that_come_next_may_be_taken();
     let mut kept = KeptFlows::new(reducer, VecRows::new(alloc));
     kept.take(flows)?;
     Ok(kept)

@@ -32,6 +32,7 @@ pub fn path<W: Rows>(
     ensures itself { IfOk result (λ found. from.0 ≡ to.0 → found ≡ Some []) }
     ensures same { SameRows W.rows W.count W.known rows.old rows.new }
     ensures cause { IsWalkOver W.rows W.faults W.spent rows.old rows.new result }
+    ensures alike { W.alike rows.old rows.new }
 {
     if from.0 == to.0 {
         return Ok(Some(List::new(alloc)));
@@ -63,6 +64,7 @@ fn find_back<W: Rows>(
     ensures exact { IfOk result (IsAllFound (W.rows rows.old) (W.known rows.old) of.0 until) }
     ensures same { SameRows W.rows W.count W.known rows.old rows.new }
     ensures cause { IsWalkOver W.rows W.faults W.spent rows.old rows.new result }
+    ensures alike { W.alike rows.old rows.new }
 {
     let mut found = Found {
         marks: only(alloc, of, rows.known())?,

@@ -1,5 +1,5 @@
 -- Lists of rows, and how the code's rows are read as such.
-use Rattle.std.specs.Prelude.{◌≡◌, ◌≢◌, ℕ, suc, ◌<◌, ◌≤◌, ◌^◌, max, List, length, take, slice_index_or, Option, Some, None, ◌==◌}
+use Rattle.std.specs.Prelude.{◌≡◌, ◌≢◌, ℕ, suc, ◌<◌, ◌≤◌, ◌^◌, max, List, [], ◌∷◌, length, take, slice_index_or, Option, Some, None, ◌==◌, ⊤}
 use Rattle.std.specs.List.{Contains}
 use Rattle.flow_base.specs.declared.types.Flow.{Flow}
 use Rattle.reach_model.specs.Flows.{source, target, time, place}
@@ -72,3 +72,13 @@ pub record GoesOn (count : ℕ) (f : Flow) : Type 0 where
   pub source_known_or_next : source f ≤ count
   pub target_known_or_next : target f ≤ max count (suc (source f))
   pub few : beyond f < 2 ^ 32
+
+-- each of these flows goes on with the numbering that those before it leave
+abbrev pub GoOn : ℕ → List Flow → Type 0
+GoOn count [] = ⊤
+GoOn count (f ∷ more) = GoesOn count f × GoOn (max count (beyond f)) more
+
+-- how many objects are known after these flows, where so many were known before them
+abbrev pub known_after : ℕ → List Flow → ℕ
+known_after count [] = count
+known_after count (f ∷ more) = known_after (max count (beyond f)) more

@@ -5,3 +5,4 @@ pub mod Asked
 pub mod Verdicts
 pub mod Objects
 pub mod InMemory
+pub mod Alike

@@ -18,6 +18,7 @@ pub use laws::{
     first_flows_are_told, verdicts_make_the_rows, what_is_allowed_is_answerable,
     what_is_allowed_is_answered,
 };
+pub use objects::{Object, enter, last_from_of, last_into_of, leave};
 pub use plain::Plain;
 pub use questions::{First, Question, starts_by};
 pub use reducer::Reducer;

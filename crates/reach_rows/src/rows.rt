@@ -5,6 +5,7 @@ ghost use Rattle.reach_model.specs.declared.modes.Verdict.TheVariants as Verdict
 ghost use Rattle.reach_model.specs.Numbers.{known as known_of, beyond};
 ghost use Rattle.reach_model.specs.Rows.{Row as ARow, firsts, row_of, rows_after, SamePair};
 ghost use Rattle.reach_rows.specs.Kept.{AreRows, IsRowAt, IsFirstOf, IsLastOf, Enters, Leaves, ComesAfter, GoesOn, row_of_kept};
+ghost use Rattle.reach_rows.specs.Alike.{GoesAlong};
 ghost use Rattle.reach_rows.specs.Reading.{IsReading};
 
 use crate::questions::First;
@@ -69,6 +70,10 @@ pub trait Rows {
     /// The count of faults stands at its end.
     ghost spent: { Self → Type 0 };
 
+    /// Two states differ at most in the rows, the room for more of them, and the count of faults. Whatever else the
+    /// object holds, such as the rows that a disk has of it, stays.
+    ghost alike: { Self → Self → Type 0 };
+
     /// How many rows there are.
     fn count(&self) -> u64
         ensures count { result ≡ count self.now }
@@ -101,7 +106,10 @@ pub trait Rows {
         ensures exact { IfOk result (λ row. IfSome (rows self.old) (λ R. IsRowAt R index row)) }
         ensures ends { IfOk result (λ row. (row.from.0 < known self.old) × (row.to.0 < known self.old)) }
         ensures same { (rows self.new ≡ rows self.old) × (count self.new ≡ count self.old) × (known self.new ≡ known self.old) }
-        ensures cause { IsReading (rows self.old) (faults self.old) (faults self.new) (spent self.old) (spent self.new) result };
+        ensures cause { IsReading (rows self.old) (faults self.old) (faults self.new) (spent self.old) (spent self.new) result }
+        ensures alike { alike self.old self.new };
+
+    ghost goes_along: { GoesAlong alike };
 }
 
 /// Rows that grow.
@@ -113,7 +121,8 @@ pub trait Keep: Rows {
     fn reserve(&mut self, flows: usize) -> Result<(), NoMemory>
         ensures room { OnOk result (has_room self.new flows) }
         ensures same { (Self.rows self.new ≡ Self.rows self.old) × (Self.count self.new ≡ Self.count self.old) × (Self.known self.new ≡ Self.known self.old) }
-        ensures faults { (Self.faults self.new ≡ Self.faults self.old) × (Self.spent self.old ↔ Self.spent self.new) };
+        ensures faults { (Self.faults self.new ≡ Self.faults self.old) × (Self.spent self.old ↔ Self.spent self.new) }
+        ensures alike { Self.alike self.old self.new };
 
     /// Puts a row last whose first and last flow are this one.
     fn add(&mut self, flow: &Flow)
@@ -124,7 +133,8 @@ pub trait Keep: Rows {
         ensures count { Self.count self.new ≡ Self.count self.old + 1 }
         ensures known { Self.known self.new ≡ max (Self.known self.old) (beyond flow.now) }
         ensures room { (n : ℕ) → has_room self.old (n + 1) → has_room self.new n }
-        ensures faults { (Self.faults self.new ≡ Self.faults self.old) × (Self.spent self.old ↔ Self.spent self.new) };
+        ensures faults { (Self.faults self.new ≡ Self.faults self.old) × (Self.spent self.old ↔ Self.spent self.new) }
+        ensures alike { Self.alike self.old self.new };
 
     /// Makes a flow the last one of a row with its two ends.
     fn extend(&mut self, row: u64, flow: &Flow)
@@ -135,5 +145,6 @@ pub trait Keep: Rows {
         ensures rows { Self.rows self.new ≡ option_map (λ R. rows_after R flow.now (Verdict.Extend row)) (Self.rows self.old) }
         ensures same { (Self.count self.new ≡ Self.count self.old) × (Self.known self.new ≡ Self.known self.old) }
         ensures room { (n : ℕ) → has_room self.old (n + 1) → has_room self.new n }
-        ensures faults { (Self.faults self.new ≡ Self.faults self.old) × (Self.spent self.old ↔ Self.spent self.new) };
+        ensures faults { (Self.faults self.new ≡ Self.faults self.old) × (Self.spent self.old ↔ Self.spent self.new) }
+        ensures alike { Self.alike self.old self.new };
 }

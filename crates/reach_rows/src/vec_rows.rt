@@ -1,7 +1,8 @@
 //! Rows in memory.
-ghost use Rattle.std.specs.Prelude.{◌≡◌, ◌-◌, ◌<◌, [], Some, map, length, vec_len, vec_capacity};
+ghost use Rattle.std.specs.Prelude.{◌≡◌, ◌-◌, ◌<◌, ⊤, [], Some, map, length, vec_len, vec_capacity};
 ghost use Rattle.reach_model.specs.Numbers.{known};
 ghost use Rattle.reach_model.specs.Rows.{firsts};
+ghost use Rattle.reach_rows.specs.Alike.{all_alike};
 ghost use Rattle.reach_rows.specs.Kept.{row_of_kept};
 ghost use Rattle.reach_rows.specs.InMemory.{InMemory, HasRoom, AreKept};
 
@@ -54,6 +55,8 @@ impl Rows for VecRows {
 
     ghost spent = { λ _. ⊥ };
 
+    ghost alike = { λ _ _. ⊤ };
+
     fn count(&self) -> u64 {
         self.rows.len() as u64
     }
@@ -77,6 +80,8 @@ impl Rows for VecRows {
     fn row(&mut self, index: u64) -> Result<Row, RowFault> {
         Ok(self.rows[index as usize])
     }
+
+    ghost goes_along = { all_alike };
 }
 
 impl Keep for VecRows {

@@ -1,15 +1,11 @@
 -- Extend rows, from the earlier last marks that are listed.
-use Rattle.std.proofs.Common.{◌≡◌, ◌≢◌, ◌==◌, ◌∙◌, ℕ, zero, suc, ◌+◌, ◌<◌, ◌≤◌, Bool, true, false, if◌then◌else◌, List, [], ◌∷◌, ◌++◌, length, get_or, take, drop, map, Option, Some, None, refl, sym, ap, subst, arith}
+use Rattle.std.proofs.Common.{◌≡◌, ◌≢◌, ◌==◌, ◌∙◌, ℕ, zero, suc, ◌+◌, ◌<◌, ◌≤◌, Bool, true, false, if◌then◌else◌, List, [], ◌∷◌, ◌++◌, length, take, drop, map, Option, Some, None, refl, sym, ap, subst, arith}
 use Rattle.std.proofs.lemmas.Bool.{eq-eqb}
-use Rattle.std.proofs.lemmas.List.{append-nil, append_assoc, take-append-drop, map-append, get_or-map, length-map, length-take-le}
-use Rattle.std.proofs.Math.Seq.{take-suc}
+use Rattle.std.proofs.lemmas.List.{take-append-drop, map-append, length-take-le}
 use Rattle.flow_base.specs.declared.types.Flow.{Flow}
 use Rattle.reach_model.specs.Rows.{Row, row_of}
 use Rattle.reach_rows.specs.declared.rows.Mark.{Mark}
-use Rattle.reach_rows.specs.declared.rows.Row.{Row as KeptRow}
-use Rattle.reach_rows.specs.Kept.{row_of_kept}
 use Rattle.row_codec.specs.declared.rows.ExtendRow.{ExtendRow}
-use Rattle.row_codec.specs.declared.rows.StoreRow.{StoreRow}
 use Rattle.row_codec.specs.declared.rows.StoreRow.TheVariants.{Extend}
 use Rattle.store_check.specs.Store.{changed_at, extended}
 use Rattle.stored.specs.Batch.{mark_of, extends_from, fresh}
@@ -18,7 +14,7 @@ use Rattle.reduced_store.proofs.HeldLemmas.{changed_length}
 use Rattle.reduced_store.proofs.SavedLemmas.{put_back_length, put_back_append}
 
 -- the Extend row of one row
-abbrev one_extend : ℕ → Row → Row → List ExtendRow
+abbrev pub one_extend : ℕ → Row → Row → List ExtendRow
 one_extend i q r = if q.last.at.place == r.last.at.place then [] else record { row = i; mark = mark_of r.last } ∷ []
 
 -- what an if leaves, as rows of a store
@@ -26,26 +22,9 @@ mapped_if : (b : Bool) (e : ExtendRow) → map Extend (if b then [] else e ∷ [
 mapped_if true e = refl
 mapped_if false e = refl
 
-one_listed : (m : Option Mark) (i : ℕ) (r : Row) → map Extend (one_extend i (with_mark m r) r) ≡ extend_if m i (mark_of r.last)
+pub one_listed : (m : Option Mark) (i : ℕ) (r : Row) → map Extend (one_extend i (with_mark m r) r) ≡ extend_if m i (mark_of r.last)
 one_listed None i r = ap (λ b. map Extend (if b then [] else record { row = i; mark = mark_of r.last } ∷ [])) (eq-eqb r.last.at.place r.last.at.place refl)
 one_listed (Some was) i r = mapped_if (was.at.place == r.last.at.place) (record { row = i; mark = mark_of r.last })
-
-extends_push : (find : ℕ → Option Mark) (k j : ℕ) (R : List Row) (r : Row) → j ≡ k + length R
-    → extends_from k (put_back find k (R ++ r ∷ [])) (R ++ r ∷ []) ≡ extends_from k (put_back find k R) R ++ one_extend j (with_mark (find j) r) r
-extends_push find k j [] r at =
-    let same : k ≡ j = omega (arith, at) in
-    append-nil (one_extend k (with_mark (find k) r) r) ∙ ap (λ (n : ℕ). one_extend n (with_mark (find n) r) r) same
-extends_push find k j (q ∷ R) r at =
-    ap (λ (xs : List ExtendRow). one_extend k (with_mark (find k) q) q ++ xs) (extends_push find (suc k) j R r (omega (arith, at)))
-    ∙ sym (append_assoc (one_extend k (with_mark (find k) q) q) (extends_from (suc k) (put_back find (suc k) R) R) (one_extend j (with_mark (find j) r) r))
-
--- one row more
-pub extends_next : (find : ℕ → Option Mark) (j : ℕ) (R : List Row) (r : Row) → j ≡ length R
-    → map Extend (extends_from 0 (put_back find 0 (R ++ r ∷ [])) (R ++ r ∷ [])) ≡ map Extend (extends_from 0 (put_back find 0 R) R) ++ extend_if (find j) j (mark_of r.last)
-extends_next find j R r at =
-    ap (map Extend) (extends_push find 0 j R r (omega (arith, at)))
-    ∙ map-append Extend (extends_from 0 (put_back find 0 R) R) (one_extend j (with_mark (find j) r) r)
-    ∙ ap (λ (xs : List StoreRow). map Extend (extends_from 0 (put_back find 0 R) R) ++ xs) (one_listed (find j) j r)
 
 -- the rows of the last commit, and the new ones as they were at first
 pub since_all : (count : ℕ) (find : ℕ → Option Mark) (R : List Row) → IsSince count find R
@@ -114,15 +93,3 @@ since_extended count find found R i mark is within others back =
       fresh_are = ap (drop count) back ∙ is.fresh_are ∙ sym (fresh_same i count mark R);
       listed = λ n h. others n (λ e. absurd (omega (arith, e, h, long, within))) ∙ is.listed n (omega (arith, h, long));
     }
-
--- the rows of the code up to one more
-pub extends_step : (find : ℕ → Option Mark) (rows : List KeptRow) (i : ℕ) (d : KeptRow) → i < length rows
-    → extends_over find (take i (map row_of_kept rows)) ++ extend_if (find i) i (get_or rows i d).last ≡ extends_over find (take (i + 1) (map row_of_kept rows))
-extends_step find rows i d h =
-    let R = map row_of_kept rows in
-    let r = get_or rows i d in
-    let long : length R ≡ length rows = length-map rows row_of_kept in
-    let within : i < length R = omega (arith, h, long) in
-    let one_more : take (suc i) R ≡ take i R ++ row_of_kept r ∷ [] = take-suc R i (row_of_kept d) within ∙ ap (λ (x : Row). take i R ++ x ∷ []) (get_or-map row_of_kept rows i d (row_of_kept d) h) in
-    let at : i ≡ length (take i R) = sym (length-take-le i R (omega (arith, within))) in
-    sym (ap (λ (n : ℕ). extends_over find (take n R)) (let e : i + 1 ≡ suc i = omega arith in e) ∙ ap (extends_over find) one_more ∙ extends_next find i (take i R) (row_of_kept r) at)

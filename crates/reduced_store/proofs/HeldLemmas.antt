@@ -15,9 +15,9 @@ use Rattle.reach_rows.specs.declared.rows.Row.{Row as KeptRow}
 use Rattle.reach_rows.proofs.RowLemmas.{row_ends}
 use Rattle.store_check.specs.Store.{changed_at, extended}
 use Rattle.store_check.proofs.Growing.{firsts_same}
-use Rattle.reduced_store.specs.Objects.{AreObjects}
+use Rattle.reach_rows.specs.Objects.{AreObjects}
 use Rattle.reduced_store.specs.Held.{AreHeld, told_if}
-use Rattle.reduced_store.specs.declared.objects.Object.{Object}
+use Rattle.reach_rows.specs.declared.objects.Object.{Object}
 
 -- a row of the code takes a mark
 pub changed_rows : (rows : List KeptRow) (i : ℕ) (before : KeptRow) (mark : Mark) → before ≡ get_or rows i before

@@ -1,4 +1,3 @@
-pub mod ObjectLemmas
 pub mod HeldLemmas
 pub mod FillLemmas
 pub mod PickLemmas
@@ -8,3 +7,6 @@ pub mod StoreLemmas
 pub mod SavedLemmas
 pub mod NewLemmas
 pub mod ExtendLemmas
+pub mod ListedLemmas
+pub mod SpellingLemmas
+pub mod CommitLemmas

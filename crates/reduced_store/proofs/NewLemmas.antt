@@ -17,7 +17,7 @@ use Rattle.store_check.specs.Store.{last_index, one_later}
 use Rattle.stored.specs.Batch.{kept_row, kept_from}
 use Rattle.reduced_store.specs.Held.{AreHeld}
 use Rattle.reduced_store.specs.Saving.{as_kept, with_mark, put_back, kept_after}
-use Rattle.reduced_store.specs.declared.objects.Object.{Object}
+use Rattle.reach_rows.specs.declared.objects.Object.{Object}
 
 -- the last flow that passes a test is where it is
 module _ (p : Flow → Bool) (P : Flow → Type 0) (yes : (g : Flow) → P g → p g ≡ true) (no : (g : Flow) → ¬ P g → p g ≡ false) where

@@ -3,11 +3,13 @@ use Rattle.std.proofs.Common.{◌≡◌, ◌∙◌, sym, ap, subst, ℕ, List, O
 use Rattle.std.specs.Result.{IfOk, IfErr}
 use Rattle.flow_base.specs.declared.limits.Limits.{Limits}
 use Rattle.reach_model.specs.declared.modes.Mode.{Mode}
-use Rattle.batch_log.specs.Log.{Log}
+use Rattle.outside.specs.Disk.{DiskState, OnlyLooks}
+use Rattle.batch_log.specs.Batches.{HasBatches}
+use Rattle.batch_log.specs.Log.{Log, LogHas, log_of}
 use Rattle.store_check.specs.Conditions.{Bounds}
-use Rattle.reduced_store.specs.Opening.{IsStoreRead}
+use Rattle.reduced_store.specs.Opening.{BeginsLast, IsStoreRead}
 use Rattle.reduced_store.specs.Reading.{IsFound}
-use Rattle.reduced_store.specs.Stores.{found_of, IsOpenedOver, Agree, Differ, IsWrong, IsOfWrongMode}
+use Rattle.reduced_store.specs.Stores.{disk_after, found_of, IsOpenedOver, Agree, Differ, IsWrong, IsOfWrongMode}
 use Rattle.reduced_store.specs.declared.reading.Found.{Found}
 use Rattle.reduced_store.specs.declared.opened.OpenFault.{OpenFault}
 use Rattle.reduced_store.specs.declared.opened.OpenFault.TheVariants.{StoreFault, BadStore, WrongMode, NoMemory}
@@ -26,6 +28,11 @@ asked_in d StoreFault = d
 asked_in d (BadStore place) = d
 asked_in d (WrongMode m n) = n
 asked_in d NoMemory = d
+
+pub opened_last : {D : Type 0} (limits : Limits) (bytes : List ℕ) (last : Option ℕ) (result : Result (Opened D) (Unopened D)) → IfOk result (λ opened. opened.last ≡ last)
+    → BeginsLast limits bytes last → IfOk result (λ opened. BeginsLast limits bytes opened.last)
+opened_last limits bytes last (Ok opened) is begins = subst (BeginsLast limits bytes) (sym is) begins
+opened_last limits bytes last (Err back) is begins = is
 
 module _ {D : Type 0} (log : Log) (found : Found) where
   -- an opened store, made of what was read
@@ -61,3 +68,13 @@ module _ {D : Type 0} (log : Log) (found : Found) where
         is = read;
         differ = subst (λ x. Differ found.mode asked x want) (ap (kept_in m) one) (subst (λ x. Differ found.mode asked m x) (ap (asked_in n) one) wrong.3);
       }
+
+  -- an opened store has its disk's batches
+  pub opened_stands : (state : D → DiskState) (limits : Limits) (before after : D) (result : Result (Opened D) (Unopened D)) → (state before).told → IfOk result IsMade
+      → IsStoreRead limits (state before).reads (log, found) → log ≡ log_of limits log.last → OnlyLooks (state before) (state after) → disk_after result ≡ after
+      → IfOk result (λ opened. (payloads : List (List ℕ)) × LogHas opened.store.log payloads (state opened.store.disk).reads)
+  opened_stands state limits before after (Ok opened) told made read log_is looks is =
+      let has : LogHas log read.0 (state before).reads = subst (λ (n : ℕ). HasBatches n read.0 log.last (state before).reads) (sym (ap (λ (l : Log). l.most) log_is)) read.1 in
+      let now = subst (LogHas log read.0) (sym (looks.same told)) has in
+      (read.0, subst (λ d. LogHas opened.store.log read.0 (state d).reads) (sym is) (subst (λ l. LogHas l read.0 (state after).reads) (sym made.0) now))
+  opened_stands state limits before after (Err back) told made read log_is looks is = made

@@ -1,11 +1,13 @@
 -- The rows of a store, as contracts see them.
+use Rattle.std.proofs.Common.{◌∙◌, refl}
 use Rattle.std.specs.Prelude.{◌≡◌, ℕ, ◌*◌, ◌<◌, ◌≤◌, ◌^◌, Bool, true, false, List, length, map, take, slice_index_or, Option, Some, None}
 use Rattle.reach_model.specs.Rows.{Row, firsts}
 use Rattle.reach_rows.specs.Kept.{AreRows, row_of_kept}
 use Rattle.reach_rows.specs.InMemory.{HasLinks}
 use Rattle.reach_rows.specs.declared.rows.Row.{Row as KeptRow}
-use Rattle.reduced_store.specs.Objects.{AreObjects}
-use Rattle.reduced_store.specs.declared.objects.Object.{Object}
+use Rattle.reach_rows.specs.Alike.{GoesAlong}
+use Rattle.reach_rows.specs.Objects.{AreObjects}
+use Rattle.reach_rows.specs.declared.objects.Object.{Object}
 
 -- the rows, whether they are lawful, and room for so many more of them and for so many more objects
 pub record Held : Type 0 where
@@ -30,3 +32,10 @@ pub record AreHeld (lawful : Bool) (rows : List KeptRow) (objects : List Object)
   pub links : (i : ℕ) (d : KeptRow) → i < length rows → HasLinks (take i (firsts (map row_of_kept rows))) (slice_index_or rows i d)
   pub known : AreObjects (firsts (map row_of_kept rows)) objects
   pub few : length objects < 2 ^ 32
+
+-- they are lawful as before, or as little
+abbrev pub SameLaw : Held → Held → Type 0
+SameLaw old new = new.lawful ≡ old.lawful
+
+pub laws_go_along : GoesAlong SameLaw
+laws_go_along = record { same = λ s. refl; next = λ a b c ab bc. bc ∙ ab }

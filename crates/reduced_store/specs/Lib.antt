@@ -1,4 +1,3 @@
-pub mod Objects
 pub mod Held
 pub mod Filling
 pub mod Reading
@@ -6,3 +5,4 @@ pub mod Opening
 pub mod Saving
 pub mod OnDisk
 pub mod Stores
+pub mod Committing

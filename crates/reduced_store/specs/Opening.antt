@@ -1,5 +1,6 @@
 -- What opening a disk finds.
-use Rattle.std.specs.Prelude.{◌≡◌, ◌⊎◌, ℕ, suc, ◌<◌, List, length, take, slice_index_or}
+use Rattle.std.specs.Prelude.{◌≡◌, ◌⊎◌, ℕ, suc, ◌-◌, ◌<◌, List, length, take, slice_get, slice_index_or, Option}
+use Rattle.std.specs.Option.{option_map}
 use Rattle.std.specs.List.{AllZip}
 use Rattle.flow_base.specs.declared.limits.Limits.{Limits}
 use Rattle.reach_model.specs.declared.modes.Mode.{Mode}
@@ -24,6 +25,14 @@ pub record StopsAt (bounds : Bounds) (listed : List Batch) (payloads : List (Lis
   pub at : (d : Batch) → place ≡ (slice_index_or listed index d).gate
   pub store : (mode : Mode) × (batches : List (List StoreRow)) × IsRead bounds mode batches (take index payloads)
   pub none : AreNoStore bounds (take (suc index) payloads)
+
+-- the place of the last batch's gate, if there is a batch
+abbrev pub last_gate : List Batch → Option ℕ
+last_gate listed = option_map (λ batch. batch.gate) (slice_get listed (length listed - 1))
+
+-- the bytes are a store whose last batch, if it has one, begins at this place
+abbrev pub BeginsLast : Limits → List ℕ → Option ℕ → Type 0
+BeginsLast limits bytes place = (payloads : List (List ℕ)) × IsStore limits.payload payloads bytes × (place ≡ last_gate (places 0 payloads))
 
 -- a log of these bytes' batches, and what the store of their payloads holds
 abbrev pub IsStoreRead : Limits → List ℕ → (Log × Found) → Type 0

@@ -1,5 +1,6 @@
 -- What a store remembers of its rows as the last commit left them.
-use Rattle.std.specs.Prelude.{◌≡◌, ◌==◌, ℕ, ◌≤◌, if◌then◌else◌, length, suc, List, [], ◌∷◌, Option, Some, None, nat_eq, map, take, drop}
+use Rattle.std.specs.Prelude.{◌≡◌, ◌==◌, ℕ, ◌<◌, ◌≤◌, if◌then◌else◌, length, suc, List, [], ◌∷◌, Option, Some, None, nat_eq, is_some, map, take, drop}
+use Rattle.std.specs.List.{list_any}
 use Rattle.std.specs.Map.{lookup}
 use Rattle.reach_model.specs.Rows.{Row, firsts}
 use Rattle.reach_rows.specs.declared.rows.Mark.{Mark}
@@ -7,7 +8,7 @@ use Rattle.reach_rows.specs.declared.rows.Row.{Row as KeptRow}
 use Rattle.row_codec.specs.declared.rows.StoreRow.{StoreRow}
 use Rattle.row_codec.specs.declared.rows.StoreRow.TheVariants.{Kept, Extend}
 use Rattle.store_check.specs.Store.{extended}
-use Rattle.stored.specs.Batch.{kept_from, extends_from, fresh}
+use Rattle.stored.specs.Batch.{Ascends, kept_from, extends_from, fresh}
 
 -- the earlier last marks of some rows, each with its row's index, and room for so many more
 pub record Listed : Type 0 where
@@ -17,6 +18,11 @@ pub record Listed : Type 0 where
 -- the earlier last mark of a row, if it is listed
 abbrev pub mark_at : List (ℕ × Mark) → ℕ → Option Mark
 mark_at listed i = lookup (nat_eq i) listed
+
+-- these rows are those of which an earlier last mark is listed, ascending
+pub record AreListed (find : ℕ → Option Mark) (rows : List ℕ) : Type 0 where
+  pub ascend : Ascends (λ i j. i < j) rows
+  pub each : (i : ℕ) → list_any (nat_eq i) rows ≡ is_some (find i)
 
 -- a row with an earlier last mark, if there is one
 abbrev pub with_mark : Option Mark → Row → Row

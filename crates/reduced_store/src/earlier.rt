@@ -1,6 +1,7 @@
 //! The last marks that rows had at the last commit.
 ghost use Rattle.std.specs.Prelude.{◌≡◌, ◌≢◌, ◌≤◌, ◌+◌, ℕ, Some, None, unwrap_or, OnOk};
-ghost use Rattle.reduced_store.specs.Saving.{mark_at};
+ghost use Rattle.std.specs.Prelude.{IfOk};
+ghost use Rattle.reduced_store.specs.Saving.{mark_at, AreListed};
 
 use flow_base::NoMemory;
 use indexmap::IndexMap;
@@ -48,6 +49,15 @@ impl Earlier {
         ensures { result ≡ mark_at self.now.all row }
     {
         self.marks.get(&row).copied()
+    }
+
+    /// The rows that are listed, ascending.
+    pub fn rows(&self, alloc: Global) -> Result<Vec<u64>, NoMemory>
+        ensures { IfOk result (λ rows. AreListed (mark_at self.now.all) rows.items) }
+    {
+        let mut rows = Vec::from_slice(alloc, self.marks.keys().as_slice())?;
+        rows.sort()?;
+        Ok(rows)
     }
 
     /// Lists a row with its last mark, unless it is listed already.

@@ -1,12 +1,13 @@
 //! New rows, as rows of a batch.
-ghost use Rattle.std.specs.Prelude.{◌≡◌, ◌++◌, map, IfOk, OnOk};
+ghost use Rattle.std.specs.Prelude.{◌≡◌, ◌<◌, ◌≤◌, ◌++◌, ℕ, None, map, length, slice_index_or, IfOk, OnOk};
+ghost use Rattle.reach_rows.specs.declared.rows.Row.{Row as ARow};
 ghost use Rattle.reduced_store.specs.Saving.{as_kept, extend_if, extends_over, mark_at};
 ghost use Rattle.reach_rows.specs.Kept.{row_of_kept};
 ghost use Rattle.row_codec.specs.declared.rows.StoreRow.TheVariants.{Kept};
 
 use crate::earlier::Earlier;
 use flow_base::{List, NoMemory};
-use reach_rows::{Mark, Row};
+use reach_rows::Row;
 use row_codec::{ExtendRow, KeptRow, StoreRow};
 use std::alloc::Global;
 
@@ -27,26 +28,30 @@ pub fn extend_rows(
     rows: &[Row],
     earlier: &Earlier,
 ) -> Result<List<StoreRow>, NoMemory>
+    requires { (i : ℕ) → length rows.now ≤ i → mark_at earlier.now.all i ≡ None }
     ensures { IfOk result (λ extends. extends ≡ extends_over
         (mark_at earlier.now.all) (map row_of_kept rows.now)) }
 {
+    let listed = earlier.rows(alloc)?;
     let mut extends = List::new(alloc);
-    for index in 0..rows.len() {
-        put_extend(&mut extends, earlier, index as u64, rows[index].last)?;
+    for row in &listed {
+        put_extend(&mut extends, rows, earlier, *row)?;
     }
     Ok(extends)
 }
 
-// Puts an Extend row last for a row with this last mark, if it needs one.
+// Puts an Extend row last for a row, if it needs one.
 fn put_extend(
     to: &mut List<StoreRow>,
+    rows: &[Row],
     earlier: &Earlier,
     row: u64,
-    mark: Mark,
 ) -> Result<(), NoMemory>
-    ensures { OnOk result
-        (to.new ≡ to.old ++ extend_if (mark_at earlier.now.all row) row mark) }
+    requires { row < length rows.now }
+    ensures { OnOk result ((d : ARow) → to.new ≡ to.old
+        ++ extend_if (mark_at earlier.now.all row) row (slice_index_or rows.now row d).last) }
 {
+    let mark = rows[row as usize].last;
     match earlier.at(row) {
         Some(was) if was.at.place != mark.at.place => {
             to.push(StoreRow::Extend(ExtendRow { row, mark }))

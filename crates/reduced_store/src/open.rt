@@ -6,7 +6,7 @@ ghost use Rattle.batch_log.specs.Log.{log_of};
 ghost use Rattle.batch_log.specs.Payloads.{Fits};
 ghost use Rattle.batch_log.specs.declared.open.LogFault.TheVariants as fault;
 ghost use Rattle.store_check.specs.Conditions.{bounds_of};
-ghost use Rattle.reduced_store.specs.Opening.{AreThere, StopsAt, IsStoreRead, IsBadAt};
+ghost use Rattle.reduced_store.specs.Opening.{AreThere, BeginsLast, StopsAt, IsStoreRead, IsBadAt, last_gate as last_gate_of};
 ghost use Rattle.reduced_store.specs.Reading.{IsFound};
 
 use crate::reading::{Found, Reading};
@@ -14,6 +14,15 @@ use batch_log::{Batch, BatchLog, LogFault, listed_batches_have_their_payloads, r
 use flow_base::Limits;
 use outside::Disk;
 use std::alloc::Global;
+
+/// What reading a disk finds: its log, the place of its last batch's gate, if it has a batch, and what
+/// its store holds.
+#[derive(Drop)]
+pub struct StoreRead {
+    pub log: BatchLog,
+    pub last: Option<u64>,
+    pub found: Found,
+}
 
 /// Opens a disk: its log, and what its store holds. It makes one sync, so that nothing of an earlier
 /// run is pending, and then only reads. A bad store has the place of its first gate that is neither
@@ -23,12 +32,15 @@ pub fn read_store<D: Disk>(
     alloc: Global,
     limits: &Limits,
     disk: &mut D,
-) -> Result<(BatchLog, Found), LogFault>
+) -> Result<StoreRead, LogFault>
     ensures found { IfOk result (λ read. (payloads : List (List ℕ))
-        × IsFound (bounds_of limits.now) payloads read.1) }
+        × IsFound (bounds_of limits.now) payloads read.found) }
     ensures store { (D.state disk.old).told
-        → IfOk result (IsStoreRead limits.now (D.state disk.old).reads) }
-    ensures log { IfOk result (λ read. read.0 ≡ log_of limits.now read.0.last) }
+        → IfOk result (λ read. IsStoreRead limits.now (D.state disk.old).reads
+        (read.log, read.found)) }
+    ensures last { (D.state disk.old).told
+        → IfOk result (λ read. BeginsLast limits.now (D.state disk.old).reads read.last) }
+    ensures log { IfOk result (λ read. read.log ≡ log_of limits.now read.log.last) }
     ensures bad { (D.state disk.old).told → (place : ℕ) → IsErrOf result (fault.BadStore place)
         → IsBadAt limits.now place (D.state disk.old).reads }
     ensures durable { (D.state disk.old).told
@@ -42,7 +54,18 @@ pub fn read_store<D: Disk>(
     listed_batches_have_their_payloads();
     let (log, batches) = BatchLog::open_on(alloc, limits, disk)?;
     let found = read_batches(alloc, limits, disk, batches.as_slice())?;
-    Ok((log, found))
+    let last = last_gate(batches.as_slice());
+    Ok(StoreRead { log, last, found })
+}
+
+// The place of the last batch's gate.
+fn last_gate(batches: &[Batch]) -> Option<u64>
+    ensures { result ≡ last_gate_of batches.now }
+{
+    match batches.last() {
+        Some(batch) => Some(batch.gate),
+        None => None,
+    }
 }
 
 // Reads the batches of a disk.

@@ -19,11 +19,13 @@ pub enum OpenFault {
     NoMemory,
 }
 
-/// A store, its mode if it has a batch, and the rows from which tables are filled.
+/// A store, its mode and the place of its last batch's gate if it has a batch, and the rows from which
+/// tables are filled.
 #[derive(Drop)]
 pub struct Opened<D: Disk> {
     pub store: Store<D>,
     pub mode: Option<Mode>,
+    pub last: Option<u64>,
     pub rows: List<StoreRow>,
 }
 

@@ -3,22 +3,25 @@
 //! The conditions on a store don't ask that no two rows have one last place, and the laws of rows
 //! do. So the rows are judged once, when the store is opened, and are lawful or not from then on. What
 //! is said of rows is said of lawful ones.
-ghost use Rattle.std.specs.Prelude.{◌≡◌, ◌-◌, ◌+◌, ◌<◌, ◌≤◌, ◌∷◌, ◌++◌, ◌↔◌, [], ℕ, true, false, map, fold, length, vec_len, vec_capacity, slice_index_or, IfOk, IfSome, OnOk};
+ghost use Rattle.std.specs.Prelude.{◌≡◌, ◌-◌, ◌+◌, ◌<◌, ◌≤◌, ◌∷◌, ◌++◌, ◌↔◌, [], ℕ, None, true, false, map, fold, length, vec_len, vec_capacity, slice_index_or, IfOk, IfSome, OnOk};
+ghost use Rattle.std.specs.List.{All};
+ghost use Rattle.row_codec.specs.Rows.{CanBeSpelled};
 ghost use Rattle.reach_model.specs.Numbers.{known};
 ghost use Rattle.reach_model.specs.Rows.{Row as ARow, firsts, row_of};
 ghost use Rattle.reach_rows.specs.Kept.{AreRows, GoesOn, IsRowAt, row_of_kept};
 ghost use Rattle.store_check.specs.Store.{changed_at, extended, grown, flow_of as row_flow};
 ghost use Rattle.stored.specs.Batch.{mark_of as flow_mark};
 ghost use Rattle.reduced_store.specs.Filling.{GoesOnWith, AllGoOn, AreInOrder, AreApart};
-ghost use Rattle.reduced_store.specs.Held.{Held, HasRoom, AreHeld, told_if};
+ghost use Rattle.reduced_store.specs.Held.{Held, HasRoom, AreHeld, SameLaw, laws_go_along, told_if};
 ghost use Rattle.reduced_store.specs.Saving.{extends_over, kept_after, mark_at};
 
 use crate::apart::are_apart;
 use crate::earlier::Earlier;
 use crate::new_rows::{extend_rows, kept_rows};
-use crate::objects::{Object, enter, last_from_of, last_into_of, leave};
 use flow_base::{EntityId, Flow, List, NoMemory};
-use reach_rows::{First, Keep, Mark, Row, RowFault, Rows};
+use reach_rows::{
+    First, Keep, Mark, Object, Row, RowFault, Rows, enter, last_from_of, last_into_of, leave,
+};
 use row_codec::{KeptRow, StoreRow};
 use std::alloc::Global;
 use std::marker::Model;
@@ -174,6 +177,7 @@ impl StoreRows {
         alloc: Global,
         earlier: &Earlier,
     ) -> Result<List<StoreRow>, NoMemory>
+        requires { (i : ℕ) → length self.now.rows ≤ i → mark_at earlier.now.all i ≡ None }
         ensures { IfOk result (λ extends. extends
             ≡ extends_over (mark_at earlier.now.all) self.now.rows) }
     {
@@ -184,7 +188,8 @@ impl StoreRows {
     /// The Kept rows of the rows from an index on.
     pub(crate) fn kept_after(&self, alloc: Global, count: u64) -> Result<List<StoreRow>, NoMemory>
         requires { count ≤ length self.now.rows }
-        ensures { IfOk result (λ kept. kept ≡ kept_after count self.now.rows) }
+        ensures are { IfOk result (λ kept. kept ≡ kept_after count self.now.rows) }
+        ensures spelled { IfOk result (λ kept. All CanBeSpelled kept) }
     {
         kept_rows(alloc, &self.rows.as_slice()[count as usize..])
     }
@@ -200,6 +205,8 @@ impl Rows for StoreRows {
     ghost faults = { λ _. 0 };
 
     ghost spent = { λ _. ⊥ };
+
+    ghost alike = { SameLaw };
 
     fn count(&self) -> u64 {
         self.rows.len() as u64
@@ -224,6 +231,8 @@ impl Rows for StoreRows {
     fn row(&mut self, index: u64) -> Result<Row, RowFault> {
         Ok(self.row_at(index))
     }
+
+    ghost goes_along = { laws_go_along };
 }
 
 impl Keep for StoreRows {

@@ -7,26 +7,30 @@ ghost use Rattle.batch_log.specs.Log.{log_of, log_after, next_gate, passed, IsRe
 ghost use Rattle.batch_log.specs.Batches as on_disk;
 ghost use Rattle.batch_log.specs.Batches.{after_gate, IsBeforeOrAfter};
 ghost use Rattle.batch_log.specs.declared.log.CommitFault.TheVariants as commit;
-ghost use Rattle.reduced_store.specs.OnDisk.{IsCommit};
+ghost use Rattle.std.specs.List.{All};
+ghost use Rattle.row_codec.specs.Payload.{IsPayload};
+ghost use Rattle.row_codec.specs.Rows.{CanBeSpelled};
+ghost use Rattle.reduced_store.specs.OnDisk.{IsCommit, UnlessNoMemory, rows_between, payload_between};
 ghost use Rattle.row_codec.specs.declared.rows.StoreRow.TheVariants.{Kept, Extend};
 ghost use Rattle.stored.specs.Batch.{kept_from, extends_from, fresh};
 ghost use Rattle.store_check.specs.Conditions.{bounds_of};
-ghost use Rattle.reduced_store.specs.Opening.{IsBadAt};
+ghost use Rattle.reduced_store.specs.Opening.{BeginsLast, IsBadAt};
 ghost use Rattle.reduced_store.specs.Reading.{IsFound};
 ghost use Rattle.reduced_store.specs.Stores.{found_of, IsOpenedOver, disk_after, IsBlamed, Agree, IsOfWrongMode, IsWrong, refusal};
 ghost use Rattle.reduced_store.specs.declared.opened.OpenFault.TheVariants as fault;
 
 use crate::earlier::Earlier;
-use crate::open::read_store;
+use crate::open::{StoreRead, read_store};
 use crate::opened::{OpenFault, Opened, Unopened};
 use crate::reading::{Found, is_same};
 use crate::rows::{StoreRows, mark_of};
+use crate::spelling::write_rows;
 use batch_log::{BatchLog, CommitFault, LogFault};
-use flow_base::{EntityId, Flow, Limits, List, NoMemory};
+use flow_base::{Bytes, EntityId, Flow, Limits, List, NoMemory};
 use outside::Disk;
 use reach_model::Mode;
 use reach_rows::{First, Keep, Row, RowFault, Rows};
-use row_codec::StoreRow;
+use row_codec::{StoreRow, write_payload};
 use std::alloc::Global;
 use std::marker::Model;
 
@@ -73,10 +77,14 @@ impl<D: Disk> Store<D> {
     ) -> Result<Opened<D>, Unopened<D>>
         ensures store { (D.state disk).told
             → IfOk result (IsOpenedOver limits.now (D.state disk).reads) }
+        ensures last { (D.state disk).told
+            → IfOk result (λ opened. BeginsLast limits.now (D.state disk).reads opened.last) }
         ensures found { IfOk result (λ opened. (payloads : List (List ℕ))
             × IsFound (bounds_of limits.now) payloads (found_of opened)) }
         ensures log { IfOk result (λ opened.
             opened.store.log ≡ log_of limits.now opened.store.log.last) }
+        ensures stands { (D.state disk).told → IfOk result (λ opened. (payloads : List (List ℕ))
+            × LogHas opened.store.log payloads (D.state opened.store.disk).reads) }
         ensures saved { IfOk result (λ opened. opened.store.saved ≡ opened.store.rows.rows) }
         ensures agree { IfOk result (λ opened. Agree opened.mode asked) }
         ensures bad { (D.state disk).told → (place : ℕ)
@@ -95,7 +103,7 @@ impl<D: Disk> Store<D> {
     {
         let mut disk = disk;
         match read_store(alloc, limits, &mut disk) {
-            Ok((log, found)) => admit(alloc, asked, log, found, disk),
+            Ok(read) => admit(alloc, asked, read, disk),
             Err(fault) => Err(Unopened {
                 fault: refusal_of(fault),
                 disk,
@@ -112,8 +120,9 @@ impl<D: Disk> Store<D> {
 
     /// The Kept rows of the rows that were added since the last commit.
     pub fn new_rows(&self, alloc: Global) -> Result<List<StoreRow>, NoMemory>
-        ensures { IfOk result (λ kept. kept ≡ map Kept (kept_from (firsts self.now.saved)
+        ensures are { IfOk result (λ kept. kept ≡ map Kept (kept_from (firsts self.now.saved)
             (drop (length self.now.saved) self.now.rows.rows))) }
+        ensures spelled { IfOk result (λ kept. All CanBeSpelled kept) }
     {
         let _ = &self.disk;
         self.rows.kept_after(alloc, self.count)
@@ -127,6 +136,78 @@ impl<D: Disk> Store<D> {
     {
         let _ = &self.disk;
         self.rows.extends_over(alloc, &self.earlier)
+    }
+
+    /// Puts a batch after those that are there, and takes the rows for saved. Its rows are `front`,
+    /// the Kept and the Extend rows since the last commit, and `back`.
+    ///
+    /// It is as `commit` says, by the payload that spells these rows. `NoMemory` may come before it is
+    /// known whether the payload is too long.
+    pub fn commit_rows(
+        &mut self,
+        alloc: Global,
+        mode: Mode,
+        front: &[StoreRow],
+        back: &[StoreRow],
+    ) -> Result<(), CommitFault>
+        requires front { All CanBeSpelled front.now }
+        requires back { All CanBeSpelled back.now }
+        requires usable { self.old.log.usable ≡ true }
+        requires stands { (D.state self.old.disk).told → (payloads : List (List ℕ))
+            × LogHas self.old.log payloads (D.state self.old.disk).reads }
+        ensures payload { UnlessNoMemory result (IsPayload mode
+            (rows_between self.old front.now back.now)
+            (payload_between self.old mode front.now back.now)) }
+        ensures adds { (D.state self.old.disk).told → (payloads : List (List ℕ))
+            → LogHas self.old.log payloads (D.state self.old.disk).reads
+            → OnOk result (LogHas self.new.log
+            (payloads ++ payload_between self.old mode front.now back.now ∷ [])
+            (D.state self.new.disk).reads) }
+        ensures durable { OnOk result (IsDurable (D.state self.new.disk)) }
+        ensures any_moment { (D.state self.old.disk).told → (payloads : List (List ℕ))
+            → EachHas self.old.log payloads (D.state self.old.disk).image
+            → LeavesOnly (D.state self.old.disk) (D.state self.new.disk)
+            (IsBeforeOrAfter self.old.log.most payloads
+            (payload_between self.old mode front.now back.now)) }
+        ensures log { self.new.log ≡ log_after self.old.log
+            (9 + length (payload_between self.old mode front.now back.now)) result }
+        ensures full { (full : _) → UnlessNoMemory result (IsErrOf result (commit.Full full)
+            ↔ (passed self.old.log (length (payload_between self.old mode front.now back.now))
+            ≡ Some full)) }
+        ensures refused { IsRefused result → self.new ≡ self.old }
+        ensures uses { UsesDisk D.state D.faults D.spent self.old.disk self.new.disk
+            (IsErrOf result commit.StoreFault) }
+        ensures rows { self.new.rows ≡ self.old.rows }
+        ensures saved { OnOk result (self.new.saved ≡ self.new.rows.rows) }
+        ensures unsaved { OnErr result (self.new.saved ≡ self.old.saved) }
+    {
+        match self.spell(alloc, mode, front, back) {
+            Ok(payload) => self.commit(alloc, payload.as_slice()),
+            Err(NoMemory) => Err(CommitFault::NoMemory),
+        }
+    }
+
+    // The payload of a batch of these rows and of the Kept and Extend rows since the last commit.
+    fn spell(
+        &self,
+        alloc: Global,
+        mode: Mode,
+        front: &[StoreRow],
+        back: &[StoreRow],
+    ) -> Result<Bytes, NoMemory>
+        requires front { All CanBeSpelled front.now }
+        requires back { All CanBeSpelled back.now }
+        ensures { IfOk result
+            (IsPayload mode (rows_between self.now front.now back.now)) }
+    {
+        let kept = self.new_rows(alloc)?;
+        let extends = self.extended_rows(alloc)?;
+        let mut payload = Bytes::new(alloc);
+        write_payload(mode, front, &mut payload)?;
+        write_rows(kept.as_slice(), &mut payload)?;
+        write_rows(extends.as_slice(), &mut payload)?;
+        write_rows(back, &mut payload)?;
+        Ok(payload)
     }
 
     /// Puts a batch with this payload after those that are there, and takes the rows for saved. A
@@ -185,7 +266,7 @@ impl<D: Disk> Rows for Store<D> {
     ghost use Rattle.reach_rows.specs.Kept.{IsRowAt};
     ghost use Rattle.reach_rows.specs.Reading.{IsReading};
     ghost use Rattle.reduced_store.specs.Held.{told_if};
-    ghost use Rattle.reduced_store.specs.OnDisk.{SameBut};
+    ghost use Rattle.reduced_store.specs.OnDisk.{SameBut, stores_go_along};
 
     ghost rows = { λ s. told_if s.rows.lawful s.rows.rows };
 
@@ -196,6 +277,8 @@ impl<D: Disk> Rows for Store<D> {
     ghost faults = { λ s. D.faults s.disk };
 
     ghost spent = { λ s. D.spent s.disk };
+
+    ghost alike = { SameBut };
 
     fn count(&self) -> u64 {
         self.rows.count()
@@ -232,6 +315,8 @@ impl<D: Disk> Rows for Store<D> {
         let _ = &self.disk;
         Ok(self.rows.row_at(index))
     }
+
+    ghost goes_along = { stores_go_along };
 }
 
 impl<D: Disk> Keep for Store<D> {
@@ -297,17 +382,18 @@ impl<D: Disk> Keep for Store<D> {
 fn admit<D: Disk>(
     alloc: Global,
     asked: Option<Mode>,
-    log: BatchLog,
-    found: Found,
+    read: StoreRead,
     disk: D,
 ) -> Result<Opened<D>, Unopened<D>>
     ensures store { IfOk result (λ opened.
-        (opened.store.log ≡ log) × (found_of opened ≡ found)) }
+        (opened.store.log ≡ read.log) × (found_of opened ≡ read.found)) }
+    ensures last { IfOk result (λ opened. opened.last ≡ read.last) }
     ensures saved { IfOk result (λ opened. opened.store.saved ≡ opened.store.rows.rows) }
-    ensures agree { IfOk result (λ _. Agree found.mode asked) }
-    ensures wrong { IfErr result (λ back. IsWrong found.mode asked back.fault) }
+    ensures agree { IfOk result (λ _. Agree read.found.mode asked) }
+    ensures wrong { IfErr result (λ back. IsWrong read.found.mode asked back.fault) }
     ensures disk { disk_after result ≡ disk }
 {
+    let StoreRead { log, last, found } = read;
     match clash(found.mode, asked) {
         Some(fault) => Err(Unopened { fault, disk }),
         None => {
@@ -322,6 +408,7 @@ fn admit<D: Disk>(
             Ok(Opened {
                 store,
                 mode,
+                last,
                 rows: others,
             })
         }

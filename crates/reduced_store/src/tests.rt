@@ -1,9 +1,13 @@
 //! Stores over disks in memory. The bytes are those of the example in docs/FORMATS.md.
+ghost use Rattle.std.specs.Prelude.{IfOk};
+ghost use Rattle.row_codec.specs.Rows.{CanBeSpelled};
+
 use super::*;
 use flow_base::{Bytes, Limits, List};
-use outside::MemDisk;
+use outside::{MemDisk, StopDisk};
 use reach_model::Mode;
 use reach_rows::Rows;
+use row_codec::{StoreRow, read_row, rows_that_fit_can_be_spelled};
 use std::alloc::Global;
 use std::test::Fail;
 
@@ -67,5 +71,51 @@ fn the_example_opens_in_its_mode_and_in_no_other(rt: HostRuntime) -> Result<(), 
         asked: Mode::Full,
     };
     assert!(rt; matches!(example(alloc, Some(Mode::Full))?, Err(fault) if fault == wrong));
+    Ok(())
+}
+
+// The State of a store of nothing.
+fn state_of_nothing(alloc: Global) -> Result<StoreRow, Fail>
+    ensures { IfOk result CanBeSpelled }
+{
+    rows_that_fit_can_be_spelled();
+    let mut bytes = [0; 144];
+    bytes[0] = 10;
+    match read_row(alloc, &bytes) {
+        Ok((row, _)) => Ok(row),
+        Err(_) => Err(Fail::new("a State")),
+    }
+}
+
+// Opens a disk that stops after some calls and commits a first batch. It hands the disk back as it is
+// then, and says whether the commit went well.
+fn commit_stopped(alloc: Global, left: u64) -> Result<(MemDisk, bool), Fail> {
+    let disk = StopDisk {
+        disk: disk_with(alloc, b"".as_slice())?,
+        left,
+        failed: 0,
+    };
+    let mut store = match Store::open_on(alloc, &Limits::standard(), None, disk) {
+        Ok(opened) => opened.store,
+        Err(back) => return Ok((back.disk.disk, false)),
+    };
+    let back = [state_of_nothing(alloc)?];
+    let result = store.commit_rows(alloc, Mode::Full, &[], back.as_slice());
+    Ok((store.into_disk().disk, result.is_ok()))
+}
+
+#[test]
+fn a_first_commit_that_stops_leaves_no_batch_or_all_of_it(rt: HostRuntime) -> Result<(), Fail> {
+    let alloc = rt.alloc();
+    for left in 0..8 {
+        let (disk, done) = commit_stopped(alloc, left)?;
+        let Ok(opened) = Store::open_on(alloc, &Limits::standard(), None, disk) else {
+            return Err(Fail::new("a store"));
+        };
+        let rows = opened.rows.as_slice().len();
+        assert!(rt; matches!((opened.mode, rows), (None, 0) | (Some(Mode::Full), 1)));
+        assert!(rt; rows == 1 || !done);
+        assert_eq!(rt; opened.last.is_some(), rows == 1);
+    }
     Ok(())
 }

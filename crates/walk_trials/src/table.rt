@@ -1,5 +1,6 @@
 //! Rows as they were written down, which tell nothing.
-ghost use Rattle.std.specs.Prelude.{◌≡◌, ◌-◌, ◌^◌, None, vec_len};
+ghost use Rattle.std.specs.Prelude.{◌≡◌, ◌-◌, ◌^◌, ⊤, None, vec_len};
+ghost use Rattle.reach_rows.specs.Alike.{all_alike};
 
 use flow_base::{EntityId, Stamp};
 use reach_rows::{First, Row, RowFault, Rows};
@@ -23,6 +24,8 @@ impl Rows for Table {
     ghost faults = { λ s. s.faults };
 
     ghost spent = { λ s. s.faults ≡ 2 ^ 64 - 1 };
+
+    ghost alike = { λ _ _. ⊤ };
 
     fn count(&self) -> u64 {
         self.rows.len() as u64
@@ -61,4 +64,6 @@ impl Rows for Table {
         }
         Ok(row)
     }
+
+    ghost goes_along = { all_alike };
 }

@@ -1,4 +1,4 @@
-use Rattle.std.proofs.Common.{◌≤◌, ◌+◌, ◌++◌, List, length, reverse, take}
+use Rattle.std.proofs.Common.{◌≤◌, ◌<◌, ◌+◌, ◌-◌, ◌^◌, ◌++◌, List, length, reverse, take}
 use Rattle.acts.specs.declared.act.Act.{Act}
 use Rattle.proc_table.specs.Table.{StandsFor}
 use Rattle.flow_events.proofs.passes.live_through.Given as goal
@@ -6,6 +6,6 @@ use Rattle.flow_events.proofs.passes.live_through.Given as goal
 -- the table has the acts so far, and room for the others
 abbrev pub invariant-loop-act : goal.invariant-loop-act
 invariant-loop-act l = record {
-  next : (before : List Act) → StandsFor l.fn.procs before → StandsFor l.procs (reverse (take l.act-index l.acts) ++ before);
+  next : (before : List Act) → length before + length l.acts < 2 ^ 64 - 1 → StandsFor l.fn.procs before → StandsFor l.procs (reverse (take l.act-index l.acts) ++ before);
   room : length l.acts ≤ l.procs.spare + l.act-index;
 }

@@ -6,6 +6,7 @@ use Rattle.std.proofs.lemmas.Result.{err_from_is_err_and}
 use Rattle.flow_events.specs.Added.{IsPast}
 use Rattle.flow_events.proofs.Beginning.{drafted_nothing, way_begun}
 use Rattle.flow_events.specs.declared.fault.PrepareFault.TheVariants as fault
+use Rattle.flow_events.proofs.GoingOn.{none_numbered}
 use Rattle.flow_events.proofs.Past.{error_or}
 use Rattle.flow_events.proofs.work.begin.Goals as goal
 
@@ -15,10 +16,10 @@ returns-clause-way c = λ before stands.
     let exe = c.args.exe.now in
     let acting = c.see_acting-acting.result in
     let seen = c.see_acting-acting.ensures in
-    let life = seen.life (acts_of before) exe stands.lives_are in
+    let life = seen.life stands.lives_few (acts_of before) exe stands.lives_are in
     let start = c.in_ok-draft.ensures in
     way_begun ground acting c.see.new.self before c.args.pid c.args.ppid exe stands seen.pid life (seen.held (acts_of before) exe stands.lives_are stands.admitted)
-    (c.in_ok-see.ensures.next before stands.flows_are stands.lives_are
+    (c.in_ok-see.ensures.next stands.lives_few before stands.flows_are stands.lives_are
     (subst (λ p. life_of (See p c.args.ppid exe ∷ acts_of before) p ≡ acting.life) (sym seen.pid) life)
     (drafted_nothing ground c.in_ok-draft.draft before stands start.births start.given start.added))
 
@@ -33,4 +34,9 @@ returns-in_err-see-clause-full c =
     let seen = c.see_acting-acting.ensures in
     let start = c.in_ok-draft.ensures in
     subst (λ pid. IsPast ground.most full (objects (See pid c.args.ppid c.args.exe.now ∷ acts_of before))) seen.pid
-    (c.in_err-see.ensures.full full (ap Err (ap (error_or (fault.Full full)) is)) before stands.lives_are (drafted_nothing ground c.in_ok-draft.draft before stands start.births start.given start.added)))
+    (c.in_err-see.ensures.full full (ap Err (ap (error_or (fault.Full full)) is)) stands.lives_few before stands.lives_are (drafted_nothing ground c.in_ok-draft.draft before stands start.births start.given start.added)))
+
+pub returns-clause-numbered : goal.returns-clause-numbered
+returns-clause-numbered c =
+    let ground = c.args.ground.now in
+    c.in_ok-see.ensures.numbered (none_numbered ground.entities.now.keys ground.ms ground.flows _ c.in_ok-draft.ensures.added)

@@ -7,7 +7,6 @@ use Rattle.flow_events.specs.Drafts.{turned}
 use Rattle.std.proofs.lemmas.Result.{err_from_is_err_and, IfErr-weaker}
 use Rattle.acts.specs.Flows.{acts_of, objects}
 use Rattle.flow_events.specs.Added.{IsPast}
-use Rattle.flow_events.specs.declared.fault.PrepareFault.TheVariants as fault
 use Rattle.flow_events.specs.Working.{IsRefused, IsWorked, see_at}
 use Rattle.flow_events.proofs.CountedBirths.{births_whole}
 use Rattle.flow_events.proofs.Following.{split}
@@ -17,21 +16,9 @@ use Rattle.flow_events.proofs.work.work_out.Goals as goal
 
 pub go_on-requires-clause-few : goal.go_on-requires-clause-few
 go_on-requires-clause-few c =
-    let ground = c.args.ground.now in
-    let rest = c.args.rest.now in
-    let before = c.requires.few.0 in
-    let enough = c.requires.few.1 in
-    let few = enough.few in
-    let short = front_shorter rest in
-    let begun = c.in_ok-begun.ensures in (
-      before,
-      see_at ground.ms ground.serial c.args.pid c.args.ppid c.args.exe.now,
-      record {
-        way = begun.way before enough.grounded;
-        acts_are = enough.acts_are;
-        few = omega (arith, few, short);
-      },
-    )
+    let few = c.requires.few in
+    let short = front_shorter c.args.rest.now in
+    omega (arith, few, short)
 
 pub go_on-requires-clause-calm : goal.go_on-requires-clause-calm
 go_on-requires-clause-calm c =
@@ -75,7 +62,7 @@ returns-in-len1-up-clause-worked c = mapped c.go_on.result
     let see = see_at ground.ms ground.serial c.args.pid c.args.ppid c.args.exe.now in
     subst (λ all. IsWorked ground worked before (all ++ see ∷ []))
     (sym (turned_whole ground.ms ground.serial rest front c.last-item.result (whole rest c.last-item.result c.in-len1-up.len_at_least c.last-item.is)))
-    (does before see grounded (record { way = begun.way before grounded; acts_are = enough.acts_are; few = omega (arith, few, short) }) (begun.see before grounded)))
+    (does before see grounded (record { way = begun.way before grounded; lives_few = grounded.lives_few; acts_are = enough.acts_are; few = omega (arith, few, short) }) (begun.see before grounded)))
     c.go_on.ensures.worked
 
 pub returns-in_err-begun-clause-full : goal.returns-in_err-begun-clause-full
@@ -102,5 +89,5 @@ returns-in-len1-up-clause-full c = IfErr-weaker c.go_on.result _ _
     let see = see_at ground.ms ground.serial c.args.pid c.args.ppid c.args.exe.now in
     subst (λ all. IsRefused ground full before (all ++ see ∷ []))
     (sym (turned_whole ground.ms ground.serial rest front c.last-item.result (whole rest c.last-item.result c.in-len1-up.len_at_least c.last-item.is)))
-    (record { past = does full is before see (record { way = begun.way before enough.grounded; acts_are = enough.acts_are; few = omega (arith, few, short) }) }))
+    (record { past = does full is before see (record { way = begun.way before enough.grounded; lives_few = enough.grounded.lives_few; acts_are = enough.acts_are; few = omega (arith, few, short) }) }))
     c.go_on.ensures.full

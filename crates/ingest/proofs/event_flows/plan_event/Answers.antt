@@ -1,4 +1,4 @@
-use Rattle.std.proofs.Common.{ap, Err}
+use Rattle.std.proofs.Common.{ap, arith, length, Err}
 use Rattle.name_text.specs.Addresses.{text_of}
 use Rattle.ingest.proofs.Following.{may_come_after, refused_full, same_err}
 use Rattle.ingest.proofs.event_flows.plan_event.Goals as goal
@@ -30,7 +30,11 @@ returns-in-Ok-clause-limits c = c.prepare.ensures.limits _ c.requires.limits
 pub returns-in-Err-clause-limits : goal.returns-in-Err-clause-limits
 returns-in-Err-clause-limits c = c.prepare.ensures.limits _ c.requires.limits
 
+pub returns-in-Ok-clause-acts : goal.returns-in-Ok-clause-acts
+returns-in-Ok-clause-acts c = omega (arith, ap length c.in-Ok.ensures.acts, c.acts_are_few.ensures c.args.tables.now.limits.path c.args.event.now.records.now)
+
 pub prepare-requires : goal.prepare-requires
-prepare-requires c =
-    let has = c.requires.taken.1 in
-    record { stands = (_, c.requires.taken.0, may_come_after _ c.requires.taken.0 c.args.event.now c.requires.limits has c.requires.few (c.acts_are_few.ensures _ _)) }
+prepare-requires c = record {
+  safe = c.requires.safe;
+  few = omega (arith, c.requires.few, c.acts_are_few.ensures c.args.tables.now.limits.path c.args.event.now.records.now);
+}

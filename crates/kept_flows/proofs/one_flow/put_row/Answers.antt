@@ -1,35 +1,40 @@
-use Rattle.std.proofs.Common.{◌∷◌, ◌++◌, [], get_or, max, refl, sym, ap, subst, ◌∙◌, arith}
-use Rattle.std.specs.Option.{option_map}
-use Rattle.std.proofs.lemmas.List.{length-append, length-set, map-append}
-use Rattle.std.proofs.Math.Seq.{map-set_same}
-use Rattle.reach_model.specs.declared.modes.Verdict.TheVariants.{Extend}
-use Rattle.reach_model.specs.Numbers.{beyond, known}
-use Rattle.reach_model.specs.Rows.{Row, firsts, row_of, rows_after}
-use Rattle.reach_model.proofs.Numbering.{known_push}
-use Rattle.kept_flows.specs.KeptFlows.{AreTold}
+use Rattle.std.proofs.Common.{refl, sym, subst, ◌∙◌}
+use Rattle.std.proofs.lemmas.Iterator.Adapters.{option_map_id}
+use Rattle.reach_model.specs.declared.modes.Verdict.{Verdict}
+use Rattle.reach_model.specs.declared.modes.Verdict.TheVariants.{Drop, Extend}
+use Rattle.reach_rows.specs.Verdicts.{FitsRows}
+use Rattle.kept_flows.specs.Taking.{Puts}
+use Rattle.kept_flows.proofs.Changes.{known_fits}
 use Rattle.kept_flows.proofs.Room.{room_left, some_room}
 use Rattle.kept_flows.proofs.one_flow.put_row.Goals as goal
 
-pub returns-in-Add-clause-rows : goal.returns-in-Add-clause-rows
-returns-in-Add-clause-rows g c = λ R t.
+pub returns-in-Drop-clause-puts : goal.returns-in-Drop-clause-puts
+returns-in-Drop-clause-puts g c =
     let f = c.args.flow.now in
-    subst (λ d. AreTold (g.K.Rows.rows c.add.new.self) (g.K.Rows.count c.add.new.self) (g.K.Rows.known c.add.new.self) (rows_after R f d)) (sym c.in-Add.is)
+    let some = c.requires.puts.some in
+    let fits = subst (FitsRows some.0 f) c.in-Drop.is some.2 in
+    subst (λ (d : Verdict). Puts g.K.Rows.rows g.K.Rows.count g.K.Rows.known c.args.rows.now f d c.args.rows.now) (sym c.in-Drop.is)
     (record {
-      rows = c.add.ensures.rows ∙ ap (option_map (λ S. S ++ row_of f ∷ [])) t.rows;
-      counted = simp length-append (omega (arith, t.counted, c.add.ensures.count));
-      objects_known = ap known (map-append (λ (r : Row). r.first) R (row_of f ∷ [])) ∙ known_push (firsts R) f ∙ ap (λ n. max n (beyond f)) t.objects_known ∙ sym c.add.ensures.known;
+      rows_are = sym (option_map_id (g.K.Rows.rows c.args.rows.now));
+      count_is = refl;
+      known_is = known_fits (g.K.Rows.known c.args.rows.now) some.0 f Drop some.1.ends fits;
     })
 
-pub returns-in-Extend-clause-rows : goal.returns-in-Extend-clause-rows
-returns-in-Extend-clause-rows g c = λ R t.
+pub returns-in-Extend-clause-puts : goal.returns-in-Extend-clause-puts
+returns-in-Extend-clause-puts g c =
     let f = c.args.flow.now in
     let i = c.in-Extend.row in
-    subst (λ d. AreTold (g.K.Rows.rows c.extend.new.self) (g.K.Rows.count c.extend.new.self) (g.K.Rows.known c.extend.new.self) (rows_after R f d)) (sym c.in-Extend.is)
+    let some = c.requires.puts.some in
+    let fits = subst (FitsRows some.0 f) c.in-Extend.is some.2 in
+    subst (λ (d : Verdict). Puts g.K.Rows.rows g.K.Rows.count g.K.Rows.known c.args.rows.now f d c.extend.new.self) (sym c.in-Extend.is)
     (record {
-      rows = c.extend.ensures.rows ∙ ap (option_map (λ S. rows_after S f (Extend i))) t.rows;
-      counted = simp length-set (t.counted ∙ sym c.extend.ensures.same.0);
-      objects_known = ap known (map-set_same (λ (r : Row). r.first) R i (record (get_or R i (row_of f)) { last = f }) (row_of f) refl) ∙ t.objects_known ∙ sym c.extend.ensures.same.1;
+      rows_are = c.extend.ensures.rows;
+      count_is = c.extend.ensures.same.0;
+      known_is = c.extend.ensures.same.1 ∙ known_fits (g.K.Rows.known c.args.rows.now) some.0 f (Extend i) some.1.ends fits;
     })
+
+pub extend-requires-clause-pair : goal.extend-requires-clause-pair
+extend-requires-clause-pair g c = λ R e. (subst (FitsRows R c.args.flow.now) c.in-Extend.is (c.requires.puts.told R e).1).1
 
 pub returns-in-Add-clause-room : goal.returns-in-Add-clause-room
 returns-in-Add-clause-room g c = room_left (g.K.Keep.has_room c.args.rows.now) (g.K.Keep.has_room c.add.new.self) c.add.ensures.room

@@ -1,4 +1,4 @@
-use Rattle.std.proofs.Common.{◌≡◌, None, true, false, sym, ◌∙◌}
+use Rattle.std.proofs.Common.{None, sym, ◌∙◌}
 use Rattle.std.proofs.lemmas.Bool.{false≢true}
 use Rattle.reach_model.specs.Rows.{firsts}
 use Rattle.reach_rows.specs.declared.questions.Question.TheVariants.{Fore}

@@ -21,6 +21,7 @@ loop-index-init g c =
       same = (refl, refl, refl);
       later = omega arith;
       stays = λ s. s;
+      alike = g.met.W.Rows.goes_along.same c.args.rows.now;
     }
 
 pub loop-index-preserved : goal.loop-index-preserved
@@ -60,4 +61,5 @@ loop-index-preserved g c =
       same = (read.same.0 ∙ i.same.0, read.same.1 ∙ i.same.1, read.same.2 ∙ i.same.2);
       later = omega (arith, i.later, read.cause.later);
       stays = λ s. read.cause.stays (i.stays s);
+      alike = g.met.W.Rows.goes_along.next c.args.rows.now c.loop-index.rows c.row.new.self i.alike read.alike;
     }

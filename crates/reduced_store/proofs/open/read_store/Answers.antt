@@ -1,8 +1,8 @@
-use Rattle.std.proofs.Common.{◌∙◌, inr, sym, subst}
+use Rattle.std.proofs.Common.{◌∙◌, ap, inr, sym, subst}
 use Rattle.std.proofs.lemmas.Result.{err_from_is_err_and}
 use Rattle.batch_log.specs.declared.open.LogFault.TheVariants.{StoreFault}
 use Rattle.store_check.specs.Conditions.{bounds_of}
-use Rattle.reduced_store.specs.Opening.{AreThere, StopsAt}
+use Rattle.reduced_store.specs.Opening.{AreThere, StopsAt, last_gate}
 use Rattle.reduced_store.proofs.OpenLemmas.{settles_by_looking, not_blamed}
 use Rattle.reduced_store.proofs.open.read_store.Goals as goal
 
@@ -34,3 +34,8 @@ returns-clause-settles g c = λ told.
     let state = g.D.Disk.state in
     let settles = not_blamed (c.in_ok-log.log, c.in_ok-log.batches) StoreFault (c.in_ok-log.ensures.settles told) in
     inr (settles_by_looking (state c.args.disk.now) (state c.open_on.new.disk) (state c.read_batches.new.disk) settles c.read_batches.ensures.looks (c.open_on.ensures.looks.tells told))
+
+pub returns-clause-last : goal.returns-clause-last
+returns-clause-last g c = λ told.
+    let opened = c.in_ok-log.ensures.opened told in
+    (opened.0, (c.in_ok-log.log.last, opened.1), c.last_gate-last.ensures ∙ ap last_gate (c.as_slice-2.ensures ∙ opened.2))

@@ -1,71 +1,46 @@
-use Rattle.std.proofs.Common.{◌≡◌, ◌+◌, ◌-◌, ◌++◌, ◌^◌, ◌∙◌, ap, sym, subst, length, ◌∷◌, arith}
+use Rattle.std.proofs.Common.{◌≡◌, ◌+◌, ◌-◌, ◌++◌, ◌^◌, ◌∙◌, ap, sym, subst, List, length, ◌∷◌, arith}
 use Rattle.acts.specs.Flows.{acts_of, objects, flows, link_of, with_ends}
 use Rattle.flow_events.specs.Acting.{IsBorn, pair_if}
 use Rattle.flow_events.specs.Added.{flows_if}
 use Rattle.flow_events.specs.Entering.{NameAlike}
+use Rattle.acts.specs.declared.act.Taken.{Taken}
+use Rattle.flow_events.specs.declared.acting.Acting.{Acting}
+use Rattle.flow_events.specs.declared.draft.Draft.{Draft}
+use Rattle.flow_events.specs.declared.draft.Ground.{Ground}
+use Rattle.flow_events.specs.Drafts.{MayGoOn}
 use Rattle.std.proofs.lemmas.Result.{err_from_is_err_and}
 use Rattle.flow_events.proofs.Drafting.{few_births, joined, flows_after}
 use Rattle.flow_events.proofs.KnownNames.{named_after}
 use Rattle.flow_events.proofs.Past.{link_past}
 use Rattle.flow_events.proofs.draft.Draft.act.Goals as goal
 
-pub link_of-requires-clause-few : goal.link_of-requires-clause-few
-link_of-requires-clause-few c =
-    let before = c.requires.few.0 in
-    let now = c.requires.few.1 in
-    let drafted = c.requires.few.2.0 in
-    let bounds = c.requires.few.2.1 in (
-      acts_of before,
-      acts_of now,
-      record {
-        before_are = drafted.before_are;
-        now_are = drafted.now_are;
-        births_few = few_births c.args.ground.now.births.now before (2 ^ 63) drafted.before_are (let b = bounds.0 in omega (arith, b));
-        fresh_few = few_births c.args.self.now.births now (2 ^ 63) drafted.now_are (let b = bounds.1 in omega (arith, b));
-      },
-    )
-
-pub name_of-requires-clause-few : goal.name_of-requires-clause-few
-name_of-requires-clause-few c =
-    let before = c.requires.few.0 in
-    let now = c.requires.few.1 in
-    let drafted = c.requires.few.2.0 in
-    let bounds = c.requires.few.2.1 in (
-      acts_of before,
-      acts_of now,
-      record {
-        before_are = drafted.before_are;
-        now_are = drafted.now_are;
-        births_few = few_births c.args.ground.now.births.now before (2 ^ 63) drafted.before_are (let b = bounds.0 in omega (arith, b));
-        fresh_few = few_births c.args.self.now.births now (2 ^ 63) drafted.now_are (let b = bounds.1 in omega (arith, b));
-      },
-    )
-
-pub bear-requires-clause-few : goal.bear-requires-clause-few
-bear-requires-clause-few c =
-    few_births c.args.self.now.births c.requires.few.1 (2 ^ 64 - 1) c.requires.few.2.0.now_are (let b = c.requires.few.2.1.1 in omega (arith, b))
+-- the births so far can be counted
+few_born : (ground : Ground) (acting : Acting) (draft : Draft) (before now : List Taken) → MayGoOn ground acting draft before now 0 → IsBorn ground.births.now draft.births (acts_of before) (acts_of now)
+few_born ground acting draft before now may =
+    let drafted = may.way.drafted in record {
+      before_are = drafted.before_are;
+      now_are = drafted.now_are;
+      births_few = few_births ground.births.now before (2 ^ 63) drafted.before_are (let b = may.before_few in omega (arith, b));
+      fresh_few = few_births draft.births now (2 ^ 63) drafted.now_are (let b = may.now_few in omega (arith, b));
+    }
 
 pub returns-clause-next : goal.returns-clause-next
-returns-clause-next c = λ before now base acting so_far.
-    let drafted = c.requires.few.2.0 in
-    let bounds = c.requires.few.2.1 in
-    let born : IsBorn c.args.ground.now.births.now c.args.self.now.births (acts_of before) (acts_of now) = record {
-      before_are = so_far.before_are;
-      now_are = so_far.now_are;
-      births_few = few_births c.args.ground.now.births.now c.requires.few.0 (2 ^ 63) drafted.before_are (let b = bounds.0 in omega (arith, b));
-      fresh_few = few_births c.args.self.now.births c.requires.few.1 (2 ^ 63) drafted.now_are (let b = bounds.1 in omega (arith, b));
-    } in
+returns-clause-next c = λ before now may.
+    let so_far = may.way.drafted in
+    let acting = may.way.acting_is in
+    let base = may.way.base in
+    let born = few_born c.args.ground.now c.args.acting.now c.args.self.now before now may in
     let act = c.args.act.now in
     let known = c.args.ground.now.entities.now.keys in
     let acts = acts_of now ++ acts_of before in
-    let link = c.in_ok-link.ensures (acts_of before) (acts_of now) born acting in
+    let link = c.in_ok-link.ensures.link may.lives_few (acts_of before) (acts_of now) born acting in
     let name = c.in_ok-name.ensures (acts_of before) (acts_of now) born in
     let named = subst (λ given. NameAlike c.args.ground.now.entities.now given (pair_if c.if_new-name.result)) name c.if_new-name.ensures in
     let objects_are : objects (act ∷ acts) ≡ known ++ c.add_link.new.added.keys =
     (λ i. with_ends (so_far.objects_are i) (sym link i)) ∙ sym c.in_ok-add_link.ensures.keys in
     record {
       before_are = so_far.before_are;
-      now_are = c.bear.ensures.next (acts_of now) so_far.now_are;
+      now_are = c.bear.ensures.next (few_births c.args.self.now.births now (2 ^ 64 - 1) so_far.now_are (let b = may.now_few in omega (arith, b))) (acts_of now) so_far.now_are;
       known_are = so_far.known_are;
       names_are = named_after c.args.ground.now.entities.now _ _ _ _ _ _ so_far.known_are so_far.names_are named c.in_ok-put_name.ensures;
       objects_are = objects_are;
@@ -81,13 +56,6 @@ returns-clause-next c = λ before now base acting so_far.
 pub returns-in_err-add_link-clause-full : goal.returns-in_err-add_link-clause-full
 returns-in_err-add_link-clause-full c =
     let p = err_from_is_err_and c.from_residual-in_err-add_link.result c.from_residual-in_err-add_link.ensures.1 in
-    rw (p.1, p.2) (λ full is before now acting so_far.
-    let drafted = c.requires.few.2.0 in
-    let bounds = c.requires.few.2.1 in
-    let born : IsBorn c.args.ground.now.births.now c.args.self.now.births (acts_of before) (acts_of now) = record {
-      before_are = so_far.before_are;
-      now_are = so_far.now_are;
-      births_few = few_births c.args.ground.now.births.now c.requires.few.0 (2 ^ 63) drafted.before_are (let b = bounds.0 in omega (arith, b));
-      fresh_few = few_births c.args.self.now.births c.requires.few.1 (2 ^ 63) drafted.now_are (let b = bounds.1 in omega (arith, b));
-    } in
-    link_past _ full _ (objects (acts_of now ++ acts_of before)) _ _ so_far.objects_are (c.in_ok-link.ensures (acts_of before) (acts_of now) born acting) (c.in_err-add_link.ensures.full full is))
+    rw (p.1, p.2) (λ full is before now may.
+    let born = few_born c.args.ground.now c.args.acting.now c.args.self.now before now may in
+    link_past _ full _ (objects (acts_of now ++ acts_of before)) _ _ may.way.drafted.objects_are (c.in_ok-link.ensures.link may.lives_few (acts_of before) (acts_of now) born may.way.acting_is) (c.in_err-add_link.ensures.full full is))

@@ -5,7 +5,7 @@ use Rattle.flow_events.specs.Added.{IsPast}
 use Rattle.flow_events.specs.Drafts.{turned}
 use Rattle.flow_events.proofs.CountedBirths.{births_more, births_left, births_within}
 use Rattle.flow_events.proofs.Past.{all_past}
-use Rattle.flow_events.proofs.UnderWays.{calm_at, one_more, all_done, turned_more}
+use Rattle.flow_events.proofs.UnderWays.{calm_at, one_more, all_done, still_few, turned_more}
 use Rattle.flow_events.proofs.draft.Draft.calm_acts.Goals as goal
 
 pub loop-act-preserved : goal.loop-act-preserved
@@ -18,8 +18,9 @@ loop-act-preserved c =
           let way = kept.next before now start in
           let calm = calm_at acting.pid c.loop-act.act-index c.args.acts.now c.act-item.result c.requires.calm c.loop-act-test.true c.act-item.is in
           one_more ground acting c.loop-act.self c.act.new.self before now c.loop-act.act-index c.args.acts.now c.act-item.result c.loop-act-test.true c.act-item.is calm.calm way
-          (c.in_ok-act.ensures.next before (turned ground.ms ground.serial (take c.loop-act.act-index c.args.acts.now) ++ now) way.base way.acting_is way.drafted);
+          (c.in_ok-act.ensures.next before (turned ground.ms ground.serial (take c.loop-act.act-index c.args.acts.now) ++ now) (still_few ground acting c.loop-act.self c.args.self.now before now c.loop-act.act-index c.args.acts.now start way));
       new = λ start. c.in_ok-act.ensures.new (kept.new start);
+      numbered = λ start. c.in_ok-act.ensures.numbered (kept.numbered start);
       fits = c.in_ok-act.ensures.fits;
       more = (let a = c.in_ok-act.ensures.more in let b = kept.more in omega (arith, a, b));
       room = (
@@ -55,6 +56,6 @@ returns-in_err-act-clause-full c =
     let acts = c.args.acts.now in
     let i = c.loop-act.act-index in
     let way = c.loop-act.invariant.next before now start in
-    let here = c.in_err-act.ensures.full full is before (turned ground.ms ground.serial (take i acts) ++ now) way.acting_is way.drafted in
+    let here = c.in_err-act.ensures.full full is before (turned ground.ms ground.serial (take i acts) ++ now) (still_few ground c.args.acting.now c.loop-act.self c.args.self.now before now i acts start way) in
     all_past _ full ground.ms ground.serial (i + 1) acts now before
     (subst (λ all. IsPast ground.most full (objects (acts_of (all ++ now) ++ acts_of before))) (sym (turned_more ground.ms ground.serial i acts c.act-item.result c.loop-act-test.true c.act-item.is)) here))

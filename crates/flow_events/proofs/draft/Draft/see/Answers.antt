@@ -13,12 +13,12 @@ use Rattle.flow_events.proofs.Past.{link_past}
 use Rattle.flow_events.proofs.draft.Draft.see.Goals as goal
 
 pub returns-clause-next : goal.returns-clause-next
-returns-clause-next c = λ before base lives life so_far.
+returns-clause-next c = λ few before base lives life so_far.
     let pid = c.args.acting.now.pid in
     let exe = c.args.exe.now in
     let act = See pid c.args.ppid exe in
     let known = c.args.ground.now.entities.now.keys in
-    let link = c.see_link-link.ensures (acts_of before) exe lives in
+    let link = c.see_link-link.ensures.link few (acts_of before) exe lives in
     let named = subst (λ l. NameAlike c.args.ground.now.entities.now (name_if (Process pid l) exe) (pair_if c.in_ok-name.name)) (sym life) c.in_ok-name.ensures in
     let objects_are : objects (act ∷ acts_of before) ≡ known ++ c.add_link.new.added.keys =
     (λ i. with_ends (so_far.objects_are i) (sym link i)) ∙ sym c.in_ok-add_link.ensures.keys in
@@ -38,5 +38,5 @@ returns-clause-next c = λ before base lives life so_far.
 pub returns-in_err-add_link-clause-full : goal.returns-in_err-add_link-clause-full
 returns-in_err-add_link-clause-full c =
     let p = err_from_is_err_and c.from_residual-in_err-add_link.result c.from_residual-in_err-add_link.ensures.1 in
-    rw (p.1, p.2) (λ full is before lives so_far.
-    link_past _ full _ (objects (acts_of before)) _ _ so_far.objects_are (c.see_link-link.ensures (acts_of before) c.args.exe.now lives) (c.in_err-add_link.ensures.full full is))
+    rw (p.1, p.2) (λ full is few before lives so_far.
+    link_past _ full _ (objects (acts_of before)) _ _ so_far.objects_are (c.see_link-link.ensures.link few (acts_of before) c.args.exe.now lives) (c.in_err-add_link.ensures.full full is))

@@ -2,7 +2,7 @@ use Rattle.std.proofs.Common.{◌≡◌, ◌∙◌, ◌<◌, ◌≤◌, ◌+◌,
 use Rattle.std.proofs.lemmas.List.{take_all}
 use Rattle.acts.specs.declared.act.Act.{Act}
 use Rattle.flow_events.specs.Since.{ArePids, HasRoom}
-use Rattle.flow_events.proofs.SinceLaws.{pids_turned, files_turned}
+use Rattle.flow_events.proofs.SinceLaws.{pids_turned, files_turned, differs_again}
 use Rattle.flow_events.proofs.since.Since.note_acts.Goals as goal
 
 pub loop-act-preserved : goal.loop-act-preserved
@@ -13,7 +13,7 @@ loop-act-preserved c =
     record {
       pids = λ b n lives are. pids_turned c.loop-act.self c.note_act.new.self c.args.procs.now c.args.acts.now b n c.loop-act.act-index c.act-item.result inside c.act-item.is lives (before.pids b n lives are) c.note_act.ensures.pids;
       files = λ b n are. files_turned c.loop-act.self c.note_act.new.self c.args.acts.now b n c.loop-act.act-index c.act-item.result inside c.act-item.is (before.files b n are) c.note_act.ensures.files;
-      rest = (c.note_act.ensures.rest.0 ∙ before.rest.0, c.note_act.ensures.rest.1 ∙ before.rest.1);
+      rest = differs_again c.args.self.now c.loop-act.self c.note_act.new.self before.rest c.note_act.ensures.rest;
       room = c.note_act.ensures.room (length c.args.acts.now - (c.loop-act.act-index + 1)) (subst (HasRoom c.loop-act.self) one before.room);
     }
 

@@ -8,20 +8,26 @@ use Rattle.flow_events.specs.declared.fault.PrepareFault.TheVariants as fault
 use Rattle.name_text.specs.Addresses.{text_of}
 use Rattle.flow_events.specs.Drafts.{turned}
 use Rattle.flow_events.specs.Standing.{IsPlanOf}
-use Rattle.flow_events.proofs.Fewness.{few_flows, event_flows}
-use Rattle.flow_events.proofs.Planning.{planned, turned_length}
+use Rattle.call_acts.specs.Events.{IsEvent}
+use Rattle.reach_rows.specs.Kept.{GoOn, known_after}
+use Rattle.flow_events.specs.Added.{StandFrom}
+use Rattle.flow_events.specs.Entering.{entered}
+use Rattle.flow_events.proofs.Planning.{planned}
+use Rattle.flow_events.proofs.Safety.{few_lives}
 use Rattle.flow_events.proofs.tables.Tables.plan.Goals as goal
 
-pub work_event-requires-clause-flows : goal.work_event-requires-clause-flows
-work_event-requires-clause-flows c =
-    let before = c.requires.stands.0 in
-    let may = c.requires.stands.1 in
-    let stands = may.stands in
-    let flows = stands.flows_are in
-    let few_of_them = few_flows before in
-    let few = may.few in
+pub work_event-requires : goal.work_event-requires
+work_event-requires c =
+    let few = c.requires.few in
+    let flows = c.requires.safe.flows_few in
     let slice = ap length c.as_slice.ensures in
-    omega (arith, flows, few_of_them, few, slice)
+    record {
+      few = omega (arith, few, slice);
+      limit = c.requires.safe.limit_is;
+      fits = rw c.requires.safe.limit_is c.requires.safe.objects_fit;
+      event = subst IsEvent (sym c.as_slice.ensures) c.requires.event;
+      flows = omega (arith, few, flows, slice);
+    }
 
 pub returns-clause-plan : goal.returns-clause-plan
 returns-clause-plan c = λ before may.
@@ -43,20 +49,30 @@ returns-clause-plan c = λ before may.
         flows_are = stands.flows_are;
         admitted = may.admitted;
         few = (let few = may.few in omega (arith, few));
+        lives_few = few_lives c.args.self.now.procs before (length c.args.acts) c.each_beginning_is_an_act.ensures stands.lives_are may.few;
       };
       acts_are = stands.acts_are;
       few = (let few = may.few in let same = ap length slice in omega (arith, few, same));
     }))
     work.new stands.objects_are (is.acts ∙ sym slice) is.changes.0 is.changes.1 is.address is.given is.keys is.flows)
 
+pub returns-clause-more : goal.returns-clause-more
+returns-clause-more c =
+    let fewer = c.in_ok-worked.ensures.more in
+    let slice = ap length c.as_slice.ensures in
+    let same = ap length c.in_ok-plan_of.ensures.flows in
+    omega (arith, fewer, slice, same)
+
 pub returns-clause-flows : goal.returns-clause-flows
 returns-clause-flows c =
-    let before = c.requires.stands.0 in
-    let plan = returns-clause-plan c before c.requires.stands.1 in
-    let now = turned c.args.ms c.args.serial c.args.acts in
-    let fewer = event_flows now before c.in_ok-plan_of.field-0.flows plan.flows_are in
-    let long = turned_length c.args.ms c.args.serial c.args.acts in
-    omega (arith, fewer, long)
+    let is = c.in_ok-plan_of.ensures in
+    let work = c.in_ok-worked.ensures in
+    let known = c.args.self.now.entities.keys in
+    record {
+      go_on = subst (GoOn (length known)) (sym is.flows) work.numbered.go_on;
+      known_are = ap (known_after (length known)) is.flows ∙ work.numbered.known_are ∙ ap length (sym (ap (entered known) is.keys ∙ work.new.enter));
+      stand = subst (StandFrom c.args.ms c.args.self.now.flows) (sym is.flows) work.numbered.stand;
+    }
 
 pub returns-in_err-worked-clause-full : goal.returns-in_err-worked-clause-full
 returns-in_err-worked-clause-full c =
@@ -78,6 +94,7 @@ returns-in_err-worked-clause-full c =
         flows_are = stands.flows_are;
         admitted = may.admitted;
         few = (let few = may.few in omega (arith, few));
+        lives_few = few_lives c.args.self.now.procs before (length c.args.acts) c.each_beginning_is_an_act.ensures stands.lives_are may.few;
       };
       acts_are = stands.acts_are;
       few = (let few = may.few in let same = ap length slice in omega (arith, few, same));

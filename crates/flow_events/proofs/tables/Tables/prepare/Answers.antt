@@ -10,12 +10,6 @@ use Rattle.flow_events.specs.Following.{MayFollow}
 use Rattle.flow_events.specs.Standing.{IsPlanOf}
 use Rattle.flow_events.proofs.tables.Tables.prepare.Goals as goal
 
-pub prepare_acts-requires-clause-stands : goal.prepare_acts-requires-clause-stands
-prepare_acts-requires-clause-stands c =
-    let may = c.requires.stands.2 in
-    let same = c.in_ok-acts.ensures ∙ ap (λ (l : Limits). event_acts l.path c.args.event.now.records.now) may.limited.limits_are in
-    (c.requires.stands.1, subst (λ acts. MayFollow c.args.self.now c.requires.stands.1 (length acts)) (sym same) may.follows)
-
 pub returns-clause-plan : goal.returns-clause-plan
 returns-clause-plan c = IfOk-weaker c.prepare_acts.result _ _ (λ plan is limits before may.
     let event = c.args.event.now in

@@ -1,7 +1,7 @@
-use Rattle.std.proofs.Common.{rules, ◌<◌, ◌+◌, ◌-◌, ◌^◌, length}
+use Rattle.std.proofs.Common.{rules, ◌<◌, ◌+◌, ◌-◌, ◌^◌, subst, sym, length}
 use Rattle.name_text.specs.Addresses.{text_of}
 use Rattle.call_acts.specs.Acts.{event_acts}
-use Rattle.flow_events.specs.Following.{MayFollow}
+use Rattle.flow_base.specs.declared.limits.Limits.{Limits}
 use Rattle.flow_events.proofs.tests.Course.look.Goals as goal
 
 -- an event may follow what was taken so far
@@ -11,9 +11,8 @@ prepare-requires c =
     let event = c.args.event.now in
     let limits = c.self.inside.limits in
     let acts = event_acts limits.path event.records.now in
-    let few : length kept.before + (length acts + 2) < 2 ^ 63 - 1 = search rules in
-    let may : MayFollow c.self.inside.tables kept.before (length acts) = record { stands = kept.stands; admitted = kept.admitted; few = few } in
-    record { stands = (limits, kept.before, record { limited = kept.limited; follows = may }) }
+    let few : c.self.inside.tables.acts + (length acts + 2) < 2 ^ 63 - 1 = search rules in
+    record { safe = kept.safe; few = subst (λ (l : Limits). c.self.inside.tables.acts + (length (event_acts l.path event.records.now) + 2) < 2 ^ 63 - 1) (sym kept.limited.limits_are) few }
 
 -- the tables stand for the same as before
 pub invariant_of-self-in_err-push : goal.invariant_of-self-in_err-push
@@ -24,6 +23,7 @@ invariant_of-self-in_err-push c =
       stands = c.prepare.ensures.same text_of kept.before kept.stands;
       admitted = kept.admitted;
       limited = c.prepare.ensures.limits c.self.inside.limits kept.limited;
+      safe = c.prepare.ensures.safe;
     }
 
 pub invariant_of-self-2 : goal.invariant_of-self-2
@@ -34,4 +34,5 @@ invariant_of-self-2 c =
       stands = c.prepare.ensures.same text_of kept.before kept.stands;
       admitted = kept.admitted;
       limited = c.prepare.ensures.limits c.self.inside.limits kept.limited;
+      safe = c.prepare.ensures.safe;
     }

@@ -1,5 +1,6 @@
 use Rattle.std.proofs.Common.{rules, ◌≡◌, ◌<◌, ◌+◌, ◌-◌, ◌^◌, ◌++◌, ◌∙◌, ap, subst, sym, length, reverse}
 use Rattle.name_text.specs.Addresses.{text_of}
+use Rattle.flow_base.specs.declared.limits.Limits.{Limits}
 use Rattle.acts.specs.Admitted.{Admitted}
 use Rattle.acts.specs.Flows.{acts_of}
 use Rattle.call_acts.specs.Acts.{event_acts}
@@ -16,9 +17,8 @@ prepare-requires c =
     let event = c.args.event.now in
     let limits = c.self.inside.limits in
     let acts = event_acts limits.path event.records.now in
-    let few : length kept.before + (length acts + 2) < 2 ^ 63 - 1 = search rules in
-    let may : MayFollow c.self.inside.tables kept.before (length acts) = record { stands = kept.stands; admitted = kept.admitted; few = few } in
-    record { stands = (limits, kept.before, record { limited = kept.limited; follows = may }) }
+    let few : c.self.inside.tables.acts + (length acts + 2) < 2 ^ 63 - 1 = search rules in
+    record { safe = kept.safe; few = subst (λ (l : Limits). c.self.inside.tables.acts + (length (event_acts l.path event.records.now) + 2) < 2 ^ 63 - 1) (sym kept.limited.limits_are) few }
 
 pub invariant_of-self-2 : goal.invariant_of-self-2
 invariant_of-self-2 c =
@@ -38,4 +38,5 @@ invariant_of-self-2 c =
       stands = c.apply.ensures.next text_of before now (c.in_ok-plan.ensures.same text_of before kept.stands) (c.in_ok-plan.ensures.plan limits before come);
       admitted = subst Admitted (sym order) (c.event_acts_are_admitted.ensures limits.path event.records.now (acts_of before) kept.admitted);
       limited = c.apply.ensures.limits limits (c.in_ok-plan.ensures.limits limits kept.limited);
+      safe = c.apply.ensures.safe;
     }

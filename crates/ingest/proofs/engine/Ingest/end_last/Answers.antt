@@ -2,7 +2,7 @@ use Rattle.std.proofs.Common.{◌∙◌, sym, ap, append-nil}
 use Rattle.audit_lex.specs.History.{tail_of}
 use Rattle.ingest.specs.LineRecords.{record_of}
 use Rattle.ingest.proofs.Answered.{on_ok_so}
-use Rattle.ingest.proofs.FewActs.{few_either}
+use Rattle.ingest.proofs.FewActs.{few_either, few_ended}
 use Rattle.ingest.proofs.EngineSteps.{engine_own, few_excess, last_came, last_passed, SettlesOther}
 use Rattle.ingest.proofs.engine.Ingest.end_last.Goals as goal
 
@@ -24,3 +24,6 @@ returns-in-None-clause-ok g c =
 
 pub invariant_of-self-in-None : goal.invariant_of-self-in-None
 invariant_of-self-in-None g c = few_either c.settle_other.result _ _ _ c.self.invariant c.settle_other.ensures.lines c.settle_other.ensures.err
+
+pub invariant_of-self-in-Some : goal.invariant_of-self-in-Some
+invariant_of-self-in-Some g c = few_ended _ _ _ _ c.self.invariant c.in_ok-enter-in-Some.ensures.few c.settle_used.ensures.lines

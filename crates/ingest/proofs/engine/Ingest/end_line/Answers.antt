@@ -1,6 +1,7 @@
 use Rattle.std.proofs.Common.{◌++◌, ◌∷◌, []}
 use Rattle.audit_lex.specs.History.{with_bytes}
 use Rattle.ingest.proofs.EngineSteps.{engine_own, owes_own, room_so, at_rest, all_released, still_owes}
+use Rattle.ingest.proofs.FewActs.{few_stays}
 use Rattle.ingest.proofs.StopLemmas.{stop_ended, halts_ended, halts_memory}
 use Rattle.ingest.proofs.engine.Ingest.end_line.Goals as goal
 use Rattle.ingest.proofs.engine.Ingest.end_line.Goals.{in-Ok-release, in-Err-release}
@@ -37,3 +38,6 @@ returns-clause-halts g c =
           halts_ended limits _ h c.args.part.now w.in-Err-release.why
           (still_owes limits _ _ _ (with_bytes h (c.args.part.now ++ 10 ∷ [])) w.in-Err-release.why owes (w.in-Err-release.ensures.owed limits)))
     ]
+
+pub invariant_of-self : goal.invariant_of-self
+invariant_of-self g c = few_stays _ _ _ c.self.invariant c.release.ensures.few

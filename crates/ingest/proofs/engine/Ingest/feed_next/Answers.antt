@@ -1,5 +1,6 @@
 use Rattle.ingest.proofs.Answered.{on_ok_so, if_err_so, by_err}
 use Rattle.ingest.proofs.EngineSteps.{owes_own, at_rest, all_released, still_owes, engine_of, Takes, StopsIn, HaltsIn}
+use Rattle.ingest.proofs.FewActs.{few_stays}
 use Rattle.ingest.proofs.StopLemmas.{stop_before, halts_before}
 use Rattle.ingest.proofs.engine.Ingest.feed_next.Goals as goal
 
@@ -41,3 +42,9 @@ pub returns-in-Err-clause-halts : goal.returns-in-Err-clause-halts
 returns-in-Err-clause-halts g c = λ limits h w.
     let owes = owes_own limits _ _ h c.self.view_is w in
     halts_before limits _ h c.args.piece.now c.in-Err.why (still_owes limits _ _ _ h c.in-Err.why owes (c.in-Err.ensures.owed limits))
+
+pub invariant_of-self : goal.invariant_of-self
+invariant_of-self g c = few_stays _ _ _ c.self.invariant c.release.ensures.few
+
+pub invariant_of-self-in-Err : goal.invariant_of-self-in-Err
+invariant_of-self-in-Err g c = few_stays _ _ _ c.self.invariant c.release.ensures.few

@@ -16,6 +16,7 @@ loop-done-preserved g c =
       bytes = omega (arith, c.in-Ok.ensures.bytes, w.bytes);
       limits = c.in-Ok.ensures.limits ∙ w.limits;
       quiet = c.in-Ok.ensures.quiet;
+      alike = g.met.K.Rows.goes_along.next c.args.self.now.joined.keep c.loop-done.self.joined.keep c.feed_line.new.self.joined.keep w.alike c.in-Ok.ensures.alike;
       taken = λ limits h stands.
           let before = with_bytes h (take c.loop-done.done piece) in
           rw (take_rest piece c.loop-done.done, more_taken h c.loop-done.done c.in-Ok.count piece) at (c.in-Ok.ensures.ok limits before (w.taken limits h stands));
@@ -36,3 +37,7 @@ returns-in-Err-clause-halts g c = λ limits h stands.
     let before = with_bytes h (take c.loop-done.done piece) in
     let here = rw (take_rest piece c.loop-done.done) at (c.in-Err.ensures.halts limits before (w.taken limits h stands)) in
     subst (λ (s : Stop). Halts limits c.feed_line.new.self h piece s) (sym c.later.ensures) (halts_later limits c.feed_line.new.self h piece c.loop-done.done c.in-Err.stop w.within here)
+
+pub returns-in-Err-clause-alike : goal.returns-in-Err-clause-alike
+returns-in-Err-clause-alike g c =
+    g.met.K.Rows.goes_along.next c.args.self.now.joined.keep c.loop-done.self.joined.keep c.feed_line.new.self.joined.keep c.loop-done.invariant.alike c.in-Err.ensures.alike

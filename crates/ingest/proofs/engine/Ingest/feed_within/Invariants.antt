@@ -12,6 +12,7 @@ invariant-loop-done g l = record {
   bytes : l.self.reader.bytes ≡ l.initial.self.reader.bytes + l.done;
   limits : l.self.reader.limits ≡ l.initial.self.reader.limits;
   quiet : NothingRipe l.self.joined.join;
+  alike : g.K.Rows.alike l.initial.self.joined.keep l.self.joined.keep;
   taken : (limits : Limits) (h : History) → StandsFor limits l.initial.self h → StandsFor limits l.self (with_bytes h (take l.done l.piece));
 }
 

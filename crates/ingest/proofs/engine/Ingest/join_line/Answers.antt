@@ -1,6 +1,6 @@
 use Rattle.std.proofs.Common.{◌∙◌, sym}
 use Rattle.ingest.proofs.Answered.{on_ok_so}
-use Rattle.ingest.proofs.FewActs.{few_either}
+use Rattle.ingest.proofs.FewActs.{few_either, few_ended}
 use Rattle.ingest.proofs.EngineSteps.{engine_own, room_so, few_excess, line_came, line_passed, EndsOther}
 use Rattle.ingest.proofs.engine.Ingest.join_line.Goals as goal
 
@@ -22,3 +22,6 @@ returns-in-None-clause-ok g c =
 
 pub invariant_of-self-in-None : goal.invariant_of-self-in-None
 invariant_of-self-in-None g c = few_either c.end_other.result _ _ _ c.self.invariant c.end_other.ensures.lines c.end_other.ensures.err
+
+pub invariant_of-self-in-Some : goal.invariant_of-self-in-Some
+invariant_of-self-in-Some g c = few_ended _ _ _ _ c.self.invariant c.in_ok-enter-in-Some.ensures.few c.end_used.ensures.lines

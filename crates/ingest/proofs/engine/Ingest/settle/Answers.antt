@@ -60,3 +60,12 @@ returns-clause-halts g c =
 
 pub release-requires-2 : goal.release-requires-2
 release-requires-2 g c = record { few = bounded_of _ _ (few_stays _ _ _ c.self-2.invariant c.close.ensures.few) }
+
+pub invariant_of-self : goal.invariant_of-self
+invariant_of-self g c = few_stays _ _ _ c.self.invariant c.release.ensures.few
+
+pub invariant_of-self-2 : goal.invariant_of-self-2
+invariant_of-self-2 g c = few_stays _ _ _ c.self.invariant c.release.ensures.few
+
+pub invariant_of-self-3 : goal.invariant_of-self-3
+invariant_of-self-3 g c = few_stays _ _ _ (few_stays _ _ _ c.self-2.invariant c.close.ensures.few) c.release-2.ensures.few

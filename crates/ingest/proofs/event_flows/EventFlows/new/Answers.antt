@@ -1,8 +1,9 @@
-use Rattle.std.proofs.Common.{refl, arith, []}
+use Rattle.std.proofs.Common.{refl, ap, length, arith, []}
 use Rattle.name_text.specs.Addresses.{text_of}
 use Rattle.record_join.specs.History.{start}
 use Rattle.ingest.proofs.Following.{in_time_by}
 use Rattle.ingest.proofs.Limiting.{full_none}
+use Rattle.ingest.proofs.Together.{none_kept}
 use Rattle.ingest.proofs.event_flows.EventFlows.new.Goals as goal
 
 pub invariant_of-result : goal.invariant_of-result
@@ -10,13 +11,11 @@ invariant_of-result g c =
     in_time_by _ _ _ _ _ c.new-2.ensures.limits.limits_are (record {
       s = start;
       join_is = c.new.ensures.stands;
-      taken = [];
-      tables_are = c.new-2.ensures.stands text_of;
-      admitted = tt;
       bounds = c.new-2.ensures.limits;
-      kept_are = c.new-3.ensures.none;
-      rise = tt;
-      later = omega arith;
+      together = record {
+        safe = c.new-2.ensures.safe;
+        kept_of = none_kept _ _ _ _ c.new-3.ensures.none (ap length (c.new-2.ensures.stands text_of).objects_are);
+      };
     })
 
 pub returns-clause-stands : goal.returns-clause-stands

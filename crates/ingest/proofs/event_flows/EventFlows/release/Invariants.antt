@@ -12,6 +12,7 @@ abbrev pub invariant-loop-self : goal.invariant-loop-self
 invariant-loop-self g l = record {
   follows : (limits : Limits) (s : Joining) (released : List Event) → JoinedStandsFor limits l.fn.self s released → length released + length s.waiting ≤ 2 ^ 61 → IsUnderWay limits s released l.self;
   few : StaysFew l.fn.self l.self;
+  alike : g.K.Rows.alike l.fn.self.keep l.self.keep;
 }
 
 abbrev pub decreases-loop-self : goal.decreases-loop-self

@@ -4,21 +4,21 @@ use Rattle.ingest.proofs.line_reader.LineReader.end_other.Goals as goal
 
 pub count_line-requires-clause-lines : goal.count_line-requires-clause-lines
 count_line-requires-clause-lines c =
-    (room_fed _ _ _ _ c.args.part.now c.self.invariant c.requires.no_feed (fits_so _ _ (length c.args.part.now + 1) c.self.view_is c.requires.room)).lines
+    (room_fed _ _ _ _ c.args.part.now c.self.invariant (fits_so _ _ (length c.args.part.now + 1) c.self.view_is c.requires.room)).lines
 
 pub count_line-requires-clause-room : goal.count_line-requires-clause-room
 count_line-requires-clause-room c =
-    (room_fed _ _ _ _ c.args.part.now c.self.invariant c.requires.no_feed (fits_so _ _ (length c.args.part.now + 1) c.self.view_is c.requires.room)).counted
+    (room_fed _ _ _ _ c.args.part.now c.self.invariant (fits_so _ _ (length c.args.part.now + 1) c.self.view_is c.requires.room)).counted
 
 pub after_line-requires : goal.after_line-requires
 after_line-requires c =
-    let room = room_fed _ _ _ _ c.args.part.now c.self.invariant c.requires.no_feed (fits_so _ _ (length c.args.part.now + 1) c.self.view_is c.requires.room) in
+    let room = room_fed _ _ _ _ c.args.part.now c.self.invariant (fits_so _ _ (length c.args.part.now + 1) c.self.view_is c.requires.room) in
     omega (arith, room.lines)
 
 pub invariant_of-self-2 : goal.invariant_of-self-2
 invariant_of-self-2 c =
-    within_fed _ _ _ _ _ _ _ c.args.part.now c.self.invariant c.requires.no_feed (fits_so _ _ (length c.args.part.now + 1) c.self.view_is c.requires.room)
-    c.after_line.ensures c.in_ok-count_line.ensures.one
+    within_fed _ _ _ _ _ _ c.args.part.now c.self.invariant (fits_so _ _ (length c.args.part.now + 1) c.self.view_is c.requires.room) c.after_line.ensures c.in_ok-count_line.ensures.one
+    (c.in_ok-count_line.ensures.listed c.self.invariant.listed)
 
 pub returns-clause-stands : goal.returns-clause-stands
 returns-clause-stands c = λ limits h stands reads.
@@ -29,5 +29,6 @@ returns-clause-stands c = λ limits h stands reads.
 
 pub returns-clause-lines : goal.returns-clause-lines
 returns-clause-lines c =
-    let room = room_fed _ _ _ _ c.args.part.now c.self.invariant c.requires.no_feed (fits_so _ _ (length c.args.part.now + 1) c.self.view_is c.requires.room) in
-    keeps_line _ _ _ _ c.self.view_is c.after_line.ensures room.lines
+    let fits = fits_so _ _ (length c.args.part.now + 1) c.self.view_is c.requires.room in
+    let room = room_fed _ _ _ _ c.args.part.now c.self.invariant fits in
+    keeps_line _ _ _ _ c.self.view_is c.after_line.ensures room.lines (omega arith) (omega (arith, fits, c.self.invariant.input))

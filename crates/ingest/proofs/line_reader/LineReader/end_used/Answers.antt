@@ -1,23 +1,23 @@
-use Rattle.std.proofs.Common.{◌+◌, refl, arith, length, ◌++◌}
+use Rattle.std.proofs.Common.{◌+◌, ◌++◌, refl, arith, length}
 use Rattle.audit_lex.specs.History.{tail_of, lines_of}
 use Rattle.ingest.proofs.Reading.{used_class}
-use Rattle.ingest.proofs.ReaderSteps.{ends_line, reader_at, fits_so, room_fed, within_fed, stands_fed, own_tally, own_reads}
+use Rattle.ingest.proofs.ReaderSteps.{ends_line, reader_at, two_so, fits_so, room_fed, within_fed, stands_fed, own_tally, own_reads}
 use Rattle.ingest.proofs.Tallying.{used_more}
 use Rattle.ingest.proofs.line_reader.LineReader.end_used.Goals as goal
 
 pub overflow_add-self : goal.overflow_add-self
 overflow_add-self c =
-    let room = room_fed _ _ _ _ c.args.part.now c.self.invariant c.requires.no_feed (fits_so _ _ (length c.args.part.now + 1) c.self.view_is c.requires.room) in
+    let room = room_fed _ _ _ _ c.args.part.now c.self.invariant (fits_so _ _ (length c.args.part.now + 1) c.self.view_is c.requires.room) in
     omega (arith, room.counted)
 
 pub after_line-requires : goal.after_line-requires
 after_line-requires c =
-    let room = room_fed _ _ _ _ c.args.part.now c.self.invariant c.requires.no_feed (fits_so _ _ (length c.args.part.now + 1) c.self.view_is c.requires.room) in
+    let room = room_fed _ _ _ _ c.args.part.now c.self.invariant (fits_so _ _ (length c.args.part.now + 1) c.self.view_is c.requires.room) in
     omega (arith, room.lines)
 
 pub invariant_of-self : goal.invariant_of-self
 invariant_of-self c =
-    within_fed _ _ _ _ _ _ _ c.args.part.now c.self.invariant c.requires.no_feed (fits_so _ _ (length c.args.part.now + 1) c.self.view_is c.requires.room) c.after_line.ensures (omega arith)
+    within_fed _ _ _ _ _ _ c.args.part.now c.self.invariant (fits_so _ _ (length c.args.part.now + 1) c.self.view_is c.requires.room) c.after_line.ensures (omega arith) c.self.invariant.listed
 
 pub returns-clause-stands : goal.returns-clause-stands
 returns-clause-stands c = λ limits h item stands reads.
@@ -30,5 +30,7 @@ returns-clause-stands c = λ limits h item stands reads.
 
 pub returns-clause-lines : goal.returns-clause-lines
 returns-clause-lines c =
-    let room = room_fed _ _ _ _ c.args.part.now c.self.invariant c.requires.no_feed (fits_so _ _ (length c.args.part.now + 1) c.self.view_is c.requires.room) in
-    ends_line _ _ _ _ c.self.view_is c.after_line.ensures room.lines
+    let fits = fits_so _ _ (length c.args.part.now + 1) c.self.view_is c.requires.room in
+    let room = room_fed _ _ _ _ c.args.part.now c.self.invariant fits in
+    let two = two_so _ _ (length c.args.part.now) c.self.view_is c.requires.two in
+    ends_line _ _ _ _ c.self.view_is c.after_line.ensures room.lines (omega (arith, two)) (omega (arith, fits, c.self.invariant.input))

@@ -1,28 +1,22 @@
 use Rattle.std.proofs.Common.{◌++◌, ◌∷◌, [], ◌∙◌, ap, refl, arith, ℕ, List, append-nil}
 use Rattle.audit_lex.specs.History.{lines_of, tail_of}
 use Rattle.ingest.specs.Counting.{tally_of_lines}
-use Rattle.ingest.proofs.ReaderSteps.{keeps_own, keeps_line, reader_at, begun_so, room_settled, within_settled, stands_settled, own_tally, own_line}
+use Rattle.ingest.proofs.ReaderSteps.{keeps_own, keeps_line, reader_at, begun_own, begun_so, room_settled, within_settled, stands_settled, own_tally, own_line}
 use Rattle.ingest.proofs.line_reader.LineReader.settle_other.Goals as goal
 
 pub count_line-requires-clause-lines : goal.count_line-requires-clause-lines
-count_line-requires-clause-lines c =
-    let w = c.self.invariant in
-    (room_settled _ _ _ _ w (begun_so _ _ w.h c.self.view_is (c.if-is_between_lines.ensures.no refl) w.cut_is)).lines
+count_line-requires-clause-lines c = (room_settled _ _ _ _ c.self.invariant (begun_own _ _ c.self.view_is (c.if-is_between_lines.ensures.no refl))).lines
 
 pub count_line-requires-clause-room : goal.count_line-requires-clause-room
-count_line-requires-clause-room c =
-    let w = c.self.invariant in
-    (room_settled _ _ _ _ w (begun_so _ _ w.h c.self.view_is (c.if-is_between_lines.ensures.no refl) w.cut_is)).counted
+count_line-requires-clause-room c = (room_settled _ _ _ _ c.self.invariant (begun_own _ _ c.self.view_is (c.if-is_between_lines.ensures.no refl))).counted
 
 pub after_line-requires : goal.after_line-requires
-after_line-requires c =
-    let w = c.self.invariant in
-    omega (arith, (room_settled _ _ _ _ w (begun_so _ _ w.h c.self.view_is (c.if-is_between_lines.ensures.no refl) w.cut_is)).lines)
+after_line-requires c = omega (arith, (room_settled _ _ _ _ c.self.invariant (begun_own _ _ c.self.view_is (c.if-is_between_lines.ensures.no refl))).lines)
 
 pub invariant_of-self-2 : goal.invariant_of-self-2
 invariant_of-self-2 c =
-    let w = c.self.invariant in
-    within_settled _ _ _ _ _ _ _ w (begun_so _ _ w.h c.self.view_is (c.if-is_between_lines.ensures.no refl) w.cut_is) c.after_line.ensures c.in_ok-count_line.ensures.one
+    within_settled _ _ _ _ _ _ c.self.invariant (begun_own _ _ c.self.view_is (c.if-is_between_lines.ensures.no refl)) c.after_line.ensures c.in_ok-count_line.ensures.one
+    (c.in_ok-count_line.ensures.listed c.self.invariant.listed)
 
 pub returns-clause-stands : goal.returns-clause-stands
 returns-clause-stands c = λ limits h stands reads.
@@ -35,7 +29,8 @@ returns-clause-stands c = λ limits h stands reads.
 pub returns-clause-lines : goal.returns-clause-lines
 returns-clause-lines c =
     let w = c.self.invariant in
-    keeps_line _ _ _ _ c.self.view_is c.after_line.ensures (room_settled _ _ _ _ w (begun_so _ _ w.h c.self.view_is (c.if-is_between_lines.ensures.no refl) w.cut_is)).lines
+    keeps_line _ _ _ _ c.self.view_is c.after_line.ensures (room_settled _ _ _ _ w (begun_own _ _ c.self.view_is (c.if-is_between_lines.ensures.no refl))).lines
+    (omega arith) (omega (arith, w.within, w.input))
 
 pub returns-then-is_between_lines-clause-lines : goal.returns-then-is_between_lines-clause-lines
 returns-then-is_between_lines-clause-lines c = keeps_own _ _ c.self.view_is c.self.invariant

@@ -5,7 +5,7 @@ use Rattle.reach_rows.specs.Kept.{AreRows, row_of_kept, GoesOn}
 use Rattle.reach_rows.specs.InMemory.{HasLinks}
 use Rattle.reach_rows.specs.declared.rows.Row.{Row as KeptRow}
 use Rattle.reduced_store.specs.Held.{Held, AreHeld}
-use Rattle.reduced_store.specs.Objects.{AreObjects}
+use Rattle.reach_rows.specs.Objects.{AreObjects}
 use Rattle.reduced_store.proofs.HeldLemmas.{counted, held_push}
 use Rattle.reduced_store.proofs.rows.StoreRows.push.Goals as goal
 

@@ -1,0 +1,14 @@
+use Rattle.std.proofs.Common.{◌∙◌, subst}
+use Rattle.std.specs.List.Sorted.{IsPermutation}
+use Rattle.std.proofs.lemmas.List.Sorted.{IsNonDecreasingBy-from_sort}
+use Rattle.reduced_store.specs.Saving.{Listed, mark_at, AreListed}
+use Rattle.reduced_store.proofs.ListedLemmas.{are_listed}
+use Rattle.reduced_store.proofs.earlier.Earlier.rows.Goals as goal
+
+pub returns : goal.returns
+returns c =
+    let entries = c.self.inside.marks.entries in
+    let keys = c.in_ok-rows.ensures.items ∙ c.as_slice.ensures ∙ c.keys.ensures.rest in
+    let ks = c.sort.new.self.items in
+    subst (λ (l : Listed). AreListed (mark_at l.all) ks) c.self.view_is
+    (are_listed entries ks c.keys.ensures.unique (subst (λ xs. IsPermutation xs ks) keys c.sort.ensures.permutation) (IsNonDecreasingBy-from_sort (λ x. x) ks c.in_ok-sort.ensures.sorted))

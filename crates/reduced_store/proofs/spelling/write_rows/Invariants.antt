@@ -1,0 +1,8 @@
+use Rattle.std.proofs.Common.{◌≡◌, ◌++◌, take}
+use Rattle.std.specs.List.{flat_map, All}
+use Rattle.row_codec.specs.Rows.{row, Fits}
+use Rattle.reduced_store.proofs.spelling.write_rows.Given as goal
+
+-- the rows so far stand after the bytes, and each of them fits
+abbrev pub invariant-loop-row : goal.invariant-loop-row
+invariant-loop-row l = (l.to ≡ l.fn.to ++ flat_map row (take l.row-index l.rows)) × All Fits (take l.row-index l.rows)
