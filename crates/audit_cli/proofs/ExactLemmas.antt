@@ -1,5 +1,5 @@
 -- A dialogue within the limits passes no limit.
-use Rattle.std.proofs.Common.{◌≡◌, ℕ, List, [], ◌∷◌, ◌++◌, map, take, length, refl, ap, sym, arith, ◌∙◌, Option, Some, None, subst, suc, append_assoc, inl, inr, ⊎_elim}
+use Rattle.std.proofs.Common.{Bool, true, false, if◌then◌else◌, ◌≡◌, ℕ, List, [], ◌∷◌, ◌++◌, map, take, length, refl, ap, sym, arith, ◌∙◌, Option, Some, None, subst, suc, append_assoc, inl, inr, ⊎_elim}
 use Rattle.std.proofs.lemmas.List.{append-nil, map-append, length-append}
 use Rattle.flow_base.specs.declared.limits.Limits.{Limits}
 use Rattle.flow_base.specs.declared.limits.Full.{Full}
@@ -11,7 +11,7 @@ use Rattle.report_json.specs.declared.reply.Reply.TheVariants as reply
 use Rattle.ingest.specs.Stops.{Fits, Stops}
 use Rattle.audit_cli.specs.declared.halt.Turn.{Turn}
 use Rattle.audit_cli.specs.declared.halt.Turn.TheVariants as turn
-use Rattle.audit_cli.specs.Dialogue.{Moment, after, turn_of, AfterTurn, Dialogue, Leads, Closes, Beyond, NextStops, StopsAfter, QuestionsStop, asked, asks}
+use Rattle.audit_cli.specs.Dialogue.{Moment, after, settled_on, taken_on, turn_of, AfterTurn, Dialogue, Leads, Closes, Beyond, NextStops, StopsAfter, QuestionsStop, asked, asks}
 use Rattle.audit_cli.specs.Listening.{KeepsWithin}
 use Rattle.audit_cli.proofs.MomentLemmas.{Stay}
 
@@ -51,11 +51,15 @@ goes_none h = record { more = []; is = sym (append-nil h) }
 goes_both : (a b c : History) → Goes a b → Goes b c → Goes a c
 goes_both a b c first second = record { more = first.more ++ second.more; is = second.is ∙ ap (λ (h : History). h ++ second.more) first.is ∙ append_assoc a first.more second.more }
 
+if_grows : (b : Bool) (m next : Moment) → Goes m.history next.history → Goes m.history (if b then next else m).history
+if_grows true m next goes = goes
+if_grows false m next goes = goes_none m.history
+
 -- a question takes nothing away
 pub grows : (q : Option Ask) (m : Moment) → Goes m.history (after q m).history
 grows None m = goes_none m.history
-grows (Some (ask.Take n)) m = record { more = map Byte (take n m.log); is = refl }
-grows (Some ask.Settle) m = record { more = Settle ∷ []; is = refl }
+grows (Some (ask.Take n)) m = if_grows m.takes m (taken_on n m) (record { more = map Byte (take n m.log); is = refl })
+grows (Some ask.Settle) m = if_grows m.takes m (settled_on m) (record { more = Settle ∷ []; is = refl })
 grows (Some (ask.Question question)) m = goes_none m.history
 grows (Some (ask.Why from to until)) m = goes_none m.history
 grows (Some (ask.Find text)) m = goes_none m.history

@@ -7,14 +7,13 @@ use Rattle.flow_base.specs.declared.limits.Limits.{Limits}
 use Rattle.flow_base.specs.declared.limits.Full.{Full}
 use Rattle.audit_lex.specs.History.{History, Byte, with_bytes, lines_of}
 use Rattle.audit_lex.specs.LineCut.{Cutter}
-use Rattle.reach_model.specs.declared.modes.Mode.{Mode}
 use Rattle.ingest.specs.Parts.{Engine}
 use Rattle.report_json.specs.declared.ask.Ask.{Ask}
 use Rattle.audit_cli.specs.declared.halt.Halt.{Halt}
 use Rattle.audit_cli.specs.declared.halt.Halt.TheVariants as halt
 use Rattle.audit_cli.specs.declared.halt.Turn.{Turn}
 use Rattle.audit_cli.specs.declared.halt.Turn.TheVariants as turn
-use Rattle.audit_cli.specs.Dialogue.{Moment, Beyond, Leads, asked, asks, QuestionsStop, ReadsNoFurther, input_full, nothing_beyond}
+use Rattle.audit_cli.specs.Dialogue.{Kind, Moment, Beyond, Leads, asked, asks, QuestionsStop, ReadsNoFurther, input_full, nothing_beyond}
 use Rattle.audit_cli.specs.Course.{At, Course, Halted, Talked, IsDue, never}
 use Rattle.audit_cli.specs.Hearing.{Holds, Heard, WhenMore}
 use Rattle.audit_cli.specs.Listening.{PassesRoom, EndsWithin}
@@ -29,15 +28,15 @@ pub pieces : (h : History) (p q : List ℕ) → with_bytes (with_bytes h p) q �
 pieces h p q = rw (map-append, append_assoc) refl
 
 -- the lines of a piece that was heard whole
-pub whole_lines : {K : Type 0} → (mode : Mode) (limits : Limits) (beyond : Beyond) (c : Cutter) (e : Engine K) (l old new : Option (List ℕ)) (m : Moment) (h : History) (p : List ℕ)
-    → (x : Heard mode limits beyond c e l old new (Ok turn.More) m h p) → lines_of (with_bytes h p) ≡ lines_of h ++ x.answered
-whole_lines mode limits beyond c e l old new m h p x =
+pub whole_lines : {K : Type 0} → (kind : Kind) (limits : Limits) (beyond : Beyond) (c : Cutter) (e : Engine K) (l old new : Option (List ℕ)) (m : Moment) (h : History) (p : List ℕ)
+    → (x : Heard kind limits beyond c e l old new (Ok turn.More) m h p) → lines_of (with_bytes h p) ≡ lines_of h ++ x.answered
+whole_lines kind limits beyond c e l old new m h p x =
     x.lines ∙ ap (λ (ls : List (List ℕ)). lines_of h ++ (x.answered ++ ls)) x.whole ∙ ap (λ (ls : List (List ℕ)). lines_of h ++ ls) (append-nil x.answered)
 
 -- a part of a run after another one that goes on
-pub talked_after : {K : Type 0} → (mode : Mode) (limits : Limits) (P Q : Beyond) (e1 e2 : Engine K) (l1 l2 old mid new : Option (List ℕ)) (r : Result Turn Halt) (from : Moment) (f g : List (Option Ask))
-    → Carries f P Q → (first : Talked mode limits nothing_beyond e1 l1 old mid (Ok turn.More) from f) → Talked mode limits P e2 l2 mid new r first.to g → Talked mode limits Q e2 l2 old new r from (f ++ g)
-talked_after mode limits P Q e1 e2 l1 l2 old mid new r from f g carries first second = record {
+pub talked_after : {K : Type 0} → (kind : Kind) (limits : Limits) (P Q : Beyond) (e1 e2 : Engine K) (l1 l2 old mid new : Option (List ℕ)) (r : Result Turn Halt) (from : Moment) (f g : List (Option Ask))
+    → Carries f P Q → (first : Talked kind limits nothing_beyond e1 l1 old mid (Ok turn.More) from f) → Talked kind limits P e2 l2 mid new r first.to g → Talked kind limits Q e2 l2 old new r from (f ++ g)
+talked_after kind limits P Q e1 e2 l1 l2 old mid new r from f g carries first second = record {
   to = second.to;
   bytes = first.bytes ++ second.bytes;
   wrote = appends_both old mid new first.bytes second.bytes first.wrote second.wrote;
@@ -47,32 +46,32 @@ talked_after mode limits P Q e1 e2 l1 l2 old mid new r from f g carries first se
 }
 
 -- nothing asked yet
-pub talked_none : {K : Type 0} → (mode : Mode) (limits : Limits) (beyond : Beyond) (e : Engine K) (l old : Option (List ℕ)) (m : Moment) → At mode limits e l m → Talked mode limits beyond e l old old (Ok turn.More) m []
-talked_none mode limits beyond e l old m at = record { to = m; bytes = []; wrote = appends_none old; course = ([], refl, leads_none limits m); at = at }
+pub talked_none : {K : Type 0} → (kind : Kind) (limits : Limits) (beyond : Beyond) (e : Engine K) (l old : Option (List ℕ)) (m : Moment) → At kind limits e l m → Talked kind limits beyond e l old old (Ok turn.More) m []
+talked_none kind limits beyond e l old m at = record { to = m; bytes = []; wrote = appends_none old; course = ([], refl, leads_none limits m); at = at }
 
 -- nothing heard yet
-pub heard_none : {K : Type 0} → (mode : Mode) (limits : Limits) (beyond : Beyond) (c : Cutter) (e : Engine K) (l old : Option (List ℕ)) (m : Moment) (h : History) → At mode limits e l m → Holds limits c h → Heard mode limits beyond c e l old old (Ok turn.More) m h []
-heard_none mode limits beyond c e l old m h at holds = record {
+pub heard_none : {K : Type 0} → (kind : Kind) (limits : Limits) (beyond : Beyond) (c : Cutter) (e : Engine K) (l old : Option (List ℕ)) (m : Moment) (h : History) → At kind limits e l m → Holds limits c h → Heard kind limits beyond c e l old old (Ok turn.More) m h []
+heard_none kind limits beyond c e l old m h at holds = record {
   answered = [];
   unheard = [];
   lines = ap lines_of (append-nil h) ∙ sym (append-nil (lines_of h));
-  talked = talked_none mode limits beyond e l old m at;
+  talked = talked_none kind limits beyond e l old m at;
   holds = subst (λ (x : History). Holds limits c x) (sym (append-nil h)) holds;
   whole = refl;
 }
 
 -- one piece after another that was heard whole
-pub heard_both : {K : Type 0} → (mode : Mode) (limits : Limits) (P Q : Beyond) (c1 c2 : Cutter) (e1 e2 : Engine K) (l1 l2 old mid new : Option (List ℕ)) (r : Result Turn Halt) (from : Moment) (h : History) (p q : List ℕ)
-    → (first : Heard mode limits nothing_beyond c1 e1 l1 old mid (Ok turn.More) from h p) → Carries (asks limits first.answered) P Q → Heard mode limits P c2 e2 l2 mid new r first.talked.to (with_bytes h p) q → Heard mode limits Q c2 e2 l2 old new r from h (p ++ q)
-heard_both mode limits P Q c1 c2 e1 e2 l1 l2 old mid new r from h p q first carries second =
-    let whole = whole_lines mode limits nothing_beyond c1 e1 l1 old mid from h p first in
+pub heard_both : {K : Type 0} → (kind : Kind) (limits : Limits) (P Q : Beyond) (c1 c2 : Cutter) (e1 e2 : Engine K) (l1 l2 old mid new : Option (List ℕ)) (r : Result Turn Halt) (from : Moment) (h : History) (p q : List ℕ)
+    → (first : Heard kind limits nothing_beyond c1 e1 l1 old mid (Ok turn.More) from h p) → Carries (asks limits first.answered) P Q → Heard kind limits P c2 e2 l2 mid new r first.talked.to (with_bytes h p) q → Heard kind limits Q c2 e2 l2 old new r from h (p ++ q)
+heard_both kind limits P Q c1 c2 e1 e2 l1 l2 old mid new r from h p q first carries second =
+    let whole = whole_lines kind limits nothing_beyond c1 e1 l1 old mid from h p first in
     record {
       answered = first.answered ++ second.answered;
       unheard = second.unheard;
       lines = ap lines_of (sym (pieces h p q)) ∙ second.lines ∙ ap (λ (ls : List (List ℕ)). ls ++ (second.answered ++ second.unheard)) whole
           ∙ append_assoc (lines_of h) first.answered (second.answered ++ second.unheard)
           ∙ ap (λ (ls : List (List ℕ)). lines_of h ++ ls) (sym (append_assoc first.answered second.answered second.unheard));
-      talked = rw (map-append (asked limits.question) first.answered second.answered) (talked_after mode limits P Q e1 e2 l1 l2 old mid new r from _ _ carries first.talked second.talked);
+      talked = rw (map-append (asked limits.question) first.answered second.answered) (talked_after kind limits P Q e1 e2 l1 l2 old mid new r from _ _ carries first.talked second.talked);
       holds = subst (λ (x : History). WhenMore r (Holds limits c2 x)) (pieces h p q) second.holds;
       whole = second.whole;
     }
@@ -88,9 +87,9 @@ when_more (Ok turn.Ended) P p = tt
 when_more (Err why) P p = tt
 
 -- a longer piece, of which no more is heard
-pub heard_longer : {K : Type 0} → LinesStay → (mode : Mode) (limits : Limits) (beyond : Beyond) (c : Cutter) (e : Engine K) (l old new : Option (List ℕ)) (r : Result Turn Halt) (from : Moment) (h : History) (p q : List ℕ)
-    → WhenMore r ⊥ → Heard mode limits beyond c e l old new r from h p → Heard mode limits beyond c e l old new r from h (p ++ q)
-heard_longer stay mode limits beyond c e l old new r from h p q none x =
+pub heard_longer : {K : Type 0} → LinesStay → (kind : Kind) (limits : Limits) (beyond : Beyond) (c : Cutter) (e : Engine K) (l old new : Option (List ℕ)) (r : Result Turn Halt) (from : Moment) (h : History) (p q : List ℕ)
+    → WhenMore r ⊥ → Heard kind limits beyond c e l old new r from h p → Heard kind limits beyond c e l old new r from h (p ++ q)
+heard_longer stay kind limits beyond c e l old new r from h p q none x =
     let more = stay (with_bytes h p) (map Byte q) in
     record {
       answered = x.answered;
@@ -104,33 +103,33 @@ heard_longer stay mode limits beyond c e l old new r from h p q none x =
     }
 
 -- a part that ends a line, which was answered
-pub heard_line : {K : Type 0} → (mode : Mode) (limits : Limits) (beyond : Beyond) (c : Cutter) (e : Engine K) (l old new : Option (List ℕ)) (r : Result Turn Halt) (m : Moment) (h : History) (part text : List ℕ) (q : Option Ask)
-    → q ≡ asked limits.question text → Holds limits c (with_bytes h part) → lines_of (with_bytes h part) ≡ lines_of h ++ text ∷ [] → Talked mode limits beyond e l old new r m (q ∷ []) → Heard mode limits beyond c e l old new r m h part
-heard_line mode limits beyond c e l old new r m h part text q asks holds lines talked = record {
+pub heard_line : {K : Type 0} → (kind : Kind) (limits : Limits) (beyond : Beyond) (c : Cutter) (e : Engine K) (l old new : Option (List ℕ)) (r : Result Turn Halt) (m : Moment) (h : History) (part text : List ℕ) (q : Option Ask)
+    → q ≡ asked limits.question text → Holds limits c (with_bytes h part) → lines_of (with_bytes h part) ≡ lines_of h ++ text ∷ [] → Talked kind limits beyond e l old new r m (q ∷ []) → Heard kind limits beyond c e l old new r m h part
+heard_line kind limits beyond c e l old new r m h part text q asks holds lines talked = record {
   answered = text ∷ [];
   unheard = [];
   lines = lines;
-  talked = subst (λ (x : Option Ask). Talked mode limits beyond e l old new r m (x ∷ [])) asks talked;
+  talked = subst (λ (x : Option Ask). Talked kind limits beyond e l old new r m (x ∷ [])) asks talked;
   holds = when_more r _ holds;
   whole = when_more r _ refl;
 }
 
 -- a part that ends no line
-pub heard_no_line : {K : Type 0} → (mode : Mode) (limits : Limits) (beyond : Beyond) (c : Cutter) (e : Engine K) (l old : Option (List ℕ)) (m : Moment) (h : History) (part : List ℕ)
-    → At mode limits e l m → Holds limits c (with_bytes h part) → lines_of (with_bytes h part) ≡ lines_of h → Heard mode limits beyond c e l old old (Ok turn.More) m h part
-heard_no_line mode limits beyond c e l old m h part at holds lines = record {
+pub heard_no_line : {K : Type 0} → (kind : Kind) (limits : Limits) (beyond : Beyond) (c : Cutter) (e : Engine K) (l old : Option (List ℕ)) (m : Moment) (h : History) (part : List ℕ)
+    → At kind limits e l m → Holds limits c (with_bytes h part) → lines_of (with_bytes h part) ≡ lines_of h → Heard kind limits beyond c e l old old (Ok turn.More) m h part
+heard_no_line kind limits beyond c e l old m h part at holds lines = record {
   answered = [];
   unheard = [];
   lines = lines ∙ sym (append-nil (lines_of h));
-  talked = talked_none mode limits beyond e l old m at;
+  talked = talked_none kind limits beyond e l old m at;
   holds = holds;
   whole = refl;
 }
 
 -- nothing heard before a halt
-pub heard_nothing : {K : Type 0} → LinesStay → (mode : Mode) (limits : Limits) (beyond : Beyond) (c : Cutter) (e : Engine K) (l old : Option (List ℕ)) (why : Halt) (m : Moment) (h : History) (piece : List ℕ)
-    → IsDue never why → Heard mode limits beyond c e l old old (Err why) m h piece
-heard_nothing stay mode limits beyond c e l old why m h piece due =
+pub heard_nothing : {K : Type 0} → LinesStay → (kind : Kind) (limits : Limits) (beyond : Beyond) (c : Cutter) (e : Engine K) (l old : Option (List ℕ)) (why : Halt) (m : Moment) (h : History) (piece : List ℕ)
+    → IsDue never why → Heard kind limits beyond c e l old old (Err why) m h piece
+heard_nothing stay kind limits beyond c e l old why m h piece due =
     let more = stay h (map Byte piece) in
     record {
       answered = [];
@@ -166,9 +165,9 @@ course_weaker limits P Q (Ok turn.More) a b f bytes more h = h
 course_weaker limits P Q (Ok turn.Ended) a b f bytes more h = h
 course_weaker limits P Q (Err why) a b f bytes more h = halted_weaker limits P Q a f bytes why more h
 
-pub heard_weaker : {K : Type 0} → (mode : Mode) (limits : Limits) (P Q : Beyond) (c : Cutter) (e : Engine K) (l old new : Option (List ℕ)) (r : Result Turn Halt) (from : Moment) (h : History) (p : List ℕ)
-    → Weaker P Q → Heard mode limits P c e l old new r from h p → Heard mode limits Q c e l old new r from h p
-heard_weaker mode limits P Q c e l old new r from h p more x = record {
+pub heard_weaker : {K : Type 0} → (kind : Kind) (limits : Limits) (P Q : Beyond) (c : Cutter) (e : Engine K) (l old new : Option (List ℕ)) (r : Result Turn Halt) (from : Moment) (h : History) (p : List ℕ)
+    → Weaker P Q → Heard kind limits P c e l old new r from h p → Heard kind limits Q c e l old new r from h p
+heard_weaker kind limits P Q c e l old new r from h p more x = record {
   answered = x.answered;
   unheard = x.unheard;
   lines = x.lines;
@@ -184,9 +183,9 @@ heard_weaker mode limits P Q c e l old new r from h p more x = record {
 }
 
 -- a longer piece, of which the rest may not be heard
-pub heard_full : {K : Type 0} → LinesStay → (mode : Mode) (limits : Limits) (beyond : Beyond) (c : Cutter) (e : Engine K) (l old new : Option (List ℕ)) (from : Moment) (h : History) (p q : List ℕ)
-    → (x : Heard mode limits nothing_beyond c e l old new (Ok turn.More) from h p) → beyond (asks limits x.answered) (input_full limits) → Heard mode limits beyond c e l old new (Err (halt.Full (input_full limits))) from h (p ++ q)
-heard_full stay mode limits beyond c e l old new from h p q x over =
+pub heard_full : {K : Type 0} → LinesStay → (kind : Kind) (limits : Limits) (beyond : Beyond) (c : Cutter) (e : Engine K) (l old new : Option (List ℕ)) (from : Moment) (h : History) (p q : List ℕ)
+    → (x : Heard kind limits nothing_beyond c e l old new (Ok turn.More) from h p) → beyond (asks limits x.answered) (input_full limits) → Heard kind limits beyond c e l old new (Err (halt.Full (input_full limits))) from h (p ++ q)
+heard_full stay kind limits beyond c e l old new from h p q x over =
     let more = stay (with_bytes h p) (map Byte q) in
     record {
       answered = x.answered;
@@ -212,9 +211,9 @@ heard_full stay mode limits beyond c e l old new from h p q x over =
     }
 
 -- a part that goes on had no cause to halt
-pub heard_more : {K : Type 0} → (mode : Mode) (limits : Limits) (P Q : Beyond) (c : Cutter) (e : Engine K) (l old new : Option (List ℕ)) (from : Moment) (h : History) (p : List ℕ)
-    → Heard mode limits P c e l old new (Ok turn.More) from h p → Heard mode limits Q c e l old new (Ok turn.More) from h p
-heard_more mode limits P Q c e l old new from h p x = record {
+pub heard_more : {K : Type 0} → (kind : Kind) (limits : Limits) (P Q : Beyond) (c : Cutter) (e : Engine K) (l old new : Option (List ℕ)) (from : Moment) (h : History) (p : List ℕ)
+    → Heard kind limits P c e l old new (Ok turn.More) from h p → Heard kind limits Q c e l old new (Ok turn.More) from h p
+heard_more kind limits P Q c e l old new from h p x = record {
   answered = x.answered;
   unheard = x.unheard;
   lines = x.lines;
@@ -224,20 +223,20 @@ heard_more mode limits P Q c e l old new from h p x = record {
 }
 
 -- what was heard within the room leaves more to hear
-pub questions_pass : {K : Type 0} → (mode : Mode) (limits : Limits) (c : Cutter) (e : Engine K) (l old new : Option (List ℕ)) (from : Moment) (h : History) (p q : List ℕ) (room : ℕ)
-    → p ≡ take room q → room < length q → (x : Heard mode limits nothing_beyond c e l old new (Ok turn.More) from h p) → PassesRoom limits room h q (asks limits x.answered) (input_full limits)
-questions_pass mode limits c e l old new from h p q room is over x = record {
+pub questions_pass : {K : Type 0} → (kind : Kind) (limits : Limits) (c : Cutter) (e : Engine K) (l old new : Option (List ℕ)) (from : Moment) (h : History) (p q : List ℕ) (room : ℕ)
+    → p ≡ take room q → room < length q → (x : Heard kind limits nothing_beyond c e l old new (Ok turn.More) from h p) → PassesRoom limits room h q (asks limits x.answered) (input_full limits)
+questions_pass kind limits c e l old new from h p q room is over x = record {
   ended = x.answered;
-  lines = ap (λ (xs : List ℕ). lines_of (with_bytes h xs)) (sym is) ∙ whole_lines mode limits nothing_beyond c e l old new from h p x;
+  lines = ap (λ (xs : List ℕ). lines_of (with_bytes h xs)) (sym is) ∙ whole_lines kind limits nothing_beyond c e l old new from h p x;
   all = refl;
   past = over;
   is = refl;
 }
 
 -- `end` was heard within the room
-pub questions_closed : {K : Type 0} → LinesStay → (mode : Mode) (limits : Limits) (c : Cutter) (e : Engine K) (l old new : Option (List ℕ)) (from : Moment) (h : History) (p q : List ℕ) (n room : ℕ)
-    → p ≡ take n q → n ≤ room → Heard mode limits nothing_beyond c e l old new (Ok turn.Ended) from h p → EndsWithin limits room from h q
-questions_closed stay mode limits c e l old new from h p q n room is within x =
+pub questions_closed : {K : Type 0} → LinesStay → (kind : Kind) (limits : Limits) (c : Cutter) (e : Engine K) (l old new : Option (List ℕ)) (from : Moment) (h : History) (p q : List ℕ) (n room : ℕ)
+    → p ≡ take n q → n ≤ room → Heard kind limits nothing_beyond c e l old new (Ok turn.Ended) from h p → EndsWithin limits room from h q
+questions_closed stay kind limits c e l old new from h p q n room is within x =
     let sum : n + (room - n) ≡ room = omega arith in
     let split : take room q ≡ p ++ take (room - n) (drop n q) = sym (ap (λ (k : ℕ). take k q) sum) ∙ take-add n (room - n) q ∙ ap (λ (xs : List ℕ). xs ++ take (room - n) (drop n q)) (sym is) in
     let rest = take (room - n) (drop n q) in
@@ -260,11 +259,11 @@ front_of limits n q within =
     sym (take-add n (limits.input - n) q) ∙ ap (λ (k : ℕ). take k q) sum
 
 -- the same, after all that was heard before
-pub questions_pass_after : {K : Type 0} → (mode : Mode) (limits : Limits) (n : ℕ) (c : Cutter) (e : Engine K) (l old new : Option (List ℕ)) (from : Moment) (q : List ℕ)
-    → n ≤ limits.input → n ≤ length q → (first : Heard mode limits nothing_beyond c e l old new (Ok turn.More) from [] (take n q))
+pub questions_pass_after : {K : Type 0} → (kind : Kind) (limits : Limits) (n : ℕ) (c : Cutter) (e : Engine K) (l old new : Option (List ℕ)) (from : Moment) (q : List ℕ)
+    → n ≤ limits.input → n ≤ length q → (first : Heard kind limits nothing_beyond c e l old new (Ok turn.More) from [] (take n q))
     → Carries (asks limits first.answered) (PassesRoom limits (limits.input - n) (with_bytes [] (take n q)) (drop n q)) (QuestionsStop limits q)
-questions_pass_after mode limits n c e l old new from q within part first = λ answered full x.
-    let whole = whole_lines mode limits nothing_beyond c e l old new from [] (take n q) first in
+questions_pass_after kind limits n c e l old new from q within part first = λ answered full x.
+    let whole = whole_lines kind limits nothing_beyond c e l old new from [] (take n q) first in
     let lines : lines_of (with_bytes [] (take limits.input q)) ≡ first.answered ++ x.ended =
     ap (λ (xs : List ℕ). lines_of (with_bytes [] xs)) (sym (front_of limits n q within)) ∙ ap lines_of (sym (pieces [] (take n q) (take (limits.input - n) (drop n q)))) ∙ x.lines ∙ ap (λ (ls : List (List ℕ)). ls ++ x.ended) whole in
     let left = length-drop n q in
@@ -276,10 +275,10 @@ questions_pass_after mode limits n c e l old new from q within part first = λ a
     }
 
 -- the same, after all that was heard before
-pub questions_closed_after : {K : Type 0} → (mode : Mode) (limits : Limits) (n : ℕ) (c : Cutter) (e : Engine K) (l old new : Option (List ℕ)) (from : Moment) (q : List ℕ)
-    → n ≤ limits.input → (first : Heard mode limits nothing_beyond c e l old new (Ok turn.More) from [] (take n q)) → EndsWithin limits (limits.input - n) first.talked.to (with_bytes [] (take n q)) (drop n q) → EndsWithin limits limits.input from [] q
-questions_closed_after mode limits n c e l old new from q within first x =
-    let whole = whole_lines mode limits nothing_beyond c e l old new from [] (take n q) first in
+pub questions_closed_after : {K : Type 0} → (kind : Kind) (limits : Limits) (n : ℕ) (c : Cutter) (e : Engine K) (l old new : Option (List ℕ)) (from : Moment) (q : List ℕ)
+    → n ≤ limits.input → (first : Heard kind limits nothing_beyond c e l old new (Ok turn.More) from [] (take n q)) → EndsWithin limits (limits.input - n) first.talked.to (with_bytes [] (take n q)) (drop n q) → EndsWithin limits limits.input from [] q
+questions_closed_after kind limits n c e l old new from q within first x =
+    let whole = whole_lines kind limits nothing_beyond c e l old new from [] (take n q) first in
     record {
       answered = first.answered ++ x.answered;
       unheard = x.unheard;
@@ -295,14 +294,14 @@ on_ok (Ok t) P p = p
 on_ok (Err e) P p = tt
 
 -- one read more than what was heard whole
-pub no_further : {K : Type 0} → (mode : Mode) (limits : Limits) (c : Cutter) (e : Engine K) (l old new : Option (List ℕ)) (from : Moment) (q : List ℕ) (n count : ℕ) (left : Option (List ℕ))
-    → Heard mode limits nothing_beyond c e l old new (Ok turn.More) from [] (take n q) → count ≤ 65536 → left ≡ Some (drop count (drop n q)) → ReadsNoFurther limits from q left
-no_further mode limits c e l old new from q n count left first short told = record {
+pub no_further : {K : Type 0} → (kind : Kind) (limits : Limits) (c : Cutter) (e : Engine K) (l old new : Option (List ℕ)) (from : Moment) (q : List ℕ) (n count : ℕ) (left : Option (List ℕ))
+    → Heard kind limits nothing_beyond c e l old new (Ok turn.More) from [] (take n q) → count ≤ 65536 → left ≡ Some (drop count (drop n q)) → ReadsNoFurther limits from q left
+no_further kind limits c e l old new from q n count left first short told = record {
   before = n;
   count = count;
   said = first.talked.course.0;
   to = first.talked.to;
-  leads = subst (λ (ls : List (List ℕ)). Leads limits from (asks limits ls) first.talked.course.0 first.talked.to) (sym (whole_lines mode limits nothing_beyond c e l old new from [] (take n q) first)) first.talked.course.2;
+  leads = subst (λ (ls : List (List ℕ)). Leads limits from (asks limits ls) first.talked.course.0 first.talked.to) (sym (whole_lines kind limits nothing_beyond c e l old new from [] (take n q) first)) first.talked.course.2;
   short = short;
   told = told ∙ ap Some (drop-drop count n q);
 }

@@ -1,5 +1,5 @@
 -- From a job's course to the clauses of the top call.
-use Rattle.std.proofs.Common.{subst, ◌≡◌, ℕ, List, [], refl, sym, ◌∙◌, Option, Some, inl, inr}
+use Rattle.std.proofs.Common.{true, subst, ◌≡◌, ℕ, List, [], refl, sym, ◌∙◌, Option, Some, inl, inr}
 use Rattle.std.proofs.lemmas.List.{append-nil}
 use Rattle.std.specs.Prelude.{◌⊎◌, Result, Ok, Err, OnOk, IfErr}
 use Rattle.std.specs.Io.KnownBytes.{Appends}
@@ -13,7 +13,7 @@ use Rattle.audit_cli.specs.declared.halt.Halt.TheVariants as halt
 use Rattle.audit_cli.specs.declared.status.Status.TheVariants as status
 use Rattle.audit_cli.specs.declared.words.Job.{Job}
 use Rattle.audit_cli.specs.declared.words.Job.TheVariants as job
-use Rattle.audit_cli.specs.Dialogue.{Moment, begin, asks, lines_in, nothing_beyond, QuestionsStop}
+use Rattle.audit_cli.specs.Dialogue.{kind_of, Moment, begin, asks, lines_in, nothing_beyond, QuestionsStop}
 use Rattle.audit_cli.specs.Course.{EndTalked, HasCauses, Halted}
 use Rattle.audit_cli.specs.Headline.{back_questions, Tells, TellsLog, Writes, WritesFront, TrialStops, Finished, Written, StoppedAt, PassesLimit, PassesNone}
 use Rattle.audit_cli.specs.Jobs.{LastCourse, LastTalked, JobStopped, JobCourse, JobTalked, KeepsLimit}
@@ -39,19 +39,19 @@ watch_halt limits mode name log asked halt.NoMemory bytes to x = x
 watch_halt limits mode name log asked halt.ReadFault bytes to x = x
 watch_halt limits mode name log asked halt.WriteFault bytes to x = x
 
-plainly_talked : {K : Type 0} → (limits : Limits) (of : ℕ) (log asked : List ℕ) (e : Engine K) (left old new : Option (List ℕ)) (r : Result Unit Halt) → LastTalked Plain limits e left old new r (begin Plain log) (back_questions of log)
+plainly_talked : {K : Type 0} → (limits : Limits) (of : ℕ) (log asked : List ℕ) (e : Engine K) (left old new : Option (List ℕ)) (r : Result Unit Halt) → LastTalked (kind_of Plain true) limits e left old new r (begin Plain log) (back_questions of log)
     → JobTalked limits (job.Back of) log asked left old new r
 plainly_talked limits of log asked e left old new (Ok done) x = record { to = x.to; bytes = x.bytes; wrote = x.wrote; course = x.course; ends = record { within = x.at.stands.fits; told = x.at.told } }
 plainly_talked limits of log asked e left old new (Err why) x = record { to = x.to; bytes = x.bytes; wrote = x.wrote; course = last_halt limits of log asked why x.bytes x.to x.course; ends = tt }
 
 -- `back`
-pub back_talked : {K : Type 0} → (kept : Mode) (limits : Limits) (of : ℕ) (log asked : List ℕ) (e : Engine K) (left old new : Option (List ℕ)) (r : Result Unit Halt) → kept ≡ Plain → LastTalked kept limits e left old new r (begin kept log) (back_questions of log)
+pub back_talked : {K : Type 0} → (kept : Mode) (limits : Limits) (of : ℕ) (log asked : List ℕ) (e : Engine K) (left old new : Option (List ℕ)) (r : Result Unit Halt) → kept ≡ Plain → LastTalked (kind_of kept true) limits e left old new r (begin kept log) (back_questions of log)
     → JobTalked limits (job.Back of) log asked left old new r
-back_talked kept limits of log asked e left old new r plain x = plainly_talked limits of log asked e left old new r (subst (λ (mode : Mode). LastTalked mode limits e left old new r (begin mode log) (back_questions of log)) plain x)
+back_talked kept limits of log asked e left old new r plain x = plainly_talked limits of log asked e left old new r (subst (λ (mode : Mode). LastTalked (kind_of mode true) limits e left old new r (begin mode log) (back_questions of log)) plain x)
 
 -- `watch`
 pub watch_talked : {K : Type 0} → (kept : Mode) (limits : Limits) (mode : Mode) (name log asked : List ℕ) (e : Engine K) (left old new : Option (List ℕ)) (r : Result Unit Halt)
-    → EndTalked kept limits (QuestionsStop limits asked) e left old new r (begin mode log) (asks limits (lines_in asked)) → JobTalked limits (job.Watch mode name) log asked left old new r
+    → EndTalked (kind_of kept true) limits (QuestionsStop limits asked) e left old new r (begin mode log) (asks limits (lines_in asked)) → JobTalked limits (job.Watch mode name) log asked left old new r
 watch_talked kept limits mode name log asked e left old new (Ok done) x = record { to = x.to; bytes = x.bytes; wrote = x.wrote; course = record { said = x.course.0; dialogue = x.course.2; bytes_are = x.course.1 }; ends = record { within = x.at.stands.fits; told = x.at.told } }
 watch_talked kept limits mode name log asked e left old new (Err why) x = record { to = x.to; bytes = x.bytes; wrote = x.wrote; course = watch_halt limits mode name log asked why x.bytes x.to x.course; ends = tt }
 
@@ -66,7 +66,7 @@ trial_halt limits seed events log asked halt.WriteFault bytes to x = x
 pub trial_talked : (limits : Limits) (seed events : ℕ) (log asked : List ℕ) (left old new : Option (List ℕ)) (r : Result Unit Halt) → Tried limits (trial_history seed events) all_modes old new r
     → JobTalked limits (job.Trial seed events) log asked left old new r
 trial_talked limits seed events log asked left old new (Ok done) x = record {
-  to = record { mode = Plain; history = trial_history seed events; log = [] };
+  to = record { mode = Plain; takes = true; history = trial_history seed events; log = [] };
   bytes = x.bytes;
   wrote = x.wrote;
   course = record { lines = x.course.0; history = refl };
@@ -102,11 +102,13 @@ causes_too (Err (halt.Full full)) one other write causes = tt
 whole_front : (limits : Limits) (done : Job) (log asked bytes : List ℕ) (to : Moment) → Writes limits done log asked bytes to → WritesFront limits done log asked bytes
 whole_front limits (job.Back of) log asked bytes to x = inr (record { to = to; more = []; last = record { said = x.said; last = x.last; dialogue = x.dialogue; bytes_are = append-nil bytes ∙ x.bytes_are } })
 whole_front limits (job.Trial seed events) log asked bytes to x = whole_lines limits (trial_history seed events) all_modes bytes x.lines
+whole_front limits (job.Reduce kept name store resume) log asked bytes to x = absurd x
+whole_front limits (job.Query store) log asked bytes to x = absurd x
 whole_front limits (job.Watch mode name) log asked bytes to x = record { front = asks limits (lines_in asked); rest = []; said = x.said; to = to; more = []; parts = sym (append-nil _); dialogue = x.dialogue; bytes_are = append-nil bytes ∙ x.bytes_are }
 
 -- the moment before the step that passes a limit
 abbrev stop_moment : (limits : Limits) (seed events : ℕ) (full : Full) → Stops limits (trial_history seed events) full → Moment
-stop_moment limits seed events full x = record { mode = Plain; history = x.front; log = [] }
+stop_moment limits seed events full x = record { mode = Plain; takes = true; history = x.front; log = [] }
 
 trial_stops : (limits : Limits) (seed events : ℕ) (full : Full) → (x : Stops limits (trial_history seed events) full) → TrialStops limits seed events [] (stop_moment limits seed events full x) full
 trial_stops limits seed events full x = record { nothing = refl; stops = x; moment = refl }
@@ -115,12 +117,16 @@ trial_stops limits seed events full x = record { nothing = refl; stops = x; mome
 passed : (limits : Limits) (done : Job) (log asked bytes : List ℕ) (full : Full) → JobStopped limits done log asked bytes full → PassesLimit limits done log asked full
 passed limits (job.Back of) log asked bytes full x = (x.said, x.to, x.stops)
 passed limits (job.Watch mode name) log asked bytes full x = (x.said, x.to, x.stops)
+passed limits (job.Reduce kept name store resume) log asked bytes full x = absurd x
+passed limits (job.Query store) log asked bytes full x = absurd x
 passed limits (job.Trial seed events) log asked bytes full x = ([], stop_moment limits seed events full x.1, trial_stops limits seed events full x.1)
 
 -- what was written up to where a limit stopped the job is a front
 stopped_front : (limits : Limits) (done : Job) (log asked bytes : List ℕ) (full : Full) → JobStopped limits done log asked bytes full → WritesFront limits done log asked bytes
 stopped_front limits (job.Back of) log asked bytes full x = inl x.bytes_are
 stopped_front limits (job.Trial seed events) log asked bytes full x = rw (x.0) (no_lines limits (trial_history seed events) all_modes)
+stopped_front limits (job.Reduce kept name store resume) log asked bytes full x = absurd x
+stopped_front limits (job.Query store) log asked bytes full x = absurd x
 stopped_front limits (job.Watch mode name) log asked bytes full x = record {
   front = x.stops.answered;
   rest = x.stops.later;
@@ -142,6 +148,8 @@ halt_front limits done log asked halt.WriteFault bytes to x = x
 pub nothing_written : (limits : Limits) (done : Job) (log asked : List ℕ) (old : Option (List ℕ)) → Written limits done log asked old old
 nothing_written limits (job.Back of) log asked old = record { bytes = []; wrote = appends_none old; front = inl refl }
 nothing_written limits (job.Trial seed events) log asked old = record { bytes = []; wrote = appends_none old; front = no_lines limits (trial_history seed events) all_modes }
+nothing_written limits (job.Reduce kept name store resume) log asked old = record { bytes = []; wrote = appends_none old; front = refl }
+nothing_written limits (job.Query store) log asked old = record { bytes = []; wrote = appends_none old; front = refl }
 nothing_written limits (job.Watch mode name) log asked old = record { bytes = []; wrote = appends_none old; front = nothing_said limits (begin mode log) _ }
 
 pub not_begun : (limits : Limits) (done : Job) (log asked : List ℕ) (left old : Option (List ℕ)) → JobTalked limits done log asked left old old (Err halt.NoMemory)
@@ -149,12 +157,12 @@ not_begun limits done log asked left old =
     let x = nothing_written limits done log asked old in
     record { to = begin Plain log; bytes = x.bytes; wrote = x.wrote; course = x.front; ends = tt }
 
-pub causes : (read write : Type 0) (r : Result Unit Halt) → IfErr r (HasCauses read write) → StatusCause read write (status_for r)
-causes read write (Ok done) h = tt
-causes read write (Err halt.NoMemory) h = tt
-causes read write (Err halt.ReadFault) h = h
-causes read write (Err halt.WriteFault) h = h
-causes read write (Err (halt.Full full)) h = tt
+pub causes : (read write store : Type 0) (r : Result Unit Halt) → IfErr r (HasCauses read write) → StatusCause read write store (status_for r)
+causes read write store (Ok done) h = tt
+causes read write store (Err halt.NoMemory) h = tt
+causes read write store (Err halt.ReadFault) h = h
+causes read write store (Err halt.WriteFault) h = h
+causes read write store (Err (halt.Full full)) h = tt
 
 pub no_bad_words : (r : Result Unit Halt) → status_for r ≡ status.BadWords → ⊥
 no_bad_words (Ok done) is = cc
@@ -197,6 +205,8 @@ stopped_at limits (job.Watch mode name) log asked bytes old new full wrote x = r
   fits = x.fits;
   wrote = subst (λ (bs : List ℕ). Appends old new bs) x.bytes_are wrote;
 }
+stopped_at limits (job.Reduce kept name store resume) log asked bytes old new full wrote x = absurd x
+stopped_at limits (job.Query store) log asked bytes old new full wrote x = absurd x
 stopped_at limits (job.Trial seed events) log asked bytes old new full wrote x = record {
   said = [];
   to = stop_moment limits seed events full x.1;
@@ -240,6 +250,8 @@ ended_within stay fitting limits (job.Back of) log asked left old new (Ok t) ful
     within_stops stay fitting limits nothing_beyond (begin Plain log) to x.to _ said _ full x.course.dialogue x.ends.within passes (λ none. none)
 ended_within stay fitting limits (job.Trial seed events) log asked left old new (Ok t) full x keeps is (said, to, passes) =
     fitting limits (trial_history seed events) full (subst (λ (h : History). Fits limits h) x.course.history x.ends.within) passes.stops
+ended_within stay fitting limits (job.Reduce kept name store resume) log asked left old new (Ok t) full x keeps is (said, to, passes) = passes
+ended_within stay fitting limits (job.Query store) log asked left old new (Ok t) full x keeps is (said, to, passes) = passes
 ended_within stay fitting limits (job.Watch mode name) log asked left old new (Ok t) full x keeps is (said, to, passes) =
     within_stops stay fitting limits (QuestionsStop limits asked) (begin mode log) to x.to _ said _ full x.course.dialogue x.ends.within passes
     (questions_within limits (begin mode log) to asked passes.answered said full keeps passes.leads)

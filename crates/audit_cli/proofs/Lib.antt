@@ -5,6 +5,8 @@ mod JobLemmas
 mod ListenLemmas
 mod MomentLemmas
 mod Numbers
+mod StoreLemmas
+mod StoreRuns
 mod TalkLemmas
 mod TrialLemmas
 mod WordLemmas

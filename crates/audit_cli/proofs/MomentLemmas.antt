@@ -1,10 +1,10 @@
 -- Moments of a log that is taken in pieces.
-use Rattle.std.proofs.Common.{◌≡◌, ◌≤◌, ◌+◌, ◌-◌, ℕ, zero, suc, List, [], ◌∷◌, ◌++◌, map, length, take, drop, refl, ap, sym, arith, append_assoc, ◌∙◌, subst, Option, Some, None, min}
+use Rattle.std.proofs.Common.{true, false, ◌≡◌, ◌≤◌, ◌+◌, ◌-◌, ◌^◌, ℕ, zero, suc, List, [], ◌∷◌, ◌++◌, map, length, take, drop, refl, ap, sym, arith, append_assoc, ◌∙◌, subst, Option, Some, None, min}
 use Rattle.std.proofs.Math.Seq.{take-add, drop-append_seam, take-append_seam}
 use Rattle.std.proofs.lemmas.List.{append-nil, length-drop, length-append, drop-drop, map-append, take_all as list_take_all}
 use Rattle.std.proofs.Math.ListN.{drop_of_length-le}
 use Rattle.std.specs.Prelude.{Result, Ok, Err, OnOk, IfOk, IfErr}
-use Rattle.std.specs.Io.KnownBytes.{Consumes}
+use Rattle.std.specs.Io.KnownBytes.{Consumes, IsAtEnd}
 use Rattle.flow_base.specs.declared.limits.Limits.{Limits}
 use Rattle.flow_base.specs.declared.limits.Full.{Full}
 use Rattle.audit_lex.specs.History.{History, Byte, Settle, with_bytes}
@@ -23,8 +23,8 @@ use Rattle.ingest.specs.declared.stop.StopWhy.{StopWhy}
 use Rattle.ingest.specs.declared.stop.StopWhy.TheVariants as why
 use Rattle.audit_cli.specs.declared.halt.Halt.{Halt}
 use Rattle.audit_cli.specs.declared.halt.Halt.TheVariants as halt
-use Rattle.audit_cli.specs.Dialogue.{Moment, after, Answers}
-use Rattle.audit_cli.specs.Course.{At, IsDue, halt_for}
+use Rattle.audit_cli.specs.Dialogue.{Kind, Moment, after, settled_on, taken_on, Answers}
+use Rattle.audit_cli.specs.Course.{At, CountsOn, IsDue, halt_for}
 
 -- what has stopped stays stopped
 abbrev pub Stay : Type 0
@@ -38,12 +38,24 @@ told_read (Some xs) (Some ys) log bytes n told read long =
     let whole : log ≡ bytes ++ ys = cc in
     rw (whole, ← long, drop-append_seam, take-append_seam, length-append) (refl, refl, omega arith)
 
+-- where no known byte is left
+pub at_end : (left : Option (List ℕ)) (xs : List ℕ) → left ≡ Some xs → IsAtEnd left → xs ≡ []
+at_end None xs is none = absurd (cc)
+at_end (Some ys) xs is none = let same : ys ≡ xs = cc in sym same ∙ none
+
+-- bytes that are counted in two steps
+pub counted_on : (part mid now a b : ℕ) → part + (a + b) ≤ 2 ^ 64 - 1 → CountsOn part mid a → CountsOn mid now b → now ≡ part + (a + b)
+counted_on part mid now a b room first second =
+    let one = first (omega (arith, room)) in
+    let two = second (omega (arith, one, room)) in
+    omega (arith, one, two)
+
 -- nothing taken
-pub take_none : (m : Moment) → after (Some (ask.Take 0)) m ≡ m
+pub take_none : (m : Moment) → taken_on 0 m ≡ m
 take_none m = ap (λ (h : History). record m { history = h }) (append-nil m.history)
 
 -- one piece and then another
-pub take_both : (m : Moment) (a b : ℕ) → after (Some (ask.Take b)) (after (Some (ask.Take a)) m) ≡ after (Some (ask.Take (a + b))) m
+pub take_both : (m : Moment) (a b : ℕ) → taken_on b (taken_on a m) ≡ taken_on (a + b) m
 take_both m a b =
     let taken = take-add a b m.log in
     let left = drop-drop b a m.log in
@@ -51,7 +63,7 @@ take_both m a b =
     cc
 
 -- all that is left
-pub take_all : (m : Moment) (a b : ℕ) → length m.log ≤ a → length m.log ≤ b → after (Some (ask.Take a)) m ≡ after (Some (ask.Take b)) m
+pub take_all : (m : Moment) (a b : ℕ) → length m.log ≤ a → length m.log ≤ b → taken_on a m ≡ taken_on b m
 take_all m a b all whole =
     let first = list_take_all a m.log all in
     let second = list_take_all b m.log whole in
@@ -60,17 +72,17 @@ take_all m a b all whole =
     rw (first, second, none, nothing) refl
 
 -- more bytes taken, a longer history
-pub take_longer : (m : Moment) (a b : ℕ) → a ≤ b → (more : History) × ((after (Some (ask.Take b)) m).history ≡ (after (Some (ask.Take a)) m).history ++ more)
+pub take_longer : (m : Moment) (a b : ℕ) → a ≤ b → (more : History) × ((taken_on b m).history ≡ (taken_on a m).history ++ more)
 take_longer m a b below =
     let sum : a + (b - a) ≡ b = omega arith in
     let split : take b m.log ≡ take a m.log ++ take (b - a) (drop a m.log) = sym (ap (λ (n : ℕ). take n m.log) sum) ∙ take-add a (b - a) m.log in
     (map Byte (take (b - a) (drop a m.log)), rw (split, map-append, append_assoc) refl)
 
 -- so what stopped within fewer bytes stops within more
-pub stop_later : Stay → (limits : Limits) (m : Moment) (a b : ℕ) (full : Full) → a ≤ b → Stops limits (after (Some (ask.Take a)) m).history full → Stops limits (after (Some (ask.Take b)) m).history full
+pub stop_later : Stay → (limits : Limits) (m : Moment) (a b : ℕ) (full : Full) → a ≤ b → Stops limits (taken_on a m).history full → Stops limits (taken_on b m).history full
 stop_later stay limits m a b full below stops =
     let longer = take_longer m a b below in
-    subst (λ (h : History). Stops limits h full) (sym longer.1) (stay limits (after (Some (ask.Take a)) m).history longer.0 full stops)
+    subst (λ (h : History). Stops limits h full) (sym longer.1) (stay limits (taken_on a m).history longer.0 full stops)
 
 -- why an engine stopped within a piece is due
 pub due_for : (reason : StopWhy) (limits : Limits) (h : History) (piece : List ℕ) (done : ℕ) (passes : Full → Type 0) → StopsBy limits h piece done reason → ((full : Full) → Stops limits (with_bytes h piece) full → passes full) → IsDue passes (halt_for reason)
@@ -90,17 +102,14 @@ due_weaker halt.WriteFault P Q weaker h = tt
 due_weaker (halt.Full full) P Q weaker h = weaker full h
 
 -- where nothing is left all were taken
-pub left_none : (m : Moment) (n : ℕ) → (after (Some (ask.Take n)) m).log ≡ [] → length m.log ≤ n
+pub left_none : (m : Moment) (n : ℕ) → (taken_on n m).log ≡ [] → length m.log ≤ n
 left_none m n none = let short = ap length none in omega (arith, short, length-drop n m.log)
 
 -- a settle moves on, and leaves the log
-pub settled_at : {K : Type 0} → (mode : Mode) (limits : Limits) (result : Result Reply Halt) (engine : Engine K) (left : Option (List ℕ)) (m : Moment) → m.mode ≡ mode → OnOk result (StandsFor limits engine (m.history ++ Settle ∷ [])) → left ≡ Some m.log → OnOk result (At mode limits engine left (after (Some ask.Settle) m))
-settled_at mode limits (Ok r) engine left m same stands told = record { in_mode = same; stands = stands; told = told }
-settled_at mode limits (Err e) engine left m same stands told = tt
-
-pub settled_reply : (limits : Limits) (result : Result Reply Halt) (m : Moment) → IfOk result (λ r. r ≡ reply.Settle (length (events_of limits (m.history ++ Settle ∷ [])))) → IfOk result (Answers limits (Some ask.Settle) m)
-settled_reply limits (Ok r) m h = h
-settled_reply limits (Err e) m h = h
+pub settled_at : {K : Type 0} → (kind : Kind) (limits : Limits) (result : Result Reply Halt) (old engine : Engine K) (left : Option (List ℕ)) (m : Moment) → At kind limits old left m
+    → OnOk result (StandsFor limits engine (m.history ++ Settle ∷ [])) → OnOk result (At kind limits engine left (settled_on m))
+settled_at kind limits (Ok r) old engine left m at stands = record { in_mode = at.in_mode; may_take = at.may_take; stands = stands; told = at.told }
+settled_at kind limits (Err e) old engine left m at stands = tt
 
 -- want of memory is due whatever limit is passed
 pub memory_due : (result : Result Reply Halt) (passes : Full → Type 0) → IfErr result (λ why. why ≡ halt.NoMemory) → IfErr result (IsDue passes)
@@ -129,11 +138,39 @@ answered limits ask.Stat m r asks a = a
 answered limits ask.End m r asks a = absurd asks
 
 -- the engine's replies are those of the moment's mode
-pub engine_reply : {K : Type 0} → (mode : Mode) (limits : Limits) (result : Result Reply Halt) (engine : Engine K) (left : Option (List ℕ)) (m : Moment) (asked : Ask) → IsQuestion asked
-    → IfOk result (λ r. (limits : Limits) (h : History) → StandsFor limits engine h → IsReply mode limits h asked r) → At mode limits engine left m → IfOk result (Answers limits (Some asked) m)
-engine_reply mode limits (Ok r) engine left m asked asks replies at =
+pub engine_reply : {K : Type 0} → (kind : Kind) (limits : Limits) (result : Result Reply Halt) (engine : Engine K) (left : Option (List ℕ)) (m : Moment) (asked : Ask) → IsQuestion asked
+    → IfOk result (λ r. (limits : Limits) (h : History) → StandsFor limits engine h → IsReply kind.mode limits h asked r) → At kind limits engine left m → IfOk result (Answers limits (Some asked) m)
+engine_reply kind limits (Ok r) engine left m asked asks replies at =
     answered limits asked m r asks (subst (λ (x : Mode). IsReply x limits m.history asked r) (sym at.in_mode) (replies limits m.history at.stands))
-engine_reply mode limits (Err e) engine left m asked asks replies at = tt
+engine_reply kind limits (Err e) engine left m asked asks replies at = tt
+
+-- where a run takes a log, `take` and `settle` move on
+pub takes_on : (m : Moment) (n : ℕ) → m.takes ≡ true → after (Some (ask.Take n)) m ≡ taken_on n m
+takes_on m n takes = rw takes refl
+
+pub settles_on : (m : Moment) → m.takes ≡ true → after (Some ask.Settle) m ≡ settled_on m
+settles_on m takes = rw takes refl
+
+-- and else they don't
+pub takes_none : (m : Moment) (n : ℕ) → m.takes ≡ false → after (Some (ask.Take n)) m ≡ m
+takes_none m n none = rw none refl
+
+pub settles_none : (m : Moment) → m.takes ≡ false → after (Some ask.Settle) m ≡ m
+settles_none m none = rw none refl
+
+pub take_said : (limits : Limits) (m : Moment) (n : ℕ) (count : ℕ) → m.takes ≡ true → count ≡ length (take n m.log) → Answers limits (Some (ask.Take n)) m (reply.Take count)
+take_said limits m n count takes is = rw takes (ap reply.Take is)
+
+pub settle_said : (limits : Limits) (result : Result Reply Halt) (m : Moment) → m.takes ≡ true → IfOk result (λ r. r ≡ reply.Settle (length (events_of limits (m.history ++ Settle ∷ []))))
+    → IfOk result (Answers limits (Some ask.Settle) m)
+settle_said limits (Ok r) m takes is = rw takes is
+settle_said limits (Err e) m takes is = tt
+
+pub take_refused : (limits : Limits) (m : Moment) (n : ℕ) → m.takes ≡ false → Answers limits (Some (ask.Take n)) m reply.BadQuestion
+take_refused limits m n none = rw none refl
+
+pub settle_refused : (limits : Limits) (m : Moment) → m.takes ≡ false → Answers limits (Some ask.Settle) m reply.BadQuestion
+settle_refused limits m none = rw none refl
 
 take-take : (n count : ℕ) (xs : List ℕ) → n ≤ count → take n (take count xs) ≡ take n xs
 take-take zero count xs short = refl

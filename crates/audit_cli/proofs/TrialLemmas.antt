@@ -1,5 +1,5 @@
 -- Trials of some modes, one after another.
-use Rattle.std.proofs.Common.{◌≡◌, ◌≤◌, ◌-◌, ◌^◌, ℕ, zero, suc, List, [], ◌∷◌, ◌++◌, length, take, drop, refl, ap, sym, arith, append_assoc, ◌∙◌, Option, Some, None, subst, inl, inr}
+use Rattle.std.proofs.Common.{◌≡◌, ◌≤◌, ◌-◌, ◌^◌, ℕ, zero, suc, List, [], ◌∷◌, ◌++◌, length, take, drop, refl, ap, sym, arith, append_assoc, ◌∙◌, Option, subst}
 use Rattle.std.specs.Prelude.{Result, Ok, Err, IfErr}
 use Rattle.std.specs.Io.KnownBytes.{Appends}
 use Rattle.std.proofs.lemmas.List.{append-nil, take-append-drop}
@@ -7,7 +7,6 @@ use Rattle.flow_base.specs.declared.limits.Limits.{Limits}
 use Rattle.flow_base.specs.declared.limits.Full.{Full}
 use Rattle.audit_lex.specs.History.{History}
 use Rattle.reach_model.specs.declared.modes.Mode.{Mode}
-use Rattle.report_json.specs.declared.ask.Ask.TheVariants as ask
 use Rattle.report_json.specs.declared.reply.Reply.{Reply}
 use Rattle.report_json.specs.declared.reply.Reply.TheVariants as reply
 use Rattle.ingest.specs.Events.{objects_of}
@@ -19,7 +18,7 @@ use Rattle.audit_cli.specs.Course.{IsDue}
 use Rattle.audit_gen.specs.Logs.{generated}
 use Rattle.report_json.specs.Replies.{line_of}
 use Rattle.audit_cli.specs.declared.trial_line.Totals.{Totals}
-use Rattle.audit_cli.specs.Trials.{AreTotals, IsModeLine, AreModeLines, AreCutLines, CountsBack, TrialCourse, Tried, back_from, settled, size_of, totals_in, trial_data, trial_history}
+use Rattle.audit_cli.specs.Trials.{AreTotals, IsModeLine, AreModeLines, AreCutLines, CountsBack, Tried, back_from, settled, size_of, totals_in, trial_data, trial_history}
 use Rattle.audit_cli.proofs.ExactLemmas.{NeverStops}
 use Rattle.audit_cli.proofs.TalkLemmas.{appends_both, appends_none}
 

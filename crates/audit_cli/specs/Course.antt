@@ -1,9 +1,8 @@
 -- How a part of a run ended, and what it wrote.
-use Rattle.std.specs.Prelude.{◌≡◌, ⊤, ℕ, ◌≤◌, List, length, Option, Some, Result, Ok, Err, OnOk, []}
+use Rattle.std.specs.Prelude.{◌≡◌, ⊤, ℕ, ◌≤◌, ◌+◌, ◌-◌, ◌^◌, List, length, Option, Some, Result, Ok, Err, OnOk, []}
 use Rattle.std.specs.Io.KnownBytes.{Appends}
 use Rattle.flow_base.specs.declared.limits.Limits.{Limits}
 use Rattle.flow_base.specs.declared.limits.Full.{Full}
-use Rattle.reach_model.specs.declared.modes.Mode.{Mode}
 use Rattle.report_json.specs.declared.ask.Ask.{Ask}
 use Rattle.report_json.specs.declared.reply.Reply.{Reply}
 use Rattle.ingest.specs.Parts.{Engine}
@@ -15,7 +14,7 @@ use Rattle.audit_cli.specs.declared.halt.Halt.{Halt}
 use Rattle.audit_cli.specs.declared.halt.Halt.TheVariants as halt
 use Rattle.audit_cli.specs.declared.halt.Turn.{Turn}
 use Rattle.audit_cli.specs.declared.halt.Turn.TheVariants as turn
-use Rattle.audit_cli.specs.Dialogue.{Moment, Dialogue, Beyond, Leads, Closes, IsFront, StopsAfter, texts}
+use Rattle.audit_cli.specs.Dialogue.{Kind, Moment, Dialogue, Beyond, Leads, Closes, IsFront, StopsAfter, texts}
 
 -- a count of faults doesn't fall, and a spent object stays spent
 pub record GoesUp (before now : ℕ) (was_spent spent : Type 0) : Type 0 where
@@ -45,9 +44,10 @@ abbrev pub halt_for : StopWhy → Halt
 halt_for why.NoMemory = halt.NoMemory
 halt_for (why.Full full) = halt.Full full
 
--- the engine of a mode and the log, which tells its bytes, are at this moment
-pub record At {K : Type 0} (mode : Mode) (limits : Limits) (engine : Engine K) (left : Option (List ℕ)) (m : Moment) : Type 0 where
-  pub in_mode : m.mode ≡ mode
+-- the engine of a run and the log, which tells its bytes, are at this moment of such a run
+pub record At {K : Type 0} (kind : Kind) (limits : Limits) (engine : Engine K) (left : Option (List ℕ)) (m : Moment) : Type 0 where
+  pub in_mode : m.mode ≡ kind.mode
+  pub may_take : m.takes ≡ kind.takes
   pub stands : StandsFor limits engine m.history
   pub told : left ≡ Some m.log
 
@@ -55,6 +55,10 @@ pub record At {K : Type 0} (mode : Mode) (limits : Limits) (engine : Engine K) (
 pub record IsPart (n : ℕ) (left : List ℕ) : Type 0 where
   pub within : n ≤ length left
   pub ended : n ≡ 0 → left ≡ []
+
+-- so many further bytes are counted, if the count has room for them
+abbrev pub CountsOn : (before now count : ℕ) → Type 0
+CountsOn before now count = before + count ≤ 2 ^ 64 - 1 → now ≡ before + count
 
 -- A limit stopped a run at one moment, and no limit was passed before. The bytes are what the replies
 -- up to there write
@@ -79,12 +83,12 @@ Course limits beyond (Ok turn.Ended) from questions bytes to = (said : List Repl
 Course limits beyond (Err why) from questions bytes to = Halted limits beyond from questions bytes why
 
 -- a part of a run from one moment on
-pub record Talked {K : Type 0} (mode : Mode) (limits : Limits) (beyond : Beyond) (engine : Engine K) (left old new : Option (List ℕ)) (result : Result Turn Halt) (from : Moment) (questions : List (Option Ask)) : Type 0 where
+pub record Talked {K : Type 0} (kind : Kind) (limits : Limits) (beyond : Beyond) (engine : Engine K) (left old new : Option (List ℕ)) (result : Result Turn Halt) (from : Moment) (questions : List (Option Ask)) : Type 0 where
   pub to : Moment
   pub bytes : List ℕ
   pub wrote : Appends old new bytes
   pub course : Course limits beyond result from questions bytes to
-  pub at : OnOk result (At mode limits engine left to)
+  pub at : OnOk result (At kind limits engine left to)
 
 -- these bytes are what was answered to these questions, or a front of it where the run halted
 abbrev pub EndCourse : Limits → Beyond → Result Unit Halt → Moment → List (Option Ask) → List ℕ → Moment → Type 0
@@ -92,12 +96,12 @@ EndCourse limits beyond (Ok done) from questions bytes to = (said : List Reply) 
 EndCourse limits beyond (Err why) from questions bytes to = Halted limits beyond from questions bytes why
 
 -- a run from one moment to its end
-pub record EndTalked {K : Type 0} (mode : Mode) (limits : Limits) (beyond : Beyond) (engine : Engine K) (left old new : Option (List ℕ)) (result : Result Unit Halt) (from : Moment) (questions : List (Option Ask)) : Type 0 where
+pub record EndTalked {K : Type 0} (kind : Kind) (limits : Limits) (beyond : Beyond) (engine : Engine K) (left old new : Option (List ℕ)) (result : Result Unit Halt) (from : Moment) (questions : List (Option Ask)) : Type 0 where
   pub to : Moment
   pub bytes : List ℕ
   pub wrote : Appends old new bytes
   pub course : EndCourse limits beyond result from questions bytes to
-  pub at : OnOk result (At mode limits engine left to)
+  pub at : OnOk result (At kind limits engine left to)
 
 -- a halt, or the end of the questions
 abbrev pub ended : Result Turn Halt → Result Unit Halt

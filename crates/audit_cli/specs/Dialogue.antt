@@ -1,5 +1,5 @@
 -- What is answered to a list of questions over a log.
-use Rattle.std.specs.Prelude.{◌≡◌, ◌<◌, ◌≤◌, ◌+◌, ◌⊎◌, ℕ, nat_lt, List, [], ◌∷◌, ◌++◌, map, take, drop, length, flat_map, Option, None, Some, if◌then◌else◌}
+use Rattle.std.specs.Prelude.{Bool, true, ◌≡◌, ◌<◌, ◌≤◌, ◌+◌, ◌⊎◌, ℕ, nat_lt, List, [], ◌∷◌, ◌++◌, map, take, drop, length, flat_map, Option, None, Some, if◌then◌else◌}
 use Rattle.flow_base.specs.declared.limits.Limits.{Limits}
 use Rattle.flow_base.specs.declared.limits.Full.{Full}
 use Rattle.flow_base.specs.declared.limits.Limit.TheVariants as limit
@@ -17,28 +17,49 @@ use Rattle.ingest.specs.Stops.{Stops}
 use Rattle.audit_cli.specs.declared.halt.Turn.{Turn}
 use Rattle.audit_cli.specs.declared.halt.Turn.TheVariants as turn
 
--- the mode of a run, what it has taken of the log so far, and the bytes that are left of it
+-- the mode of a run, and whether it takes a log
+pub record Kind : Type 0 where
+  pub mode : Mode
+  pub takes : Bool
+
+-- a run of this mode
+abbrev pub kind_of : Mode → Bool → Kind
+kind_of mode takes = record { mode = mode; takes = takes }
+
+-- the mode of a run, whether it takes a log, what it has taken of it so far, and the bytes that are left of it
 pub record Moment : Type 0 where
   pub mode : Mode
+  pub takes : Bool
   pub history : History
   pub log : List ℕ
 
 -- nothing is taken
 abbrev pub begin : Mode → List ℕ → Moment
-begin mode log = record { mode = mode; history = []; log = log }
+begin mode log = record { mode = mode; takes = true; history = []; log = log }
 
--- the moment after a question. Only `take` and `settle` change it, and no question changes the mode
+-- so many further bytes of the log are taken
+abbrev pub taken_on : ℕ → Moment → Moment
+taken_on count m = record m { history = with_bytes m.history (take count m.log); log = drop count m.log }
+
+-- what was taken is settled
+abbrev pub settled_on : Moment → Moment
+settled_on m = record m { history = m.history ++ Settle ∷ [] }
+
+-- The moment after a question. Only `take` and `settle` change it, where the run takes a log, and no question changes the kind of
+-- the run
 abbrev pub after : Option Ask → Moment → Moment
 after None m = m
-after (Some (ask.Take count)) m = record m { history = with_bytes m.history (take count m.log); log = drop count m.log }
-after (Some ask.Settle) m = record m { history = m.history ++ Settle ∷ [] }
+after (Some (ask.Take count)) m = if m.takes then taken_on count m else m
+after (Some ask.Settle) m = if m.takes then settled_on m else m
 after (Some _) m = m
 
--- the reply answers the question at this moment, as the mode of the run does
+-- The reply answers the question at this moment, as the mode of the run does. Where the run takes no log, `take` and `settle` are
+-- bad questions
 abbrev pub Answers : Limits → Option Ask → Moment → Reply → Type 0
 Answers limits None m r = r ≡ reply.BadQuestion
-Answers limits (Some (ask.Take count)) m r = r ≡ reply.Take (length (take count m.log))
-Answers limits (Some ask.Settle) m r = r ≡ reply.Settle (length (events_of limits (m.history ++ Settle ∷ [])))
+Answers limits (Some (ask.Take count)) m r = r ≡ (if m.takes then reply.Take (length (take count m.log)) else reply.BadQuestion)
+Answers limits (Some ask.Settle) m r =
+    r ≡ (if m.takes then reply.Settle (length (events_of limits (m.history ++ Settle ∷ []))) else reply.BadQuestion)
 Answers limits (Some ask.End) m r = r ≡ reply.End
 Answers limits (Some asked) m r = IsReply m.mode limits m.history asked r
 

@@ -21,23 +21,29 @@ abbrev pub back_questions : ℕ → List ℕ → List (Option Ask)
 back_questions of log =
     Some (ask.Take (length log)) ∷ Some ask.Settle ∷ Some (ask.Question (question.Back (record { 0 = of }) None)) ∷ []
 
--- what a job asks, over a log and a text of questions. `trial` has neither
+-- what a job asks that keeps its rows in memory, over a log and a text of questions. `trial` has neither
 abbrev pub questions_of : Limits → Job → (log asked : List ℕ) → List (Option Ask)
 questions_of limits (job.Back of) log asked = back_questions of log
 questions_of limits (job.Watch mode name) log asked = asks limits (lines_in asked)
 questions_of limits (job.Trial seed events) log asked = []
+questions_of limits (job.Reduce kept name store resume) log asked = []
+questions_of limits (job.Query store) log asked = []
 
 -- the source of the questions tells them, where the job has questions
 abbrev pub Tells : Job → Option (List ℕ) → List ℕ → Type 0
 Tells (job.Back of) left asked = ⊤
 Tells (job.Watch mode name) left asked = left ≡ Some asked
 Tells (job.Trial seed events) left asked = ⊤
+Tells (job.Reduce kept name store resume) left asked = ⊤
+Tells (job.Query store) left asked = ⊤
 
--- the source of the log tells it, where the job has a log
+-- The source of the log tells it, where the job has a log. A job over a store has claims of its own
 abbrev pub TellsLog : Job → Option (List ℕ) → List ℕ → Type 0
 TellsLog (job.Back of) left log = left ≡ Some log
 TellsLog (job.Watch mode name) left log = left ≡ Some log
 TellsLog (job.Trial seed events) left log = ⊤
+TellsLog (job.Reduce kept name store resume) left log = ⊥
+TellsLog (job.Query store) left log = ⊥
 
 -- the bytes are the text of the last reply alone
 pub record IsLast (limits : Limits) (from : Moment) (questions : List (Option Ask)) (bytes : List ℕ) (to : Moment) : Type 0 where
@@ -69,18 +75,24 @@ abbrev pub Writes : Limits → Job → (log asked bytes : List ℕ) → Moment �
 Writes limits (job.Back of) log asked bytes to = IsLast limits (begin Plain log) (questions_of limits (job.Back of) log asked) bytes to
 Writes limits (job.Watch mode name) log asked bytes to = AreAll limits (begin mode log) (questions_of limits (job.Watch mode name) log asked) bytes to
 Writes limits (job.Trial seed events) log asked bytes to = AreTrialLines limits seed events bytes to
+Writes limits (job.Reduce kept name store resume) log asked bytes to = ⊥
+Writes limits (job.Query store) log asked bytes to = ⊥
 
 -- the bytes are a front of what the job would write
 abbrev pub WritesFront : Limits → Job → (log asked bytes : List ℕ) → Type 0
 WritesFront limits (job.Back of) log asked bytes = (bytes ≡ []) ⊎ IsLastFront limits (begin Plain log) (questions_of limits (job.Back of) log asked) bytes
 WritesFront limits (job.Watch mode name) log asked bytes = IsFront limits (begin mode log) (questions_of limits (job.Watch mode name) log asked) bytes
 WritesFront limits (job.Trial seed events) log asked bytes = AreCutLines limits (trial_history seed events) all_modes bytes
+WritesFront limits (job.Reduce kept name store resume) log asked bytes = bytes ≡ []
+WritesFront limits (job.Query store) log asked bytes = bytes ≡ []
 
 -- the questions of `watch` may have bytes past the limit on input
 abbrev pub beyond_questions : Limits → Job → List ℕ → Beyond
 beyond_questions limits (job.Back of) asked = nothing_beyond
 beyond_questions limits (job.Watch mode name) asked = QuestionsStop limits asked
 beyond_questions limits (job.Trial seed events) asked = nothing_beyond
+beyond_questions limits (job.Reduce kept name store resume) asked = nothing_beyond
+beyond_questions limits (job.Query store) asked = nothing_beyond
 
 -- the same over a log in one mode
 abbrev pub StopsIn : Limits → Mode → Job → (log asked : List ℕ) → List Reply → Moment → Full → Type 0
@@ -100,6 +112,8 @@ abbrev pub JobStops : Limits → Job → (log asked : List ℕ) → List Reply �
 JobStops limits (job.Back of) log asked said to full = StopsIn limits Plain (job.Back of) log asked said to full
 JobStops limits (job.Watch mode name) log asked said to full = StopsIn limits mode (job.Watch mode name) log asked said to full
 JobStops limits (job.Trial seed events) log asked said to full = TrialStops limits seed events said to full
+JobStops limits (job.Reduce kept name store resume) log asked said to full = ⊥
+JobStops limits (job.Query store) log asked said to full = ⊥
 
 -- the limit would stop the job, after some replies
 abbrev pub PassesLimit : Limits → Job → (log asked : List ℕ) → Full → Type 0
@@ -139,6 +153,8 @@ abbrev pub written_by : Job → List Reply → List ℕ
 written_by (job.Back of) = unsaid
 written_by (job.Watch mode name) = texts
 written_by (job.Trial seed events) = unsaid
+written_by (job.Reduce kept name store resume) = unsaid
+written_by (job.Query store) = unsaid
 
 -- The limit stopped the job at one moment, and no limit was passed before. What was written is exactly
 -- what the replies up to there have written
@@ -155,3 +171,5 @@ abbrev pub LeavesQuestions : Limits → Job → (log asked : List ℕ) → Optio
 LeavesQuestions limits (job.Back of) log asked left = ⊤
 LeavesQuestions limits (job.Watch mode name) log asked left = ReadsNoFurther limits (begin mode log) asked left
 LeavesQuestions limits (job.Trial seed events) log asked left = ⊤
+LeavesQuestions limits (job.Reduce kept name store resume) log asked left = ⊤
+LeavesQuestions limits (job.Query store) log asked left = ⊤

@@ -3,7 +3,6 @@ use Rattle.std.specs.Prelude.{◌≡◌, ◌⊎◌, ⊤, ℕ, List, [], Option, 
 use Rattle.std.specs.Io.KnownBytes.{Appends}
 use Rattle.flow_base.specs.declared.limits.Limits.{Limits}
 use Rattle.flow_base.specs.declared.limits.Full.{Full}
-use Rattle.reach_model.specs.declared.modes.Mode.{Mode}
 use Rattle.report_json.specs.declared.ask.Ask.{Ask}
 use Rattle.ingest.specs.Parts.{Engine}
 use Rattle.audit_cli.specs.declared.halt.Halt.{Halt}
@@ -12,7 +11,7 @@ use Rattle.audit_cli.specs.declared.words.Job.{Job}
 use Rattle.audit_cli.specs.declared.words.Job.TheVariants as job
 use Rattle.reach_model.specs.declared.modes.Mode.TheVariants.{Plain}
 use Rattle.ingest.specs.Stops.{Stops}
-use Rattle.audit_cli.specs.Dialogue.{Moment, QuestionsStop, nothing_beyond, begin, asks, lines_in, texts}
+use Rattle.audit_cli.specs.Dialogue.{Kind, Moment, QuestionsStop, nothing_beyond, begin, asks, lines_in, texts}
 use Rattle.audit_cli.specs.Course.{At, Stopped}
 use Rattle.audit_cli.specs.Trials.{trial_history}
 use Rattle.audit_cli.specs.Headline.{IsLast, IsLastFront, Writes, WritesFront, Ends, back_questions, unsaid}
@@ -27,18 +26,20 @@ LastCourse limits (Err (halt.Full full)) from questions bytes to =
 LastCourse limits (Err _) from questions bytes to = (bytes ≡ []) ⊎ IsLastFront limits from questions bytes
 
 -- a run of which the last reply alone is written
-pub record LastTalked {K : Type 0} (mode : Mode) (limits : Limits) (engine : Engine K) (left old new : Option (List ℕ)) (result : Result Unit Halt) (from : Moment) (questions : List (Option Ask)) : Type 0 where
+pub record LastTalked {K : Type 0} (kind : Kind) (limits : Limits) (engine : Engine K) (left old new : Option (List ℕ)) (result : Result Unit Halt) (from : Moment) (questions : List (Option Ask)) : Type 0 where
   pub to : Moment
   pub bytes : List ℕ
   pub wrote : Appends old new bytes
   pub course : LastCourse limits result from questions bytes to
-  pub at : OnOk result (At mode limits engine left to)
+  pub at : OnOk result (At kind limits engine left to)
 
 -- the questions kept within their limit, where the job has questions
 abbrev pub KeepsLimit : Limits → Job → (log asked : List ℕ) → Type 0
 KeepsLimit limits (job.Back of) log asked = ⊤
 KeepsLimit limits (job.Watch mode name) log asked = KeepsWithin limits (begin mode log) asked
 KeepsLimit limits (job.Trial seed events) log asked = ⊤
+KeepsLimit limits (job.Reduce kept name store resume) log asked = ⊤
+KeepsLimit limits (job.Query store) log asked = ⊤
 
 -- a limit stopped the job, after which these bytes were written
 abbrev pub JobStopped : Limits → Job → (log asked bytes : List ℕ) → Full → Type 0
@@ -48,6 +49,8 @@ JobStopped limits (job.Watch mode name) log asked bytes full =
     Stopped limits (QuestionsStop limits asked) texts (begin mode log) (asks limits (lines_in asked)) bytes full
 JobStopped limits (job.Trial seed events) log asked bytes full =
     (bytes ≡ []) × Stops limits (trial_history seed events) full
+JobStopped limits (job.Reduce kept name store resume) log asked bytes full = ⊥
+JobStopped limits (job.Query store) log asked bytes full = ⊥
 
 -- what a job wrote, by how it ended
 abbrev pub JobCourse : Limits → Job → Result Unit Halt → (log asked bytes : List ℕ) → Moment → Type 0

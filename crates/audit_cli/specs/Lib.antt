@@ -6,7 +6,10 @@ pub mod Headline
 pub mod Hearing
 pub mod Jobs
 pub mod Listening
+pub mod Sessions
 pub mod Standard
+pub mod StoreHalts
+pub mod Stores
 pub mod Statuses
 pub mod Trials
 pub mod Words

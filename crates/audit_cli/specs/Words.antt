@@ -1,5 +1,5 @@
 -- The job table: what the words of a command line mean.
-use Rattle.std.specs.Prelude.{◌≡◌, ⊤, ℕ, ◌^◌, nat_lt, nat_le, List, [], ◌∷◌, length, Option, None, Some, codes, ◌&&◌, if◌then◌else◌, option_map}
+use Rattle.std.specs.Prelude.{true, false, ◌≡◌, ⊤, ℕ, ◌^◌, nat_lt, nat_le, List, [], ◌∷◌, length, Option, None, Some, codes, ◌&&◌, if◌then◌else◌, option_map}
 use Rattle.std.specs.List.{list_all}
 use Rattle.std.specs.Option.{option_and_then}
 use Rattle.std.specs.Char.{is_ascii_digit}
@@ -47,12 +47,22 @@ mode_of word =
     else if bytes_eq word (codes "source") then Some mode.Source
     else None
 
--- the one mode in which a job is done: `back` in plain mode, `watch` in the one that it names. `trial` is done in all of
--- them
+-- `query STORE`: a store has a name of at least one byte
+abbrev pub query_of : List ℕ → Option Job
+query_of store = if nat_lt 0 (length store) then Some (job.Query store) else None
+
+-- `query STORE`, or else `back ID`
+abbrev pub one_word_job : List ℕ → List ℕ → Option Job
+one_word_job word only = if bytes_eq word (codes "query") then query_of only else back_job word only
+
+-- the one mode in which a job is done that keeps its rows in memory: `back` in plain mode, `watch` in the one that it names. `trial`
+-- is done in all of them
 abbrev pub mode_for : Job → Option Mode
 mode_for (job.Back of) = Some mode.Plain
 mode_for (job.Watch kept log) = Some kept
 mode_for (job.Trial seed events) = None
+mode_for (job.Reduce kept log store resume) = None
+mode_for (job.Query store) = None
 
 -- a log has a name of at least one byte
 abbrev pub watch_of : Option Mode → List ℕ → Option Job
@@ -62,6 +72,16 @@ watch_of (Some kept) log = if nat_lt 0 (length log) then Some (job.Watch kept lo
 -- `watch MODE LOG`
 abbrev pub watch_job : List ℕ → List ℕ → List ℕ → Option Job
 watch_job word kept log = if bytes_eq word (codes "watch") then watch_of (mode_of kept) log else None
+
+-- a log and a store have names of at least one byte
+abbrev pub reduce_of : Option Mode → List ℕ → List ℕ → Option Job
+reduce_of None log store = None
+reduce_of (Some kept) log store =
+    if nat_lt 0 (length log) then (if nat_lt 0 (length store) then Some (job.Reduce kept log store false) else None) else None
+
+-- `reduce MODE LOG STORE`
+abbrev pub reduce_job : List ℕ → List ℕ → List ℕ → List ℕ → Option Job
+reduce_job word kept log store = if bytes_eq word (codes "reduce") then reduce_of (mode_of kept) log store else None
 
 -- a trial needs both of its numbers
 abbrev pub trial_of : Option ℕ → Option ℕ → Option Job
@@ -78,15 +98,27 @@ two_word_job word first second =
 -- the row of the table that a job's name and the words after it are
 abbrev pub row_of : List ℕ → List (List ℕ) → Option Job
 row_of name [] = None
-row_of name (a ∷ []) = back_job name a
+row_of name (a ∷ []) = one_word_job name a
 row_of name (a ∷ b ∷ []) = two_word_job name a b
-row_of name (a ∷ b ∷ c ∷ more) = None
+row_of name (a ∷ b ∷ c ∷ []) = reduce_job name a b c
+row_of name (a ∷ b ∷ c ∷ d ∷ more) = None
 
--- the row that was parsed. No row has `--resume`
+-- the same job with `--resume`, which `reduce` alone may have
+abbrev pub resumed : Option Job → Option Job
+resumed None = None
+resumed (Some (job.Back of)) = None
+resumed (Some (job.Watch kept log)) = None
+resumed (Some (job.Trial seed events)) = None
+resumed (Some (job.Reduce kept log store resume)) = Some (job.Reduce kept log store true)
+resumed (Some (job.Query store)) = None
+
+-- the row without `--resume`
+abbrev pub plain_row : List Row → Option Job
+plain_row rows = option_and_then (λ name. row_of name (words_in rows)) (first_of (codes "JOB") rows)
+
+-- the row that was parsed
 abbrev pub row_in : List Row → Option Job
-row_in rows =
-    if is_resumed rows then None
-    else option_and_then (λ name. row_of name (words_in rows)) (first_of (codes "JOB") rows)
+row_in rows = if is_resumed rows then resumed (plain_row rows) else plain_row rows
 
 -- what is parsed, if the command refuses the words by none of these faults
 abbrev pub row_by : Kinds → List Row → Option Job
@@ -101,3 +133,11 @@ job_of words = row_by (fault_of command (own_name ∷ words)) (matches_of comman
 abbrev pub RefusesWords : Option Job → WordsFault → Type 0
 RefusesWords found fault.BadWords = found ≡ None
 RefusesWords found fault.NoMemory = ⊤
+
+-- the job keeps its rows in memory
+abbrev pub IsInMemory : Job → Type 0
+IsInMemory (job.Back of) = ⊤
+IsInMemory (job.Watch kept log) = ⊤
+IsInMemory (job.Trial seed events) = ⊤
+IsInMemory (job.Reduce kept log store resume) = ⊥
+IsInMemory (job.Query store) = ⊥

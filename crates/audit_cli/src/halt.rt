@@ -1,10 +1,15 @@
 //! Why a run stops before its end, and how far a dialogue has come.
 ghost use Rattle.std.specs.Prelude.{◌≡◌};
 ghost use Rattle.audit_cli.specs.declared.halt.Halt.TheVariants as halt;
+ghost use Rattle.audit_cli.specs.declared.halt.StoreHalt.TheVariants as over;
 ghost use Rattle.audit_cli.specs.Course.{halt_for};
+ghost use Rattle.audit_cli.specs.StoreHalts.{commit_halt, open_halt, restore_halt};
 
+use batch_log::CommitFault;
 use flow_base::{Full, NoMemory};
-use ingest::StopWhy;
+use ingest::{RestoreFault, StopWhy};
+use reach_model::Mode;
+use reduced_store::OpenFault;
 
 /// Why a run stops before its end.
 #[derive(Clone, Copy, Debug, PartialEq, Eq)]
@@ -20,6 +25,73 @@ impl From<NoMemory> for Halt {
 
     fn from(_fault: NoMemory) -> Halt {
         Halt::NoMemory
+    }
+}
+
+/// Why a run over a store stops before its end: for a cause that any run has, or for its store.
+#[derive(Clone, Copy, Debug, PartialEq, Eq)]
+pub enum StoreHalt {
+    Run(Halt),
+    /// A call on the disk failed.
+    StoreFault,
+    /// The disk isn't a store. The place is that of the batch from which on it isn't one.
+    BadStore(u64),
+    /// The store is of another mode.
+    WrongMode { kept: Mode, asked: Mode },
+    /// The log has fewer bytes than the store has taken of it.
+    ShortLog { taken: u64, had: u64 },
+    /// A batch would pass a limit of the store.
+    Unwritten(Full),
+}
+
+impl From<NoMemory> for StoreHalt {
+    ghost from_gives = { λ _ e. e ≡ over.Run halt.NoMemory };
+
+    fn from(_fault: NoMemory) -> StoreHalt {
+        StoreHalt::Run(Halt::NoMemory)
+    }
+}
+
+impl From<Halt> for StoreHalt {
+    ghost from_gives = { λ why e. e ≡ over.Run why };
+
+    fn from(why: Halt) -> StoreHalt {
+        StoreHalt::Run(why)
+    }
+}
+
+impl From<CommitFault> for StoreHalt {
+    ghost from_gives = { λ fault e. e ≡ commit_halt fault };
+
+    fn from(fault: CommitFault) -> StoreHalt {
+        match fault {
+            CommitFault::StoreFault => StoreHalt::StoreFault,
+            CommitFault::Full(full) => StoreHalt::Unwritten(full),
+            CommitFault::NoMemory => StoreHalt::Run(Halt::NoMemory),
+        }
+    }
+}
+
+/// Why a disk wasn't opened as a store, as a halt.
+pub fn halt_of_open(fault: OpenFault) -> StoreHalt
+    ensures { result ≡ open_halt fault }
+{
+    match fault {
+        OpenFault::StoreFault => StoreHalt::StoreFault,
+        OpenFault::BadStore(place) => StoreHalt::BadStore(place),
+        OpenFault::WrongMode { kept, asked } => StoreHalt::WrongMode { kept, asked },
+        OpenFault::NoMemory => StoreHalt::Run(Halt::NoMemory),
+    }
+}
+
+/// Why no engine was made of a store, as a halt.
+pub fn halt_of_restore(fault: RestoreFault) -> StoreHalt
+    ensures { result ≡ restore_halt fault }
+{
+    match fault {
+        RestoreFault::BadStore(place) => StoreHalt::BadStore(place),
+        RestoreFault::Full(full) => StoreHalt::Run(Halt::Full(full)),
+        RestoreFault::NoMemory => StoreHalt::Run(Halt::NoMemory),
     }
 }
 

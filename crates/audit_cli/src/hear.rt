@@ -3,7 +3,7 @@ ghost use Rattle.std.specs.Prelude.{◌≤◌, ◌<◌, ◌+◌, ◌^◌, length
 ghost use Rattle.flow_base.specs.declared.limits.Limits.{Limits};
 ghost use Rattle.outside.specs.Cause.{Rose};
 ghost use Rattle.audit_lex.specs.History.{History};
-ghost use Rattle.audit_cli.specs.Dialogue.{Moment, nothing_beyond};
+ghost use Rattle.audit_cli.specs.Dialogue.{Moment, kind_of, nothing_beyond};
 ghost use Rattle.audit_cli.specs.Course.{At, GoesUp, HasCauses};
 ghost use Rattle.audit_cli.specs.Hearing.{Holds, Heard, turn_in, taken_in};
 
@@ -12,12 +12,13 @@ use crate::session::Session;
 use crate::turn::{question_in, take_turn};
 use audit_lex::{LineCut, lines_stay};
 use outside::{Sink, Source};
-use reach_rows::Reducer;
+use reach_rows::{Keep, Reducer};
 
 // Takes bytes of the piece up to and with a line feed, and answers the line that they end. It says
 // how many bytes it took.
-fn hear_line<R: Reducer, L: Source, O: Sink>(
-    session: &mut Session<R>,
+fn hear_line<R: Reducer, K: Keep, L: Source, O: Sink>(
+    session: &mut Session<R, K>,
+    takes: bool,
     cut: &mut LineCut,
     log: &mut L,
     out: &mut O,
@@ -28,29 +29,33 @@ fn hear_line<R: Reducer, L: Source, O: Sink>(
     ensures some { IfOk result (λ given. 0 < length piece.now → 0 < given.0) }
     ensures lines { IfOk result (λ given. cut.new.lines ≤ cut.old.lines + given.0) }
     ensures heard { (limits : Limits) (m : Moment) (h : History)
-        → At R.mode limits session.old.engine (L.left log.old) m → Holds limits cut.old h
-        → Heard R.mode limits nothing_beyond cut.new session.new.engine (L.left log.new)
+        → At (kind_of R.mode takes) limits session.old.engine (L.left log.old) m
+        → Holds limits cut.old h
+        → Heard (kind_of R.mode takes) limits nothing_beyond cut.new
+        session.new.engine (L.left log.new)
         (O.written out.old) (O.written out.new) (turn_in result) m h (taken_in result piece.now) }
     ensures causes { IfErr result (HasCauses
         (Rose (L.faults log.old) (L.faults log.new) (L.spent log.new))
         (Rose (O.faults out.old) (O.faults out.new) (O.spent out.new))) }
     ensures log { GoesUp (L.faults log.old) (L.faults log.new) (L.spent log.old) (L.spent log.new) }
     ensures out { GoesUp (O.faults out.old) (O.faults out.new) (O.spent out.old) (O.spent out.new) }
+    ensures alike { K.alike session.old.engine.joined.keep session.new.engine.joined.keep }
 {
     lines_stay();
     let (count, line) = cut.next(piece)?;
     match line {
         None => Ok((count, Turn::More)),
         Some(line) => {
-            let turn = take_turn(session, log, out, &question_in(&line))?;
+            let turn = take_turn(session, takes, log, out, &question_in(&line))?;
             Ok((count, turn))
         }
     }
 }
 
 /// Answers the lines that end in this piece, up to the end of the dialogue.
-pub fn hear<R: Reducer, L: Source, O: Sink>(
-    session: &mut Session<R>,
+pub fn hear<R: Reducer, K: Keep, L: Source, O: Sink>(
+    session: &mut Session<R, K>,
+    takes: bool,
     cut: &mut LineCut,
     log: &mut L,
     out: &mut O,
@@ -59,19 +64,22 @@ pub fn hear<R: Reducer, L: Source, O: Sink>(
     requires { cut.old.lines + length piece.now < 2 ^ 61 }
     ensures lines { OnOk result (cut.new.lines ≤ cut.old.lines + length piece.now) }
     ensures heard { (limits : Limits) (m : Moment) (h : History)
-        → At R.mode limits session.old.engine (L.left log.old) m → Holds limits cut.old h
-        → Heard R.mode limits nothing_beyond cut.new session.new.engine (L.left log.new)
+        → At (kind_of R.mode takes) limits session.old.engine (L.left log.old) m
+        → Holds limits cut.old h
+        → Heard (kind_of R.mode takes) limits nothing_beyond cut.new
+        session.new.engine (L.left log.new)
         (O.written out.old) (O.written out.new) result m h piece.now }
     ensures causes { IfErr result (HasCauses
         (Rose (L.faults log.old) (L.faults log.new) (L.spent log.new))
         (Rose (O.faults out.old) (O.faults out.new) (O.spent out.new))) }
     ensures log { GoesUp (L.faults log.old) (L.faults log.new) (L.spent log.old) (L.spent log.new) }
     ensures out { GoesUp (O.faults out.old) (O.faults out.new) (O.spent out.old) (O.spent out.new) }
+    ensures alike { K.alike session.old.engine.joined.keep session.new.engine.joined.keep }
 {
     lines_stay();
     let mut at = 0;
     while at < piece.len() {
-        let (count, turn) = hear_line(session, cut, log, out, &piece[at..])?;
+        let (count, turn) = hear_line(session, takes, cut, log, out, &piece[at..])?;
         match turn {
             Turn::Ended => return Ok(Turn::Ended),
             Turn::More => at += count,

@@ -7,7 +7,7 @@ ghost use Rattle.std.specs.Prelude.{◌≡◌, ◌⊎◌, ◌≤◌, ◌<◌, �
 ghost use Rattle.flow_base.specs.declared.limits.Limits.{Limits};
 ghost use Rattle.outside.specs.Cause.{Rose};
 ghost use Rattle.audit_lex.specs.History.{History};
-ghost use Rattle.audit_cli.specs.Dialogue.{Moment, QuestionsStop, ReadsNoFurther, nothing_beyond, asks, lines_in};
+ghost use Rattle.audit_cli.specs.Dialogue.{Moment, kind_of, QuestionsStop, ReadsNoFurther, nothing_beyond, asks, lines_in};
 ghost use Rattle.audit_cli.specs.Course.{At, GoesUp, HasCauses, EndTalked};
 ghost use Rattle.audit_cli.specs.Hearing.{Holds, Heard, HeardLast};
 ghost use Rattle.audit_cli.specs.Listening.{turn_heeded, heeded, LeftAfter, IsProgress, AreFew, PassesRoom, ClosesWithin, KeepsWithin};
@@ -19,12 +19,13 @@ use crate::turn::{question_in, take_turn};
 use audit_lex::{LineCut, lines_stay};
 use flow_base::{Full, Limit, Limits};
 use outside::{Sink, Source};
-use reach_rows::Reducer;
+use reach_rows::{Keep, Reducer};
 
 // Reads the questions once into the buffer, and answers what it can. Of `heard` bytes that were
 // read before and of these at most `limits.input` are heard.
-fn listen<R: Reducer, L: Source, Q: Source, O: Sink>(
-    session: &mut Session<R>,
+fn listen<R: Reducer, K: Keep, L: Source, Q: Source, O: Sink>(
+    session: &mut Session<R, K>,
+    takes: bool,
     limits: &Limits,
     heard: u64,
     cut: &mut LineCut,
@@ -37,13 +38,16 @@ fn listen<R: Reducer, L: Source, Q: Source, O: Sink>(
     requires heard { heard ≤ limits.now.input }
     requires room { length buf.old ≡ 65536 }
     ensures heard { (m : Moment) (h : History) (q : List ℕ)
-        → At R.mode limits.now session.old.engine (L.left log.old) m → Holds limits.now cut.old h
+        → At (kind_of R.mode takes) limits.now session.old.engine (L.left log.old) m
+        → Holds limits.now cut.old h
         → Q.left questions.old ≡ Some q
-        → Heard R.mode limits.now (PassesRoom limits.now (limits.now.input - heard) h q) cut.new
+        → Heard (kind_of R.mode takes) limits.now (PassesRoom limits.now (limits.now.input - heard) h q)
+        cut.new
         session.new.engine (L.left log.new) (O.written out.old) (O.written out.new)
         (turn_heeded result) m h (heeded result q) }
     ensures closes { (m : Moment) (h : History) (q : List ℕ)
-        → At R.mode limits.now session.old.engine (L.left log.old) m → Holds limits.now cut.old h
+        → At (kind_of R.mode takes) limits.now session.old.engine (L.left log.old) m
+        → Holds limits.now cut.old h
         → Q.left questions.old ≡ Some q
         → IfOk result (ClosesWithin limits.now (limits.now.input - heard) m h q) }
     ensures left { (q : List ℕ) → Q.left questions.old ≡ Some q
@@ -59,6 +63,7 @@ fn listen<R: Reducer, L: Source, Q: Source, O: Sink>(
         (Q.faults questions.old) (Q.faults questions.new)
         (Q.spent questions.old) (Q.spent questions.new) }
     ensures out { GoesUp (O.faults out.old) (O.faults out.new) (O.spent out.old) (O.spent out.new) }
+    ensures alike { K.alike session.old.engine.joined.keep session.new.engine.joined.keep }
 {
     lines_stay();
     let count = match questions.read(buf) {
@@ -70,7 +75,7 @@ fn listen<R: Reducer, L: Source, Q: Source, O: Sink>(
     }
     let room = limits.input - heard;
     let allowed = (count as u64).min(room) as usize;
-    match hear(session, cut, log, out, &buf[..allowed])? {
+    match hear(session, takes, cut, log, out, &buf[..allowed])? {
         Turn::Ended => Ok(Heed::Ended),
         Turn::More => {
             if allowed < count {
@@ -85,55 +90,64 @@ fn listen<R: Reducer, L: Source, Q: Source, O: Sink>(
 }
 
 // Answers a last question without a line feed.
-fn finish<R: Reducer, L: Source, O: Sink>(
-    session: &mut Session<R>,
+fn finish<R: Reducer, K: Keep, L: Source, O: Sink>(
+    session: &mut Session<R, K>,
+    takes: bool,
     cut: &mut LineCut,
     log: &mut L,
     out: &mut O,
 ) -> Result<(), Halt>
     requires { cut.old.lines < 2 ^ 61 }
     ensures heard { (limits : Limits) (m : Moment) (h : History)
-        → At R.mode limits session.old.engine (L.left log.old) m → Holds limits cut.old h
-        → HeardLast R.mode limits nothing_beyond session.new.engine (L.left log.new)
+        → At (kind_of R.mode takes) limits session.old.engine (L.left log.old) m
+        → Holds limits cut.old h
+        → HeardLast (kind_of R.mode takes) limits nothing_beyond session.new.engine (L.left log.new)
         (O.written out.old) (O.written out.new) result m h }
     ensures causes { IfErr result (HasCauses
         (Rose (L.faults log.old) (L.faults log.new) (L.spent log.new))
         (Rose (O.faults out.old) (O.faults out.new) (O.spent out.new))) }
     ensures log { GoesUp (L.faults log.old) (L.faults log.new) (L.spent log.old) (L.spent log.new) }
     ensures out { GoesUp (O.faults out.old) (O.faults out.new) (O.spent out.old) (O.spent out.new) }
+    ensures alike { K.alike session.old.engine.joined.keep session.new.engine.joined.keep }
 {
     match cut.finish() {
         None => Ok(()),
         Some(line) => {
-            let _turn = take_turn(session, log, out, &question_in(&line))?;
+            let _turn = take_turn(session, takes, log, out, &question_in(&line))?;
             Ok(())
         }
     }
 }
 
 /// Answers the questions in order, up to `end` or to their end.
-pub fn watch<R: Reducer, L: Source, Q: Source, O: Sink>(
-    session: &mut Session<R>,
+pub fn watch<R: Reducer, K: Keep, L: Source, Q: Source, O: Sink>(
+    session: &mut Session<R, K>,
+    takes: bool,
     limits: &Limits,
     log: &mut L,
     questions: &mut Q,
     out: &mut O,
 ) -> Result<(), Halt>
     ensures talked { (m : Moment) (q : List ℕ)
-        → At R.mode limits.now session.old.engine (L.left log.old) m → Q.left questions.old ≡ Some q
-        → EndTalked R.mode limits.now (QuestionsStop limits.now q) session.new.engine
+        → At (kind_of R.mode takes) limits.now session.old.engine (L.left log.old) m
+        → Q.left questions.old ≡ Some q
+        → EndTalked (kind_of R.mode takes) limits.now (QuestionsStop limits.now q)
+        session.new.engine
         (L.left log.new) (O.written out.old) (O.written out.new) result m
         (asks limits.now (lines_in q)) }
     ensures within { (m : Moment) (q : List ℕ)
-        → At R.mode limits.now session.old.engine (L.left log.old) m → Q.left questions.old ≡ Some q
+        → At (kind_of R.mode takes) limits.now session.old.engine (L.left log.old) m
+        → Q.left questions.old ≡ Some q
         → OnOk result (KeepsWithin limits.now m q) }
     ensures left { (m : Moment) (q : List ℕ)
-        → At R.mode limits.now session.old.engine (L.left log.old) m → Q.left questions.old ≡ Some q
+        → At (kind_of R.mode takes) limits.now session.old.engine (L.left log.old) m
+        → Q.left questions.old ≡ Some q
         → OnOk result (ReadsNoFurther limits.now m q (Q.left questions.new)) }
     ensures causes { IfErr result (HasCauses
         (Rose (L.faults log.old) (L.faults log.new) (L.spent log.new)
         ⊎ Rose (Q.faults questions.old) (Q.faults questions.new) (Q.spent questions.new))
         (Rose (O.faults out.old) (O.faults out.new) (O.spent out.new))) }
+    ensures alike { K.alike session.old.engine.joined.keep session.new.engine.joined.keep }
 {
     lines_stay();
     let mut cut = LineCut::new(session.alloc, limits.question);
@@ -142,6 +156,7 @@ pub fn watch<R: Reducer, L: Source, Q: Source, O: Sink>(
     loop {
         match listen(
             session,
+            takes,
             limits,
             heard,
             &mut cut,
@@ -152,7 +167,7 @@ pub fn watch<R: Reducer, L: Source, Q: Source, O: Sink>(
         )? {
             Heed::Piece(count) => heard += count as u64,
             Heed::Ended => return Ok(()),
-            Heed::Silence => return finish(session, &mut cut, log, out),
+            Heed::Silence => return finish(session, takes, &mut cut, log, out),
         }
     }
 }

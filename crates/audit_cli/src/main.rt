@@ -2,6 +2,8 @@
 //!
 //!     audit_cli back ID < LOG
 //!     audit_cli watch MODE LOG < QUESTIONS
+//!     audit_cli reduce MODE LOG STORE [--resume]
+//!     audit_cli query STORE < QUESTIONS
 //!     audit_cli trial SEED EVENTS
 //!
 //! `audit_main` is the whole of it over any sources and sink, and its contract is the theorem. `main` makes the real
@@ -22,6 +24,9 @@ mod run;
 mod session;
 mod status;
 #[cfg(test)]
+mod store_tests;
+mod stores;
+#[cfg(test)]
 mod tests;
 mod trial;
 mod trial_line;
@@ -32,8 +37,8 @@ mod words_tests;
 
 use flow_base::Bytes;
 use outside::put_all;
-use outside_real::{Reading, Writing, open_log};
-pub use run::{audit_main, audit_run};
+use outside_real::{Reading, Storing, Writing, open_log, open_or_make_store, open_store};
+pub use run::{Ended, audit_main, audit_run};
 pub use status::{Status, status_line, status_number};
 use std::fs::File;
 use std::process::ExitCode;
@@ -62,22 +67,41 @@ fn audited(rt: &HostRuntime, words: &[String]) -> Status
         Err(WordsFault::BadWords) => {
             let mut log: Reading<File> = Reading::unopened();
             let mut questions: Reading<File> = Reading::unopened();
-            audit_main(alloc, words, &mut log, &mut questions, &mut out)
+            audit_main(alloc, words, &mut log, &mut questions, &mut out, unopened()).status
         }
         Ok(Job::Back(_)) => {
             let mut log = Reading::new(rt.stdin());
             let mut questions: Reading<File> = Reading::unopened();
-            audit_main(alloc, words, &mut log, &mut questions, &mut out)
+            audit_main(alloc, words, &mut log, &mut questions, &mut out, unopened()).status
         }
         Ok(Job::Trial { seed: _, events: _ }) => {
             let mut log: Reading<File> = Reading::unopened();
             let mut questions: Reading<File> = Reading::unopened();
-            audit_main(alloc, words, &mut log, &mut questions, &mut out)
+            audit_main(alloc, words, &mut log, &mut questions, &mut out, unopened()).status
         }
         Ok(Job::Watch { mode: _, log: name }) => {
             let mut log = log_named(rt, &name);
             let mut questions = Reading::new(rt.stdin());
-            audit_main(alloc, words, &mut log, &mut questions, &mut out)
+            audit_main(alloc, words, &mut log, &mut questions, &mut out, unopened()).status
+        }
+        Ok(
+            Job::Reduce {
+                mode: _,
+                log: name,
+                store,
+                resume: _,
+            },
+        ) => {
+            let mut log = log_named(rt, &name);
+            let mut questions: Reading<File> = Reading::unopened();
+            let disk = store_made(rt, &store);
+            audit_main(alloc, words, &mut log, &mut questions, &mut out, disk).status
+        }
+        Ok(Job::Query { store }) => {
+            let mut log: Reading<File> = Reading::unopened();
+            let mut questions = Reading::new(rt.stdin());
+            let disk = store_named(rt, &store);
+            audit_main(alloc, words, &mut log, &mut questions, &mut out, disk).status
         }
     }
 }
@@ -91,6 +115,33 @@ fn log_named(rt: &HostRuntime, name: &Bytes) -> Reading<File>
         Ok(path) => open_log(rt, path),
         Err(_) => Reading::unopened(),
     }
+}
+
+// The store of this name, which is made if it isn't there.
+fn store_made(rt: &HostRuntime, name: &Bytes) -> Storing<File>
+    ensures unused { result.faults ≡ 0 }
+    ensures apart { IfSome result.inner (λ file. pos 2 <ℤ file_raw_fd file) }
+{
+    match str::from_utf8(name.as_slice()) {
+        Ok(path) => open_or_make_store(rt, path),
+        Err(_) => Storing::new(None),
+    }
+}
+
+// The store of this name.
+fn store_named(rt: &HostRuntime, name: &Bytes) -> Storing<File>
+    ensures unused { result.faults ≡ 0 }
+    ensures apart { IfSome result.inner (λ file. pos 2 <ℤ file_raw_fd file) }
+{
+    match str::from_utf8(name.as_slice()) {
+        Ok(path) => open_store(rt, path),
+        Err(_) => Storing::new(None),
+    }
+}
+
+// A disk whose every call fails, for a job that has none.
+fn unopened() -> Storing<File> {
+    Storing::new(None)
 }
 
 // The words after the program's own name. Words that aren't UTF-8 name no job.

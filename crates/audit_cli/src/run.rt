@@ -1,32 +1,45 @@
 //! The top call: from words, a log, questions and a sink to a status.
-ghost use Rattle.std.specs.Prelude.{◌≡◌, ◌⊎◌, ℕ, List, [], map, string_bytes, None, Some, OnOk, IfErr};
+ghost use Rattle.std.specs.Prelude.{Bool, ◌≡◌, ◌⊎◌, ℕ, List, [], map, string_bytes, None, Some, OnOk, IfErr};
 ghost use Rattle.outside.specs.Cause.{Rose};
+ghost use Rattle.outside.specs.Disk.{OnlyLooks, UsesDisk};
+ghost use Rattle.reach_model.specs.declared.modes.Mode.{Mode};
 ghost use Rattle.audit_cli.specs.declared.words.Job.{Job};
-ghost use Rattle.audit_cli.specs.Words.{job_of, mode_for};
+ghost use Rattle.audit_cli.specs.Words.{IsInMemory, job_of, mode_for};
 ghost use Rattle.audit_cli.specs.Course.{HasCauses};
 ghost use Rattle.audit_cli.specs.Jobs.{JobTalked, KeepsLimit};
 ghost use Rattle.audit_cli.specs.Claims.{WhereTold, WhereStandard, Finishes, WritesPrefix, StopsAtLimit, ReadsToEnd, FitsAtDone, IsComplete};
 ghost use Rattle.audit_cli.specs.Headline.{Tells, TellsLog, LeavesQuestions};
-ghost use Rattle.audit_cli.specs.Standard.{IsStandard};
-ghost use Rattle.audit_cli.specs.Statuses.{StatusCause};
+ghost use Rattle.audit_cli.specs.Standard.{IsStandard, WithStandard};
+ghost use Rattle.audit_cli.specs.Statuses.{RefusesStore, StatusCause, store_status};
+ghost use Rattle.audit_cli.specs.StoreHalts.{no_modes, no_place};
+ghost use Rattle.audit_cli.specs.Stores.{EndsAs, IsBadIn, IsBadOrNone, IsQueryRun, IsReduceRun, IsWrongIn, StoodAt};
 
 use crate::back::back;
 use crate::halt::Halt;
 use crate::listen::watch;
 use crate::session::{Session, room_for_a_read};
-use crate::status::{Status, status_of};
+use crate::status::{Status, status_of, status_over_store};
+use crate::stores::{Ran, query, reduce};
 use crate::trial::trial;
 use crate::words::{Job, WordsFault, read_words};
 use flow_base::{EntityId, Limits};
 use ingest::{Ingest, stops_stay, what_fits_never_stops};
-use outside::{Sink, Source};
+use outside::{Disk, Sink, Source};
 use reach_model::Mode;
 use reach_rows::{Plain, Reducer, VecRows};
 use reduce_continuous::Continuous;
 use reduce_source::Sources;
 use std::alloc::Global;
 
-// Does a job.
+/// How a run ended, and the disk of its store. A job that keeps its rows in memory hands the disk
+/// back as it came.
+#[derive(Drop)]
+pub struct Ended<D> {
+    pub status: Status,
+    pub disk: D,
+}
+
+// Does a job that keeps its rows in memory.
 fn run<L: Source, Q: Source, O: Sink>(
     alloc: Global,
     limits: &Limits,
@@ -35,6 +48,7 @@ fn run<L: Source, Q: Source, O: Sink>(
     questions: &mut Q,
     out: &mut O,
 ) -> Result<(), Halt>
+    requires memory { IsInMemory job.now }
     ensures talked { (bytes asked : List ℕ) → TellsLog job.now (L.left log.old) bytes
         → Tells job.now (Q.left questions.old) asked
         → JobTalked limits.now job.now bytes asked (L.left log.new)
@@ -59,6 +73,13 @@ fn run<L: Source, Q: Source, O: Sink>(
         Job::Back(_) => run_in_mode(alloc, limits, Mode::Plain, job, log, questions, out),
         Job::Watch { mode, log: _ } => run_in_mode(alloc, limits, *mode, job, log, questions, out),
         Job::Trial { seed, events } => trial(alloc, limits, *seed, *events, out),
+        Job::Reduce {
+            mode: _,
+            log: _,
+            store: _,
+            resume: _,
+        } => unreachable!(),
+        Job::Query { store: _ } => unreachable!(),
     }
 }
 
@@ -155,25 +176,38 @@ fn run_with<R: Reducer + Drop, L: Source, Q: Source, O: Sink>(
     };
     match job {
         Job::Back(of) => back(&mut session, log, out, EntityId(*of)),
-        Job::Watch { mode: _, log: _ } => watch(&mut session, limits, log, questions, out),
+        Job::Watch { mode: _, log: _ } => watch(&mut session, true, limits, log, questions, out),
         Job::Trial { seed: _, events: _ } => unreachable!(),
+        Job::Reduce {
+            mode: _,
+            log: _,
+            store: _,
+            resume: _,
+        } => unreachable!(),
+        Job::Query { store: _ } => unreachable!(),
     }
 }
 
 /// Does what the words say, within these limits.
-pub fn audit_run<L: Source, Q: Source, O: Sink>(
+pub fn audit_run<L: Source, Q: Source, O: Sink, D: Disk>(
     alloc: Global,
     limits: &Limits,
     words: &[String],
     log: &mut L,
     questions: &mut Q,
     out: &mut O,
-) -> Status
-    ensures bad_words { result ≡ Status.BadWords → job_of (map string_bytes words.now) ≡ None }
+    disk: D,
+) -> Ended<D>
+    ensures bad_words { result.status ≡ Status.BadWords
+        → job_of (map string_bytes words.now) ≡ None }
     ensures refuses { job_of (map string_bytes words.now) ≡ None
-        → (result ≡ Status.BadWords) ⊎ (result ≡ Status.NoMemory) }
+        → (result.status ≡ Status.BadWords) ⊎ (result.status ≡ Status.NoMemory) }
     ensures untouched { job_of (map string_bytes words.now) ≡ None
         → (log.new ≡ log.old) × (questions.new ≡ questions.old) × (out.new ≡ out.old) }
+    // A job that keeps its rows in memory, and words that name no job, leave the disk alone.
+    ensures memory { (done : Job) → job_of (map string_bytes words.now) ≡ Some done
+        → IsInMemory done → result.disk ≡ disk }
+    ensures no_job { job_of (map string_bytes words.now) ≡ None → result.disk ≡ disk }
     ensures other { (of : ℕ) → job_of (map string_bytes words.now) ≡ Some (Job.Back of)
         → questions.new ≡ questions.old }
     ensures alone { (seed events : ℕ)
@@ -182,53 +216,126 @@ pub fn audit_run<L: Source, Q: Source, O: Sink>(
     ensures causes { StatusCause
         (Rose (L.faults log.old) (L.faults log.new) (L.spent log.new)
         ⊎ Rose (Q.faults questions.old) (Q.faults questions.new) (Q.spent questions.new))
-        (Rose (O.faults out.old) (O.faults out.new) (O.spent out.new)) result }
+        (Rose (O.faults out.old) (O.faults out.new) (O.spent out.new))
+        (Rose (D.faults disk) (D.faults result.disk) (D.spent result.disk)) result.status }
+    ensures uses { UsesDisk D.state D.faults D.spent disk result.disk
+        (result.status ≡ Status.StoreFault) }
     // At Done the bytes written in this call are those of the right replies.
     ensures headline { WhereTold limits.now (map string_bytes words.now) (L.left log.old)
         (Q.left questions.old)
-        (Finishes result (L.left log.new) (O.written out.old) (O.written out.new)) }
+        (Finishes result.status (L.left log.new) (O.written out.old) (O.written out.new)) }
     // With any status they are a prefix of them.
     ensures prefix { WhereTold limits.now (map string_bytes words.now) (L.left log.old)
         (Q.left questions.old) (WritesPrefix (O.written out.old) (O.written out.new)) }
     ensures whole { (of : ℕ) (bytes : List ℕ)
         → job_of (map string_bytes words.now) ≡ Some (Job.Back of) → L.left log.old ≡ Some bytes
-        → result ≡ Status.Done → L.left log.new ≡ Some [] }
+        → result.status ≡ Status.Done → L.left log.new ≡ Some [] }
     // At most 65,536 bytes of the questions are read after a prefix that doesn't end them.
     ensures no_further { WhereTold limits.now (map string_bytes words.now) (L.left log.old)
-        (Q.left questions.old) (ReadsToEnd result (Q.left questions.new)) }
+        (Q.left questions.old) (ReadsToEnd result.status (Q.left questions.new)) }
     // A limit stops the run at one moment, up to which each question was answered.
     ensures full { WhereTold limits.now (map string_bytes words.now) (L.left log.old)
-        (Q.left questions.old) (StopsAtLimit result (O.written out.old) (O.written out.new)) }
+        (Q.left questions.old) (StopsAtLimit result.status
+        (O.written out.old) (O.written out.new)) }
     ensures exact { WhereTold limits.now (map string_bytes words.now) (L.left log.old)
-        (Q.left questions.old) (FitsAtDone result) }
+        (Q.left questions.old) (FitsAtDone result.status) }
     ensures complete { WhereTold limits.now (map string_bytes words.now) (L.left log.old)
-        (Q.left questions.old) (IsComplete result
+        (Q.left questions.old) (IsComplete result.status
         (Rose (L.faults log.old) (L.faults log.new) (L.spent log.new)
         ⊎ (Rose (Q.faults questions.old) (Q.faults questions.new) (Q.spent questions.new)
         ⊎ Rose (O.faults out.old) (O.faults out.new) (O.spent out.new)))) }
+    // Over a disk that had a store of a history, `reduce` leaves at each moment a store of that
+    // history and of the log up to some byte, and at Done one of all of it, settled, and has written
+    // the reply to `stat`.
+    ensures reduced { (kept : Mode) (name store : List ℕ) (resume : Bool)
+        → job_of (map string_bytes words.now) ≡ Some (Job.Reduce kept name store resume)
+        → EndsAs result.status (IsReduceRun resume (StoodAt D.state limits.now kept disk) limits.now kept
+        (D.state disk) (D.state result.disk) (L.left log.old) (L.left log.new)
+        (O.written out.old) (O.written out.new)) }
+    // Over such a disk `query` answers from its history, and leaves the disk as it is.
+    ensures queried { (store : List ℕ)
+        → job_of (map string_bytes words.now) ≡ Some (Job.Query store)
+        → EndsAs result.status (IsQueryRun
+        (λ kept h. (part : ℕ) × StoodAt D.state limits.now kept disk h part) limits.now
+        (Q.left questions.old) (O.written out.old) (O.written out.new)) }
+    // A store is refused for a cause, and no other job ends so.
+    ensures refused { (kept : Mode) (name store : List ℕ) (resume : Bool)
+        → job_of (map string_bytes words.now) ≡ Some (Job.Reduce kept name store resume)
+        → RefusesStore result.status (IsBadIn limits.now (D.state disk))
+        (IsWrongIn limits.now (D.state disk) (Some kept)) }
+    ensures unanswered { (store : List ℕ)
+        → job_of (map string_bytes words.now) ≡ Some (Job.Query store)
+        → RefusesStore result.status (IsBadOrNone limits.now (D.state disk))
+        (IsWrongIn limits.now (D.state disk) None) }
+    ensures no_store { (done : Job) → job_of (map string_bytes words.now) ≡ Some done
+        → IsInMemory done → RefusesStore result.status no_place no_modes }
+    ensures looks { (store : List ℕ)
+        → job_of (map string_bytes words.now) ≡ Some (Job.Query store)
+        → OnlyLooks (D.state disk) (D.state result.disk) }
+    ensures silent { (kept : Mode) (name store : List ℕ) (resume : Bool)
+        → job_of (map string_bytes words.now) ≡ Some (Job.Reduce kept name store resume)
+        → questions.new ≡ questions.old }
+    ensures no_log { (store : List ℕ)
+        → job_of (map string_bytes words.now) ≡ Some (Job.Query store) → log.new ≡ log.old }
 {
     stops_stay();
     what_fits_never_stops();
     match read_words(alloc, words) {
-        Err(WordsFault::BadWords) => Status::BadWords,
-        Err(WordsFault::NoMemory) => Status::NoMemory,
-        Ok(job) => status_of(run(alloc, limits, &job, log, questions, out)),
+        Err(WordsFault::BadWords) => Ended {
+            status: Status::BadWords,
+            disk,
+        },
+        Err(WordsFault::NoMemory) => Ended {
+            status: Status::NoMemory,
+            disk,
+        },
+        Ok(
+            Job::Reduce {
+                mode,
+                log: _,
+                store: _,
+                resume,
+            },
+        ) => told_of(reduce(alloc, limits, mode, resume, log, out, disk)),
+        Ok(Job::Query { store: _ }) => told_of(query(alloc, limits, questions, out, disk)),
+        Ok(job) => Ended {
+            status: status_of(run(alloc, limits, &job, log, questions, out)),
+            disk,
+        },
+    }
+}
+
+// A run over a store, as the end of the program.
+fn told_of<D>(ran: Ran<D>) -> Ended<D>
+    ensures status { result.status ≡ store_status ran.outcome }
+    ensures disk { result.disk ≡ ran.disk }
+{
+    let Ran { outcome, disk } = ran;
+    Ended {
+        status: status_over_store(outcome),
+        disk,
     }
 }
 
 /// Does what the words say, within the program's limits.
-pub fn audit_main<L: Source, Q: Source, O: Sink>(
+pub fn audit_main<L: Source, Q: Source, O: Sink, D: Disk>(
     alloc: Global,
     words: &[String],
     log: &mut L,
     questions: &mut Q,
     out: &mut O,
-) -> Status
-    ensures bad_words { result ≡ Status.BadWords → job_of (map string_bytes words.now) ≡ None }
+    disk: D,
+) -> Ended<D>
+    ensures bad_words { result.status ≡ Status.BadWords
+        → job_of (map string_bytes words.now) ≡ None }
     ensures refuses { job_of (map string_bytes words.now) ≡ None
-        → (result ≡ Status.BadWords) ⊎ (result ≡ Status.NoMemory) }
+        → (result.status ≡ Status.BadWords) ⊎ (result.status ≡ Status.NoMemory) }
     ensures untouched { job_of (map string_bytes words.now) ≡ None
         → (log.new ≡ log.old) × (questions.new ≡ questions.old) × (out.new ≡ out.old) }
+    // A job that keeps its rows in memory, and words that name no job, leave the disk alone.
+    ensures memory { (done : Job) → job_of (map string_bytes words.now) ≡ Some done
+        → IsInMemory done → result.disk ≡ disk }
+    ensures no_job { job_of (map string_bytes words.now) ≡ None → result.disk ≡ disk }
     ensures other { (of : ℕ) → job_of (map string_bytes words.now) ≡ Some (Job.Back of)
         → questions.new ≡ questions.old }
     ensures alone { (seed events : ℕ)
@@ -237,33 +344,66 @@ pub fn audit_main<L: Source, Q: Source, O: Sink>(
     ensures causes { StatusCause
         (Rose (L.faults log.old) (L.faults log.new) (L.spent log.new)
         ⊎ Rose (Q.faults questions.old) (Q.faults questions.new) (Q.spent questions.new))
-        (Rose (O.faults out.old) (O.faults out.new) (O.spent out.new)) result }
+        (Rose (O.faults out.old) (O.faults out.new) (O.spent out.new))
+        (Rose (D.faults disk) (D.faults result.disk) (D.spent result.disk)) result.status }
+    ensures uses { UsesDisk D.state D.faults D.spent disk result.disk
+        (result.status ≡ Status.StoreFault) }
     // At Done the bytes written in this call are those of the right replies.
     ensures headline { WhereStandard (map string_bytes words.now) (L.left log.old)
         (Q.left questions.old)
-        (Finishes result (L.left log.new) (O.written out.old) (O.written out.new)) }
+        (Finishes result.status (L.left log.new) (O.written out.old) (O.written out.new)) }
     // With any status they are a prefix of them.
     ensures prefix { WhereStandard (map string_bytes words.now) (L.left log.old)
         (Q.left questions.old) (WritesPrefix (O.written out.old) (O.written out.new)) }
     ensures whole { (of : ℕ) (bytes : List ℕ)
         → job_of (map string_bytes words.now) ≡ Some (Job.Back of) → L.left log.old ≡ Some bytes
-        → result ≡ Status.Done → L.left log.new ≡ Some [] }
+        → result.status ≡ Status.Done → L.left log.new ≡ Some [] }
     // At most 65,536 bytes of the questions are read after a prefix that doesn't end them.
     ensures no_further { WhereStandard (map string_bytes words.now) (L.left log.old)
-        (Q.left questions.old) (ReadsToEnd result (Q.left questions.new)) }
+        (Q.left questions.old) (ReadsToEnd result.status (Q.left questions.new)) }
     // A limit stops the run at one moment, up to which each question was answered.
     ensures full { WhereStandard (map string_bytes words.now) (L.left log.old)
-        (Q.left questions.old) (StopsAtLimit result (O.written out.old) (O.written out.new)) }
+        (Q.left questions.old) (StopsAtLimit result.status
+        (O.written out.old) (O.written out.new)) }
     ensures exact { WhereStandard (map string_bytes words.now) (L.left log.old)
-        (Q.left questions.old) (FitsAtDone result) }
+        (Q.left questions.old) (FitsAtDone result.status) }
     ensures complete { WhereStandard (map string_bytes words.now) (L.left log.old)
-        (Q.left questions.old) (IsComplete result
+        (Q.left questions.old) (IsComplete result.status
         (Rose (L.faults log.old) (L.faults log.new) (L.spent log.new)
         ⊎ (Rose (Q.faults questions.old) (Q.faults questions.new) (Q.spent questions.new)
         ⊎ Rose (O.faults out.old) (O.faults out.new) (O.spent out.new)))) }
+    ensures reduced { WithStandard (λ limits. (kept : Mode) (name store : List ℕ) (resume : Bool)
+        → job_of (map string_bytes words.now) ≡ Some (Job.Reduce kept name store resume)
+        → EndsAs result.status (IsReduceRun resume (StoodAt D.state limits kept disk) limits kept
+        (D.state disk) (D.state result.disk) (L.left log.old) (L.left log.new)
+        (O.written out.old) (O.written out.new))) }
+    ensures queried { WithStandard (λ limits. (store : List ℕ)
+        → job_of (map string_bytes words.now) ≡ Some (Job.Query store)
+        → EndsAs result.status (IsQueryRun
+        (λ kept h. (part : ℕ) × StoodAt D.state limits kept disk h part) limits
+        (Q.left questions.old) (O.written out.old) (O.written out.new))) }
+    // A store is refused for a cause, and no other job ends so.
+    ensures refused { WithStandard (λ limits. (kept : Mode) (name store : List ℕ) (resume : Bool)
+        → job_of (map string_bytes words.now) ≡ Some (Job.Reduce kept name store resume)
+        → RefusesStore result.status (IsBadIn limits (D.state disk))
+        (IsWrongIn limits (D.state disk) (Some kept))) }
+    ensures unanswered { WithStandard (λ limits. (store : List ℕ)
+        → job_of (map string_bytes words.now) ≡ Some (Job.Query store)
+        → RefusesStore result.status (IsBadOrNone limits (D.state disk))
+        (IsWrongIn limits (D.state disk) None)) }
+    ensures no_store { (done : Job) → job_of (map string_bytes words.now) ≡ Some done
+        → IsInMemory done → RefusesStore result.status no_place no_modes }
+    ensures looks { (store : List ℕ)
+        → job_of (map string_bytes words.now) ≡ Some (Job.Query store)
+        → OnlyLooks (D.state disk) (D.state result.disk) }
+    ensures silent { (kept : Mode) (name store : List ℕ) (resume : Bool)
+        → job_of (map string_bytes words.now) ≡ Some (Job.Reduce kept name store resume)
+        → questions.new ≡ questions.old }
+    ensures no_log { (store : List ℕ)
+        → job_of (map string_bytes words.now) ≡ Some (Job.Query store) → log.new ≡ log.old }
 {
     let limits = standard_limits();
-    audit_run(alloc, &limits, words, log, questions, out)
+    audit_run(alloc, &limits, words, log, questions, out, disk)
 }
 
 fn standard_limits() -> Limits

@@ -1,9 +1,11 @@
 //! What a dialogue works with: an engine, and the memory through which the log comes to it.
 ghost use Rattle.std.specs.Prelude.{◌≡◌, IfOk, length};
+ghost use Rattle.kept_flows.specs.Answering.{AlwaysTold, NeverFail};
+ghost use Rattle.audit_cli.specs.Sessions.{told_once};
 
 use flow_base::NoMemory;
 use ingest::Ingest;
-use reach_rows::{Reducer, VecRows};
+use reach_rows::{Keep, Reducer};
 use std::alloc::Global;
 
 /// The most bytes of one read.
@@ -11,12 +13,17 @@ pub const PIECE: usize = 65_536;
 
 /// An engine that answers, and the buffer for each read of its log. The buffer is allocated once a
 /// run, in memory that can be refused, and no question allocates another.
+///
+/// The engine keeps its flows in rows that are always observable and that no read of fails, so that
+/// it can only fail to allocate an answer.
 #[derive(Drop)]
-pub struct Session<R: Reducer> {
+pub struct Session<R: Reducer, K: Keep> {
     pub alloc: Global,
-    pub engine: Ingest<R, VecRows>,
+    pub engine: Ingest<R, K>,
     pub piece: Vec<u8>,
     pub ghost room: { length piece.items ≡ 65536 },
+    pub ghost never: { NeverFail K.faults K.spent },
+    pub ghost told: { AlwaysTold K.rows } by { told_once K.rows },
 }
 
 /// A buffer for the bytes of one read.

@@ -6,15 +6,21 @@
 //!     3        NoMemory      no memory
 //!     4        ReadFault     read fault
 //!     5        WriteFault    write fault
+//!     6        StoreFault    store fault
+//!     7        BadStore      bad store at PLACE
+//!     8        WrongMode     wrong mode: kept KEPT, asked ASKED
 //!     9        Full          full: LIMIT NUMBER
+//!     10       ShortLog      short log: taken TAKEN, had HAD
 ghost use Rattle.std.specs.Prelude.{◌≡◌, ◌≤◌, length};
 ghost use Rattle.arrayvec.specs.ArrayString.{array_string_len};
-ghost use Rattle.audit_cli.specs.Statuses.{number_of, line_of, as_line, full_text, limit_name, status_for};
+ghost use Rattle.audit_cli.specs.Statuses.{number_of, line_of, as_line, bad_text, wrong_text, full_text, short_text, limit_name, status_for, store_status};
 
-use crate::halt::Halt;
+use crate::halt::{Halt, StoreHalt};
+use crate::trial_line::name_of_mode;
 use arrayvec::ArrayString;
 use flow_base::{Full, Limit};
 use itoa::Buffer;
+use reach_model::Mode;
 
 /// The most bytes of a line about the program's end.
 pub const LINE: usize = 80;
@@ -32,8 +38,16 @@ pub enum Status {
     ReadFault,
     /// A reply couldn't be written.
     WriteFault,
+    /// A call on the store's disk failed.
+    StoreFault,
+    /// The disk isn't a store. The place is that of the batch from which on it isn't one.
+    BadStore(u64),
+    /// The store is of another mode than the word says.
+    WrongMode { kept: Mode, asked: Mode },
     /// A limit would have been passed.
     Full(Full),
+    /// The log has fewer bytes than the store has taken of it.
+    ShortLog { taken: u64, had: u64 },
 }
 
 /// The number with which the program ends.
@@ -46,7 +60,11 @@ pub fn status_number(status: &Status) -> u8
         Status::NoMemory => 3,
         Status::ReadFault => 4,
         Status::WriteFault => 5,
+        Status::StoreFault => 6,
+        Status::BadStore(_) => 7,
+        Status::WrongMode { kept: _, asked: _ } => 8,
         Status::Full(_) => 9,
+        Status::ShortLog { taken: _, had: _ } => 10,
     }
 }
 
@@ -62,7 +80,11 @@ pub fn status_line(status: &Status) -> ArrayString<LINE>
         Status::NoMemory => as_line("no memory"),
         Status::ReadFault => as_line("read fault"),
         Status::WriteFault => as_line("write fault"),
+        Status::StoreFault => as_line("store fault"),
+        Status::BadStore(place) => as_line(bad_text(place).as_str()),
+        Status::WrongMode { kept, asked } => as_line(wrong_text(kept, asked).as_str()),
         Status::Full(full) => as_line(full_text(full).as_str()),
+        Status::ShortLog { taken, had } => as_line(short_text(taken, had).as_str()),
     }
 }
 
@@ -76,6 +98,45 @@ fn as_line(text: &str) -> ArrayString<LINE>
     line.push_str(text);
     line.push_str("\n");
     line
+}
+
+// Where a disk is no store.
+fn bad_text(place: u64) -> ArrayString<LINE>
+    ensures text { result.bytes ≡ bad_text place }
+    ensures short { array_string_len result ≤ 64 }
+{
+    let mut digits = Buffer::new();
+    let mut text = ArrayString::new();
+    text.push_str("bad store at ");
+    text.push_str(digits.format(place));
+    text
+}
+
+// The mode of the store, and the one that was asked for.
+fn wrong_text(kept: Mode, asked: Mode) -> ArrayString<LINE>
+    ensures text { result.bytes ≡ wrong_text kept asked }
+    ensures short { array_string_len result ≤ 64 }
+{
+    let mut text = ArrayString::new();
+    text.push_str("wrong mode: kept ");
+    text.push_str(name_of_mode(kept));
+    text.push_str(", asked ");
+    text.push_str(name_of_mode(asked));
+    text
+}
+
+// How many bytes of a log the store has taken, and how many there were.
+fn short_text(taken: u64, had: u64) -> ArrayString<LINE>
+    ensures text { result.bytes ≡ short_text taken had }
+    ensures short { array_string_len result ≤ 64 }
+{
+    let mut digits = Buffer::new();
+    let mut text = ArrayString::new();
+    text.push_str("short log: taken ");
+    text.push_str(digits.format(taken));
+    text.push_str(", had ");
+    text.push_str(digits.format(had));
+    text
 }
 
 // Which limit was reached, and its number.
@@ -116,5 +177,20 @@ pub fn status_of(outcome: Result<(), Halt>) -> Status
         Err(Halt::ReadFault) => Status::ReadFault,
         Err(Halt::WriteFault) => Status::WriteFault,
         Err(Halt::Full(full)) => Status::Full(full),
+    }
+}
+
+/// The status of a run over a store.
+pub fn status_over_store(outcome: Result<(), StoreHalt>) -> Status
+    ensures { result ≡ store_status outcome }
+{
+    match outcome {
+        Ok(()) => Status::Done,
+        Err(StoreHalt::Run(why)) => status_of(Err(why)),
+        Err(StoreHalt::StoreFault) => Status::StoreFault,
+        Err(StoreHalt::BadStore(place)) => Status::BadStore(place),
+        Err(StoreHalt::WrongMode { kept, asked }) => Status::WrongMode { kept, asked },
+        Err(StoreHalt::ShortLog { taken, had }) => Status::ShortLog { taken, had },
+        Err(StoreHalt::Unwritten(full)) => Status::Full(full),
     }
 }

@@ -1,17 +1,18 @@
 //! Runs over objects in memory: what is written, and how the run ends.
 use super::*;
 use flow_base::{Bytes, Full, Limit, Limits, List};
-use outside::{MemSink, MemSource};
+use outside::{MemDisk, MemSink, MemSource};
+use reach_model::Mode;
 use std::test::Fail;
 
 // Process 100 forks 101, which writes to its descriptor 1: lines of 139 and 138 bytes, the second without its line feed.
-const FORK: &[u8] =
+pub const FORK: &[u8] =
     b"type=SYSCALL msg=audit(1.000:1): arch=c000003e syscall=57 success=yes exit=101 a0=0 a1=0 a2=0 a3=0 items=0 ppid=1 pid=100 comm=\"p\" exe=\"/p\"\n";
 
-const WRITE: &[u8] =
+pub const WRITE: &[u8] =
     b"type=SYSCALL msg=audit(1.001:2): arch=c000003e syscall=1 success=yes exit=5 a0=1 a1=0 a2=5 a3=0 items=0 ppid=100 pid=101 comm=\"p\" exe=\"/p\"";
 
-const FEED: &[u8] = b"\n";
+pub const FEED: &[u8] = b"\n";
 
 // The end of the first event.
 const END: &[u8] = b"type=EOE msg=audit(1.000:1): \n";
@@ -62,9 +63,9 @@ const DESCRIPTORS: &[&[u8]] = &[
 
 const UNKNOWN: &[u8] = b"{\"error\":\"Unknown\"}\n";
 
-const REACHED: &[u8] = b"{\"back\":2,\"ids\":[0,1,2]}\n";
+pub const REACHED: &[u8] = b"{\"back\":2,\"ids\":[0,1,2]}\n";
 
-const NOTHING: &[u8] = b"";
+pub const NOTHING: &[u8] = b"";
 
 // The status at a limit of this number.
 fn full(limit: Limit, number: u64) -> Status {
@@ -93,7 +94,7 @@ fn limits(input: u64, entities: u32, records: usize, question: usize) -> Limits 
 }
 
 // The words of a line, parted by spaces.
-fn words_of(rt: &HostRuntime, line: &str) -> Result<Vec<String>, Fail> {
+pub fn words_of(rt: &HostRuntime, line: &str) -> Result<Vec<String>, Fail> {
     let mut words = Vec::new(rt.alloc());
     for word in line.split_whitespace() {
         words.push(String::from_str(rt.alloc(), word)?)?;
@@ -102,7 +103,7 @@ fn words_of(rt: &HostRuntime, line: &str) -> Result<Vec<String>, Fail> {
 }
 
 // These texts, one behind the other.
-fn joined(rt: &HostRuntime, parts: &[&[u8]]) -> Result<Bytes, Fail> {
+pub fn joined(rt: &HostRuntime, parts: &[&[u8]]) -> Result<Bytes, Fail> {
     let mut bytes = Bytes::new(rt.alloc());
     for part in parts {
         bytes.append(part)?;
@@ -111,7 +112,7 @@ fn joined(rt: &HostRuntime, parts: &[&[u8]]) -> Result<Bytes, Fail> {
 }
 
 // The numbers of calls that fail.
-fn calls(rt: &HostRuntime, numbers: &[u64]) -> Result<List<u64>, Fail> {
+pub fn calls(rt: &HostRuntime, numbers: &[u64]) -> Result<List<u64>, Fail> {
     let mut list = List::new(rt.alloc());
     for number in numbers {
         list.push(*number)?;
@@ -140,15 +141,17 @@ fn run_with(
     let mut log = MemSource::new(log, calls(rt, fails.log)?);
     let mut questions = MemSource::new(questions, calls(rt, fails.questions)?);
     let mut out = MemSink::new(Bytes::new(rt.alloc()), calls(rt, fails.out)?);
-    let status = audit_run(
+    let disk = MemDisk::new(rt.alloc(), Bytes::new(rt.alloc()), calls(rt, &[0])?);
+    let ended = audit_run(
         rt.alloc(),
         limits,
         words.as_slice(),
         &mut log,
         &mut questions,
         &mut out,
+        disk,
     );
-    Ok((status, Bytes::from_slice(rt.alloc(), out.written())?))
+    Ok((ended.status, Bytes::from_slice(rt.alloc(), out.written())?))
 }
 
 // How a run ends, and what it writes.
@@ -733,6 +736,21 @@ fn a_status_has_its_number_and_line(rt: HostRuntime) -> Result<(), Fail> {
         (Status::NoMemory, 3, "audit_cli: no memory\n"),
         (Status::ReadFault, 4, "audit_cli: read fault\n"),
         (Status::WriteFault, 5, "audit_cli: write fault\n"),
+        (Status::StoreFault, 6, "audit_cli: store fault\n"),
+        (Status::BadStore(0), 7, "audit_cli: bad store at 0\n"),
+        (
+            Status::WrongMode {
+                kept: Mode::Plain,
+                asked: Mode::Source,
+            },
+            8,
+            "audit_cli: wrong mode: kept plain, asked source\n",
+        ),
+        (
+            Status::ShortLog { taken: 5, had: 0 },
+            10,
+            "audit_cli: short log: taken 5, had 0\n",
+        ),
         (full(Limit::Entities, 2), 9, "audit_cli: full: entities 2\n"),
         (
             full(Limit::Payload, 18_446_744_073_709_551_615),

@@ -1,5 +1,5 @@
 //! The line that a trial writes for a mode, as compact JSON with keys in ascending order.
-ghost use Rattle.std.specs.Prelude.{◌≡◌, IfOk};
+ghost use Rattle.std.specs.Prelude.{◌≡◌, ◌≤◌, length, IfOk};
 ghost use Rattle.serde_json.specs.View.{view};
 ghost use Rattle.report_json.specs.Replies.{line_of};
 ghost use Rattle.audit_cli.specs.Trials as trials;
@@ -70,12 +70,14 @@ fn mode_value(alloc: Global, mode: Mode, totals: &Totals, back: u64) -> Result<V
         "flows": totals.flows,
         "kept": totals.kept,
         "known": totals.known,
-        "mode": name_of(mode)
+        "mode": name_of_mode(mode)
     })
 }
 
-fn name_of(mode: Mode) -> &'static str
-    ensures { result.now ≡ mode_name mode }
+/// The name of a mode.
+pub fn name_of_mode(mode: Mode) -> &'static str
+    ensures name { result.now ≡ mode_name mode }
+    ensures short { length result.now ≤ 10 }
 {
     match mode {
         Mode::Plain => "plain",

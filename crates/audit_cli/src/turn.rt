@@ -1,8 +1,9 @@
 //! One question and its reply.
-ghost use Rattle.std.specs.Prelude.{◌≡◌, ◌∷◌, ◌++◌, [], ℕ, List, length, take, Some, Option, IfOk, IfErr, OnOk, OnErr};
+ghost use Rattle.std.specs.Prelude.{Bool, ◌≡◌, ◌∷◌, ◌++◌, [], ℕ, List, length, take, Some, Option, IfOk, IfErr, OnOk, OnErr};
 ghost use Rattle.std.specs.Io.KnownBytes.{Appends};
 ghost use Rattle.flow_base.specs.declared.limits.Limits.{Limits};
 ghost use Rattle.outside.specs.Cause.{Rose};
+ghost use Rattle.kept_flows.specs.Answering.{AlwaysTold, NeverFail};
 ghost use Rattle.audit_lex.specs.History.{History, Settle};
 ghost use Rattle.audit_lex.specs.LineCut.{line_of};
 ghost use Rattle.report_json.specs.declared.reply.Reply.TheVariants as reply;
@@ -12,7 +13,7 @@ ghost use Rattle.ingest.specs.Replies.{IsQuestion, IsReply};
 ghost use Rattle.ingest.specs.StandsFor.{StandsFor};
 ghost use Rattle.ingest.specs.Stops.{Stops};
 ghost use Rattle.audit_cli.specs.declared.halt.Halt.TheVariants as halt;
-ghost use Rattle.audit_cli.specs.Dialogue.{Moment, after, Answers, asked, turn_of, nothing_beyond};
+ghost use Rattle.audit_cli.specs.Dialogue.{Moment, kind_of, after, Answers, asked, turn_of, nothing_beyond};
 ghost use Rattle.audit_cli.specs.Course.{At, GoesUp, HasCauses, IsDue, Talked, never};
 
 use crate::halt::{Halt, Turn, halt_of};
@@ -21,7 +22,7 @@ use crate::session::Session;
 use audit_lex::Line;
 use ingest::{AskFault, Ingest};
 use outside::{Sink, Source, put_all};
-use reach_rows::{Reducer, VecRows};
+use reach_rows::{Keep, Reducer};
 use report_json::{Ask, Reply, read_question, reply_text, what_is_found_is_asked};
 use std::alloc::Global;
 
@@ -41,7 +42,7 @@ pub fn question_in(line: &Line) -> Option<Ask<'_>>
 }
 
 /// Settles, and says how many events are released.
-pub fn settle<R: Reducer>(engine: &mut Ingest<R, VecRows>) -> Result<Reply, Halt>
+pub fn settle<R: Reducer, K: Keep>(engine: &mut Ingest<R, K>) -> Result<Reply, Halt>
     ensures stands { (limits : Limits) (h : History) → StandsFor limits engine.old h
         → OnOk result (StandsFor limits engine.new (h ++ Settle ∷ [])) }
     ensures reply { (limits : Limits) (h : History) → StandsFor limits engine.old h
@@ -49,6 +50,9 @@ pub fn settle<R: Reducer>(engine: &mut Ingest<R, VecRows>) -> Result<Reply, Halt
     ensures due { (limits : Limits) (h : History) → StandsFor limits engine.old h
         → IfErr result (IsDue (Stops limits (h ++ Settle ∷ []))) }
     ensures causes { IfErr result (HasCauses ⊥ ⊥) }
+    ensures part { engine.new.part ≡ engine.old.part }
+    ensures alike { K.alike engine.old.joined.keep engine.new.joined.keep }
+    ensures marked { engine.new.joined.tables.marked ≡ engine.old.joined.tables.marked }
 {
     match engine.settle() {
         Ok(()) => Ok(Reply::Settle(engine.events())),
@@ -56,16 +60,22 @@ pub fn settle<R: Reducer>(engine: &mut Ingest<R, VecRows>) -> Result<Reply, Halt
     }
 }
 
-/// The engine's reply to what is asked about what was taken. Rows in memory have no faults of their
-/// own, so it can only fail to allocate.
-pub fn reply_of<R: Reducer>(engine: &mut Ingest<R, VecRows>, ask: &Ask<'_>) -> Result<Reply, Halt>
+/// The engine's reply to what is asked about what was taken. No read of its rows fails and they are
+/// observable, so it can only fail to allocate.
+pub fn reply_of<R: Reducer, K: Keep>(
+    engine: &mut Ingest<R, K>,
+    ask: &Ask<'_>,
+) -> Result<Reply, Halt>
     requires asks { IsQuestion ask.now }
+    requires never { NeverFail K.faults K.spent }
+    requires told { AlwaysTold K.rows }
     ensures reply { IfOk result (λ reply. (limits : Limits) (h : History)
         → StandsFor limits engine.old h → IsReply R.mode limits h ask.now reply) }
     ensures memory { IfErr result (λ why. why ≡ halt.NoMemory) }
     ensures causes { IfErr result (HasCauses ⊥ ⊥) }
     ensures stands { (limits : Limits) (h : History)
         → StandsFor limits engine.old h → StandsFor limits engine.new h }
+    ensures alike { K.alike engine.old.joined.keep engine.new.joined.keep }
 {
     match engine.ask(ask) {
         Ok(reply) => Ok(reply),
@@ -75,30 +85,33 @@ pub fn reply_of<R: Reducer>(engine: &mut Ingest<R, VecRows>, ask: &Ask<'_>) -> R
     }
 }
 
-/// The reply to a question.
-pub fn answer<R: Reducer, L: Source>(
-    session: &mut Session<R>,
+/// The reply to a question. A run that takes no log has no answer to `take` and `settle`.
+pub fn answer<R: Reducer, K: Keep, L: Source>(
+    session: &mut Session<R, K>,
+    takes: bool,
     log: &mut L,
     question: &Option<Ask<'_>>,
 ) -> Result<Reply, Halt>
     ensures moves { (limits : Limits) (m : Moment)
-        → At R.mode limits session.old.engine (L.left log.old) m
+        → At (kind_of R.mode takes) limits session.old.engine (L.left log.old) m
         → OnOk result
-        (At R.mode limits session.new.engine (L.left log.new) (after question.now m)) }
+        (At (kind_of R.mode takes) limits
+        session.new.engine (L.left log.new) (after question.now m)) }
     ensures answers { (limits : Limits) (m : Moment)
-        → At R.mode limits session.old.engine (L.left log.old) m
+        → At (kind_of R.mode takes) limits session.old.engine (L.left log.old) m
         → IfOk result (Answers limits question.now m) }
     ensures due { (limits : Limits) (m : Moment)
-        → At R.mode limits session.old.engine (L.left log.old) m
+        → At (kind_of R.mode takes) limits session.old.engine (L.left log.old) m
         → IfErr result (IsDue (Stops limits (after question.now m).history)) }
     ensures causes { IfErr result
         (HasCauses (Rose (L.faults log.old) (L.faults log.new) (L.spent log.new)) ⊥) }
     ensures counts { GoesUp
         (L.faults log.old) (L.faults log.new) (L.spent log.old) (L.spent log.new) }
+    ensures alike { K.alike session.old.engine.joined.keep session.new.engine.joined.keep }
 {
     match question {
         None => Ok(Reply::BadQuestion),
-        Some(Ask::Take(most)) => {
+        Some(Ask::Take(most)) if takes => {
             let count = take_log(
                 &mut session.engine,
                 log,
@@ -107,7 +120,9 @@ pub fn answer<R: Reducer, L: Source>(
             )?;
             Ok(Reply::Take(count))
         }
-        Some(Ask::Settle) => settle(&mut session.engine),
+        Some(Ask::Settle) if takes => settle(&mut session.engine),
+        Some(Ask::Take(_)) => Ok(Reply::BadQuestion),
+        Some(Ask::Settle) => Ok(Reply::BadQuestion),
         Some(Ask::End) => Ok(Reply::End),
         Some(ask) => reply_of(&mut session.engine, ask),
     }
@@ -143,23 +158,25 @@ fn turn_after(question: &Option<Ask<'_>>) -> Turn
 }
 
 /// Answers a question.
-pub fn take_turn<R: Reducer, L: Source, O: Sink>(
-    session: &mut Session<R>,
+pub fn take_turn<R: Reducer, K: Keep, L: Source, O: Sink>(
+    session: &mut Session<R, K>,
+    takes: bool,
     log: &mut L,
     out: &mut O,
     question: &Option<Ask<'_>>,
 ) -> Result<Turn, Halt>
     ensures talk { (limits : Limits) (m : Moment)
-        → At R.mode limits session.old.engine (L.left log.old) m
-        → Talked R.mode limits nothing_beyond session.new.engine (L.left log.new)
+        → At (kind_of R.mode takes) limits session.old.engine (L.left log.old) m
+        → Talked (kind_of R.mode takes) limits nothing_beyond session.new.engine (L.left log.new)
         (O.written out.old) (O.written out.new) result m (question.now ∷ []) }
     ensures causes { IfErr result (HasCauses
         (Rose (L.faults log.old) (L.faults log.new) (L.spent log.new))
         (Rose (O.faults out.old) (O.faults out.new) (O.spent out.new))) }
     ensures log { GoesUp (L.faults log.old) (L.faults log.new) (L.spent log.old) (L.spent log.new) }
     ensures out { GoesUp (O.faults out.old) (O.faults out.new) (O.spent out.old) (O.spent out.new) }
+    ensures alike { K.alike session.old.engine.joined.keep session.new.engine.joined.keep }
 {
-    let reply = answer(session, log, question)?;
+    let reply = answer(session, takes, log, question)?;
     say(session.alloc, out, &reply)?;
     Ok(turn_after(question))
 }

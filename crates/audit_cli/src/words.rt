@@ -2,6 +2,8 @@
 //!
 //!     back ID              ID is one or more decimal digits, of value at most 4294967295
 //!     watch MODE LOG       MODE is `plain`, `continuous`, `full` or `source`, LOG any word of at least one byte
+//!     reduce MODE LOG STORE    the same, STORE any word of at least one byte; `--resume` may stand among the words
+//!     query STORE
 //!     trial SEED EVENTS    SEED is one or more decimal digits, of value at most 18446744073709551615, EVENTS one or
 //!                          more, of value 1 to 200000
 ghost use Rattle.std.specs.Prelude.{◌≡◌, ◌∷◌, Some, IfOk, IfErr, map, string_bytes};
@@ -10,7 +12,7 @@ ghost use Rattle.std.specs.Char.{is_ascii_digit};
 ghost use Rattle.clap.specs.Words.{found_of, rows_of};
 ghost use Rattle.audit_cli.specs.CommandLine.{own_name};
 ghost use Rattle.audit_cli.specs.Words as table;
-ghost use Rattle.audit_cli.specs.Words.{job_of, back_job, trial_of, seed_of, count_of, two_word_job, watch_job, mode_of, RefusesWords};
+ghost use Rattle.audit_cli.specs.Words.{job_of, back_job, query_of, one_word_job, reduce_job, trial_of, seed_of, count_of, two_word_job, watch_job, mode_of, RefusesWords};
 ghost use Rattle.audit_cli.specs.declared.words.WordsFault.TheVariants as fault;
 
 use crate::command_line::{job_name, job_words, parsed, resumes};
@@ -25,9 +27,27 @@ pub enum Job {
     /// Answers in plain mode which objects this one's contents can have come from, over the whole log on standard input.
     Back(u32),
     /// Answers questions in a mode while the log of this name is taken.
-    Watch { mode: Mode, log: Bytes },
+    Watch {
+        mode: Mode,
+        log: Bytes,
+    },
+    /// Takes the log of this name into the store of this name, which keeps its rows in a mode. If it goes
+    /// on, the bytes of this log that the store has taken are passed over.
+    Reduce {
+        mode: Mode,
+        log: Bytes,
+        store: Bytes,
+        resume: bool,
+    },
+    /// Answers questions over the store of this name.
+    Query {
+        store: Bytes,
+    },
     /// Tries every mode on the log that this seed and number of events determine.
-    Trial { seed: u64, events: u32 },
+    Trial {
+        seed: u64,
+        events: u32,
+    },
 }
 
 /// The most events of a trial.
@@ -87,15 +107,49 @@ fn row_in(alloc: Global, found: &ArgMatches<'_>) -> Result<Job, WordsFault>
     ensures found { IfOk result (λ job. table.row_in (rows_of (found_of found.now)) ≡ Some job) }
     ensures refused { IfErr result (RefusesWords (table.row_in (rows_of (found_of found.now)))) }
 {
+    let job = plain_row(alloc, found)?;
     if resumes(found) {
-        return Err(WordsFault::BadWords);
+        return resumed(job).ok_or(WordsFault::BadWords);
     }
+    Ok(job)
+}
+
+// The row without `--resume`.
+fn plain_row(alloc: Global, found: &ArgMatches<'_>) -> Result<Job, WordsFault>
+    ensures found { IfOk result (λ job.
+        table.plain_row (rows_of (found_of found.now)) ≡ Some job) }
+    ensures refused { IfErr result (
+        RefusesWords (table.plain_row (rows_of (found_of found.now)))) }
+{
     let Some(name) = job_name(found) else {
         return Err(WordsFault::BadWords);
     };
     match job_words(found) {
         Some(words) => row_of(alloc, name, words),
         None => row_of(alloc, name, &[]),
+    }
+}
+
+// The same job with `--resume`, which `reduce` alone may have.
+fn resumed(job: Job) -> Option<Job>
+    ensures { result ≡ table.resumed (Some job) }
+{
+    match job {
+        Job::Reduce {
+            mode,
+            log,
+            store,
+            resume: _,
+        } => Some(Job::Reduce {
+            mode,
+            log,
+            store,
+            resume: true,
+        }),
+        Job::Back(_) => None,
+        Job::Watch { mode: _, log: _ } => None,
+        Job::Query { store: _ } => None,
+        Job::Trial { seed: _, events: _ } => None,
     }
 }
 
@@ -107,13 +161,37 @@ fn row_of(alloc: Global, name: &str, words: &[&str]) -> Result<Job, WordsFault>
         RefusesWords (table.row_of name.now (map (λ word. word.now) words.now))) }
 {
     match words {
-        [id] => back_named(name, id).ok_or(WordsFault::BadWords),
+        [only] => one_worded(alloc, name, only),
         [first, second] => two_worded(alloc, name, first, second),
+        [mode, log, store] => reduce_named(alloc, name, mode, log, store),
         _ => Err(WordsFault::BadWords),
     }
 }
 
 // The job of one word after its name.
+fn one_worded(alloc: Global, job: &str, only: &str) -> Result<Job, WordsFault>
+    ensures found { IfOk result (λ found. one_word_job job.now only.now ≡ Some found) }
+    ensures refused { IfErr result (RefusesWords (one_word_job job.now only.now)) }
+{
+    if job.as_bytes() == b"query".as_slice() {
+        return query_named(alloc, only);
+    }
+    back_named(job, only).ok_or(WordsFault::BadWords)
+}
+
+// A store.
+fn query_named(alloc: Global, store: &str) -> Result<Job, WordsFault>
+    ensures found { IfOk result (λ found. query_of store.now ≡ Some found) }
+    ensures refused { IfErr result (RefusesWords (query_of store.now)) }
+{
+    if store.is_empty() {
+        return Err(WordsFault::BadWords);
+    }
+    let store = Bytes::from_slice(alloc, store.as_bytes())?;
+    Ok(Job::Query { store })
+}
+
+// An object's number.
 fn back_named(job: &str, id: &str) -> Option<Job>
     ensures { result ≡ back_job job.now id.now }
 {
@@ -162,6 +240,39 @@ fn watch_named(alloc: Global, job: &str, mode: &str, log: &str) -> Result<Job, W
         Some(mode) => {
             let log = Bytes::from_slice(alloc, log.as_bytes())?;
             Ok(Job::Watch { mode, log })
+        }
+    }
+}
+
+// A mode, a log and a store.
+fn reduce_named(
+    alloc: Global,
+    job: &str,
+    mode: &str,
+    log: &str,
+    store: &str,
+) -> Result<Job, WordsFault>
+    ensures found { IfOk result (λ found.
+        reduce_job job.now mode.now log.now store.now ≡ Some found) }
+    ensures refused { IfErr result (
+        RefusesWords (reduce_job job.now mode.now log.now store.now)) }
+{
+    if job.as_bytes() != b"reduce".as_slice() {
+        return Err(WordsFault::BadWords);
+    }
+    match mode_named(mode) {
+        None => Err(WordsFault::BadWords),
+        Some(_) if log.is_empty() => Err(WordsFault::BadWords),
+        Some(_) if store.is_empty() => Err(WordsFault::BadWords),
+        Some(mode) => {
+            let log = Bytes::from_slice(alloc, log.as_bytes())?;
+            let store = Bytes::from_slice(alloc, store.as_bytes())?;
+            Ok(Job::Reduce {
+                mode,
+                log,
+                store,
+                resume: false,
+            })
         }
     }
 }

@@ -16,6 +16,22 @@ fn read(rt: &HostRuntime, words: &[&str]) -> Result<String, Fail> {
             let log = str::from_utf8(log.as_slice())?;
             format!(in alloc; "watch {mode:?} {log}")?
         }
+        Ok(
+            Job::Reduce {
+                mode,
+                log,
+                store,
+                resume,
+            },
+        ) => {
+            let log = str::from_utf8(log.as_slice())?;
+            let store = str::from_utf8(store.as_slice())?;
+            format!(in alloc; "reduce {mode:?} {log} {store} {resume}")?
+        }
+        Ok(Job::Query { store }) => {
+            let store = str::from_utf8(store.as_slice())?;
+            format!(in alloc; "query {store}")?
+        }
         Ok(Job::Trial { seed, events }) => format!(in alloc; "trial {seed} {events}")?,
         Err(WordsFault::BadWords) => String::from_str(alloc, "bad words")?,
         Err(WordsFault::NoMemory) => String::from_str(alloc, "no memory")?,
@@ -54,6 +70,24 @@ fn words_name_jobs(rt: HostRuntime) -> Result<(), Fail> {
             ["watch", "plain", "--", "--resume"].as_slice(),
             "watch Plain --resume",
         ),
+        (
+            ["reduce", "full", "log", "store"].as_slice(),
+            "reduce Full log store false",
+        ),
+        (
+            ["reduce", "plain", "log", "store", "--resume"].as_slice(),
+            "reduce Plain log store true",
+        ),
+        (
+            ["--resume", "reduce", "source", "log", "store"].as_slice(),
+            "reduce Source log store true",
+        ),
+        (
+            ["reduce", "plain", "log", "--", "--resume"].as_slice(),
+            "reduce Plain log --resume false",
+        ),
+        (["query", "store"].as_slice(), "query store"),
+        (["query", "2"].as_slice(), "query 2"),
         (["trial", "0", "1"].as_slice(), "trial 0 1"),
         (
             ["trial", "18446744073709551615", "200000"].as_slice(),
@@ -105,6 +139,33 @@ fn words_of_another_watch_are_bad(rt: HostRuntime) -> Result<(), Fail> {
         (["watch", "plain", "log", "store"].as_slice(), "bad words"),
         (["watch", "plain", "-x"].as_slice(), "bad words"),
         (["watch", "plain", "--", "--", "x"].as_slice(), "bad words"),
+    ] {
+        let text = read(&rt, words)?;
+        assert_eq!(rt; text.as_str(), want);
+    }
+    Ok(())
+}
+
+#[test]
+fn words_of_another_store_are_bad(rt: HostRuntime) -> Result<(), Fail> {
+    for (words, want) in [
+        (["reduce"].as_slice(), "bad words"),
+        (["reduce", "plain", "log"].as_slice(), "bad words"),
+        (["reduce", "Plain", "log", "store"].as_slice(), "bad words"),
+        (["reduce", "plain", "", "store"].as_slice(), "bad words"),
+        (["reduce", "plain", "log", ""].as_slice(), "bad words"),
+        (
+            ["reduce", "plain", "log", "store", "x"].as_slice(),
+            "bad words",
+        ),
+        (["query"].as_slice(), "bad words"),
+        (["query", ""].as_slice(), "bad words"),
+        (["query", "store", "x"].as_slice(), "bad words"),
+        (["query", "store", "--resume"].as_slice(), "bad words"),
+        (
+            ["watch", "plain", "log", "--resume"].as_slice(),
+            "bad words",
+        ),
     ] {
         let text = read(&rt, words)?;
         assert_eq!(rt; text.as_str(), want);

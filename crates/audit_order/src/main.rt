@@ -4,8 +4,8 @@
 //!     audit_order --undo < ORDERED > LINES
 //!
 //! A record's time is its call's entry, and its serial number is given when the call returns. So a read that waited
-//! stands before the write that fed it. This program writes the lines of a log in an order in which their effects can
-//! have happened, the lines of an event together, with times that never fall. `order_run` is the whole of it over any
+//! stands before the write that fed it. This program writes the lines of a log in an order that is nearer to that of their
+//! effects, the lines of an event together, with times that never fall. `order_run` is the whole of it over any
 //! source and sink, and its contract is the theorem. `undo_run` writes the lines as they were.
 #![tactic(auto)]
 

@@ -1,8 +1,9 @@
 -- Room changes nothing that the tables stand for.
-use Rattle.std.proofs.Common.{◌≡◌, ◌≤◌, ◌+◌, ◌∙◌, ◌++◌, None, arith, length-append, length, ap, sym, subst, append_assoc, ℕ, List, take}
+use Rattle.std.proofs.Common.{◌≡◌, ◌≤◌, ◌+◌, ◌∙◌, ◌++◌, ◌∷◌, [], None, Some, arith, length-append, length, ap, sym, subst, refl, append_assoc, ℕ, List, take, drop, Option, ◌-◌}
 use Rattle.std.specs.Prelude.{unwrap_or, nat_eq}
 use Rattle.std.proofs.lemmas.Bool.Decides.{nat_tests}
-use Rattle.std.proofs.lemmas.List.{map-append}
+use Rattle.std.proofs.lemmas.List.{map-append, take-append-drop, length-drop}
+use Rattle.std.specs.Option.{option_map}
 use Rattle.std.specs.Map.{lookup}
 use Rattle.flow_base.specs.contracts.types.FileIdPartialEq.TheImpl.{ghosts}
 use Rattle.acts.specs.declared.act.Taken.{Taken}
@@ -20,7 +21,7 @@ use Rattle.entity_names.specs.Known.{Known, NamesAs, saved_at, names_at as known
 use Rattle.stored.specs.Batch.{names_at}
 use Rattle.flow_events.specs.Births.{BornAs}
 use Rattle.flow_events.specs.Entering.{SavedAlike, entered}
-use Rattle.flow_events.specs.Remembering.{AreSavedNames, StandsSince, StaysSince}
+use Rattle.flow_events.specs.Remembering.{AreSavedNames, BeginsAnew, GoesOnSince, StandsMarked, StandsSince, StaysMarked, StaysSince}
 use Rattle.flow_events.specs.Standing.{StandsFor, DiffersInRoom, HasLimits, IsPlanOf}
 
 pub stands_still : (text : List ℕ → List ℕ) (old new : Tables) (taken : List Taken) → DiffersInRoom old new → StandsFor text old taken → StandsFor text new taken
@@ -71,6 +72,68 @@ held_joined text tables now before stands = subst (HoldsAs tables.fds) (map-appe
 
 pub since_stays : (old new : Tables) → DiffersInRoom old new → StaysSince old new
 since_stays old new same text before now stands = record { stands = stands_still text old new (now ++ before) same stands.stands; since = same.since (acts_of before) (acts_of now) (held_joined text new now before (stands_still text old new (now ++ before) same stands.stands)) stands.since; saved = saved_still text old.entities new.entities before same.most_names same.saved stands.saved }
+
+pub marks_stay : (old new : Tables) → DiffersInRoom old new → StaysMarked old new
+marks_stay old new same text taken marks = record {
+  within = λ m is. marks.within m (sym same.marked ∙ is);
+  since = λ before now split is. since_stays old new same text before now (marks.since before now split (sym same.marked ∙ is));
+}
+
+-- a split of which the second part is no longer than the second part of another one
+split_later : (fresh taken now before : List Taken) → fresh ++ taken ≡ now ++ before → length before ≤ length taken → (n : List Taken) × (taken ≡ n ++ before) × (now ≡ fresh ++ n)
+split_later [] taken now before is short = (now, is, refl)
+split_later (x ∷ fresh) taken [] before is short = absurd (let l = ap length is in let m = length-append fresh taken in omega (arith, l, m, short))
+split_later (x ∷ fresh) taken (y ∷ now) before is short =
+    let head : y ≡ x = cc in
+    let rest : fresh ++ taken ≡ now ++ before = cc in
+    let found = split_later fresh taken now before rest short in
+    (found.0, found.1, ap (λ (t : Taken). t ∷ now) head ∙ ap (λ (l : List Taken). x ∷ l) found.2)
+
+-- the mark stays while a plan is followed
+pub marks_go_on : (text : List ℕ → List ℕ) (old new : Tables) (plan : Plan) (taken fresh : List Taken) → GoesOnSince old new plan → new.marked ≡ old.marked → StandsMarked text old taken → IsPlanOf text plan taken fresh → StandsMarked text new (fresh ++ taken)
+marks_go_on text old new plan taken fresh goes same marks is = record {
+  within = λ m marked. let low = marks.within m (sym same ∙ marked) in let l = length-append fresh taken in omega (arith, low, l);
+  since = λ before now split marked.
+      let found = split_later fresh taken now before split (marks.within (length before) (sym same ∙ marked)) in
+      subst (λ (l : List Taken). StandsSince text new before l) (sym found.2)
+      (goes text before found.0 fresh (marks.since before found.0 found.1 (sym same ∙ marked)) (subst (λ (l : List Taken). IsPlanOf text plan l fresh) found.1 is));
+}
+
+-- a split whose second part is as long as the whole
+split_whole : (taken now before : List Taken) → taken ≡ now ++ before → length before ≡ length taken → now ≡ []
+split_whole taken [] before is long = refl
+split_whole taken (x ∷ now) before is long = absurd (let l = ap length is in let m = length-append now before in omega (arith, l, m, long))
+
+-- a mark that was made now
+pub marked_now : (text : List ℕ → List ℕ) (tables : Tables) (taken : List Taken) → tables.marked ≡ Some (length taken) → StandsSince text tables taken [] → StandsMarked text tables taken
+marked_now text tables taken marked stands = record {
+  within = λ m is. let same : m ≡ length taken = cc in omega (arith, same);
+  since = λ before now split is.
+      let long : length before ≡ length taken = cc in
+      let none : now ≡ [] = split_whole taken now before split long in
+      let whole : taken ≡ before = split ∙ ap (λ (l : List Taken). l ++ before) none in
+      subst (λ (l : List Taken). StandsSince text tables before l) (sym none) (subst (λ (l : List Taken). StandsSince text tables l []) whole stands);
+}
+
+-- the acts after a mark, and those before it
+split_at : (taken : List Taken) (m : ℕ) → m ≤ length taken → (now : List Taken) × (before : List Taken) × (taken ≡ now ++ before) × (length before ≡ m)
+split_at taken m low =
+    let n : ℕ = length taken - m in
+    (take n taken, drop n taken, sym (take-append-drop n taken), (let l = length-drop n taken in omega (arith, l, low)))
+
+-- a mark that was made anew, if there was one
+pub marked_again : (text : List ℕ → List ℕ) (old new : Tables) (taken : List Taken) → BeginsAnew old new → new.marked ≡ option_map (λ _. old.acts) old.marked → old.acts ≡ length taken → StandsMarked text old taken → StandsMarked text new taken
+marked_again text old new taken anew is acts marks = by_mark old.marked refl
+  where
+    by_mark : (mark : Option ℕ) → old.marked ≡ mark → StandsMarked text new taken
+    by_mark None none = record {
+      within = λ m some. absurd (let e = is ∙ ap (option_map (λ _. old.acts)) none in let f : None ≡ Some m = sym e ∙ some in cc);
+      since = λ before now split some. absurd (let e = is ∙ ap (option_map (λ _. old.acts)) none in let f : None ≡ Some (length before) = sym e ∙ some in cc);
+    }
+    by_mark (Some m) some =
+        let parts = split_at taken m (marks.within m some) in
+        let since = marks.since parts.1 parts.0 parts.2 (some ∙ ap (λ n. Some n) (sym parts.3)) in
+        marked_now text new taken (is ∙ ap (option_map (λ _. old.acts)) some ∙ ap (λ n. Some n) acts) (subst (λ (l : List Taken). StandsSince text new l []) (sym parts.2) (anew text parts.1 parts.0 since))
 
 pub stands_joined : (text : List ℕ → List ℕ) (tables : Tables) (fresh now before : List Taken) → StandsFor text tables (fresh ++ (now ++ before)) → StandsFor text tables ((fresh ++ now) ++ before)
 stands_joined text tables fresh now before stands = subst (StandsFor text tables) (sym (append_assoc fresh now before)) stands

@@ -38,6 +38,7 @@ nothing_differs tables = record {
   flows = refl;
   acts = refl;
   limits = refl;
+  marked = refl;
   since = λ before now held remembers. remembers;
 }
 

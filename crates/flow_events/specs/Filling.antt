@@ -84,3 +84,9 @@ Takes old new row = (rows : List StoreRow) → HasRows old rows → HasRows new 
 -- the tables stand for the acts of each moment whose tables the rows say
 abbrev pub AreRestored : Limits → List StoreRow → Tables → Type 0
 AreRestored limits rows tables = (text : List ℕ → List ℕ) (m : Moment) → SayTables text limits.names rows m → StandsFor text tables m.taken
+
+-- the tables have the objects that the rows say, and as many flows and acts
+pub record HasCountsOf (rows : List StoreRow) (tables : Tables) : Type 0 where
+  pub keys_are : tables.entities.keys ≡ listed (keys rows)
+  pub flows_are : tables.flows ≡ flows_in (state_of rows)
+  pub acts_are : tables.acts ≡ acts_in (state_of rows)

@@ -1,5 +1,5 @@
 -- Tables that remember what changed since a mark. Every list of acts has the newest first.
-use Rattle.std.specs.Prelude.{◌≡◌, ◌++◌, ℕ, List, [], length, Option, reverse}
+use Rattle.std.specs.Prelude.{◌≡◌, ◌≤◌, ◌++◌, ℕ, List, [], length, Option, Some, reverse}
 use Rattle.acts.specs.declared.act.Act.{Act}
 use Rattle.acts.specs.declared.act.Taken.{Taken}
 use Rattle.acts.specs.Flows.{acts_of}
@@ -24,6 +24,30 @@ pub record StandsSince (address_text : List ℕ → List ℕ) (tables : Tables) 
   pub stands : StandsFor address_text tables (now ++ before)
   pub since : Remembers tables.since (acts_of before) (acts_of now)
   pub saved : AreSavedNames address_text tables.entities before
+
+-- Tables whose mark is at a number of acts are those of no fewer acts, and remember those that came after it. Where no mark was
+-- made this asks nothing.
+pub record StandsMarked (address_text : List ℕ → List ℕ) (tables : Tables) (taken : List Taken) : Type 0 where
+  pub within : (m : ℕ) → tables.marked ≡ Some m → m ≤ length taken
+  pub since : (before now : List Taken) → taken ≡ now ++ before → tables.marked ≡ Some (length before) → StandsSince address_text tables before now
+
+-- whatever acts the tables stood for, they stand for, and they remember what came since the mark
+abbrev pub MarksNow : Tables → Tables → Type 0
+MarksNow old new = (text : List ℕ → List ℕ) (taken : List Taken) → StandsFor text old taken → StandsFor text new taken × StandsMarked text new taken
+
+-- the same, if they remembered what came since the mark before
+abbrev pub MarksAnew : Tables → Tables → Type 0
+MarksAnew old new =
+    (text : List ℕ → List ℕ) (taken : List Taken) → StandsFor text old taken → StandsMarked text old taken → StandsFor text new taken × StandsMarked text new taken
+
+-- what came since the mark is still remembered
+abbrev pub StaysMarked : Tables → Tables → Type 0
+StaysMarked old new = (text : List ℕ → List ℕ) (taken : List Taken) → StandsMarked text old taken → StandsMarked text new taken
+
+-- and with the acts of the plan it is too
+abbrev pub GoesOnMarked : Tables → Tables → Plan → Type 0
+GoesOnMarked old new plan =
+    (text : List ℕ → List ℕ) (taken fresh : List Taken) → StandsMarked text old taken → IsPlanOf text plan taken fresh → StandsMarked text new (fresh ++ taken)
 
 -- the tables stand for the same acts and remember the same
 abbrev pub StaysSince : Tables → Tables → Type 0

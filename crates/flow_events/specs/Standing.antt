@@ -69,7 +69,6 @@ pub record IsReady (tables : Tables) (plan : Plan) : Type 0 where
   pub objects_fit : length (entered tables.entities.keys plan.keys) ≤ tables.entities.limit
   pub flows_fit : tables.flows + length plan.flows ≤ 2 ^ 60
   pub acts_fit : tables.acts + length plan.acts < 2 ^ 64 - 1
-  pub flows_few : length plan.flows ≤ length plan.acts
   pub since : HasRoomFor tables.since (length plan.acts)
   pub touched : HasTouched tables.since tables.fds plan.acts
 
@@ -98,6 +97,7 @@ pub record DiffersInRoom (old new : Tables) : Type 0 where
   pub flows : new.flows ≡ old.flows
   pub acts : new.acts ≡ old.acts
   pub limits : new.limits ≡ old.limits
+  pub marked : new.marked ≡ old.marked
   pub since : RemembersTheSame new.fds old.since new.since
 
 -- what the plan's flows are after the tables: they number the new objects as these come, and stand from the next place on
@@ -106,11 +106,20 @@ pub record PlanFlows (tables : Tables) (ms : ℕ) (plan : Plan) : Type 0 where
   pub known_are : known_after (length tables.entities.keys) plan.flows ≡ length (entered tables.entities.keys plan.keys)
   pub stand : StandFrom ms tables.flows plan.flows
 
--- the plan's acts, flows and keys are counted in
+-- the plan's acts, flows and keys are counted in, and the mark is where it was
 pub record HasGrown (old new : Tables) (plan : Plan) : Type 0 where
   pub acts : new.acts ≡ old.acts + length plan.acts
   pub flows : new.flows ≡ old.flows + length plan.flows
   pub keys : new.entities.keys ≡ entered old.entities.keys plan.keys
+  pub limits : new.limits ≡ old.limits
+  pub marked : new.marked ≡ old.marked
+
+-- the acts, flows and objects are as before, and so are the limits
+pub record CountsTheSame (old new : Tables) : Type 0 where
+  pub acts : new.acts ≡ old.acts
+  pub flows : new.flows ≡ old.flows
+  pub keys : new.entities.keys ≡ old.entities.keys
+  pub most_names : new.entities.most_names ≡ old.entities.most_names
   pub limits : new.limits ≡ old.limits
 
 -- the tables were made with these limits

@@ -10,6 +10,7 @@ ghost use Rattle.call_acts.specs.Acts.{event_acts, is_unmapped};
 ghost use Rattle.flow_events.specs.declared.fault.PrepareFault.TheVariants as fault;
 ghost use Rattle.entity_names.specs.Known.{NamesAs};
 ghost use Rattle.std.specs.Prelude.{IfOk, ◌≤◌};
+ghost use Rattle.std.specs.Option.{option_map};
 ghost use Rattle.name_text.specs.Addresses.{text_of};
 ghost use Rattle.flow_events.specs.Added.{IsPast};
 ghost use Rattle.flow_events.specs.Drafts.{turned};
@@ -17,10 +18,10 @@ ghost use Rattle.flow_events.specs.Entering.{entered};
 ghost use Rattle.flow_events.specs.Following.{HasNumbersFor, MayFollow, PlansEvent, EventFits, EventPasses};
 ghost use Rattle.call_acts.specs.Events.{IsEvent};
 ghost use Rattle.store_check.specs.Store.{keys};
-ghost use Rattle.flow_events.specs.Filling.{AreRestored};
-ghost use Rattle.flow_events.specs.Remembering.{BeginsAnew, BeginsToRemember, GoesOnSince, StaysSince};
+ghost use Rattle.flow_events.specs.Filling.{AreRestored, HasCountsOf};
+ghost use Rattle.flow_events.specs.Remembering.{BeginsAnew, BeginsToRemember, GoesOnMarked, GoesOnSince, MarksAnew, MarksNow, StaysMarked, StaysSince};
 ghost use Rattle.flow_events.specs.Rows.{AreRowsSince};
-ghost use Rattle.flow_events.specs.Standing.{AreSafe, StandsFor, HasGrown, HasLimits, IsPlanOf, IsReady, HasRooms, DiffersInRoom, PlanFlows};
+ghost use Rattle.flow_events.specs.Standing.{AreSafe, CountsTheSame, StandsFor, HasGrown, HasLimits, IsPlanOf, IsReady, HasRooms, DiffersInRoom, PlanFlows};
 ghost use Rattle.stored.specs.Words.{state_of};
 
 use crate::births::Births;
@@ -56,6 +57,16 @@ fn is_lone_unmapped(event: &EventView<'_>, acts: &[Act]) -> bool
     is_unmapped(event)
 }
 
+// The mark moved to this many acts, if one was made before.
+fn marked_at(marked: Option<u64>, acts: u64) -> Option<u64>
+    ensures { result ≡ option_map (λ _. acts) marked }
+{
+    match marked {
+        Some(_) => Some(acts),
+        None => None,
+    }
+}
+
 /// Lives, descriptors with addresses, births, and objects with names, after the acts so far.
 #[derive(Drop)]
 pub struct Tables {
@@ -68,6 +79,8 @@ pub struct Tables {
     limits: Limits,
     /// What is remembered since the last mark, if anything is.
     since: Option<Since>,
+    /// The acts at the last mark, if one was made.
+    marked: Option<u64>,
 }
 
 impl Tables {
@@ -76,6 +89,7 @@ impl Tables {
         ensures stands { (text : List ℕ → List ℕ) → StandsFor text result [] }
         ensures safe { AreSafe result }
         ensures limits { HasLimits limits.now result }
+        ensures unmarked { result.marked ≡ None }
     {
         Tables {
             procs: Procs::new(alloc),
@@ -86,6 +100,7 @@ impl Tables {
             acts: 0,
             limits: *limits,
             since: None,
+            marked: None,
         }
     }
 
@@ -95,6 +110,8 @@ impl Tables {
         ensures stands { IfOk result (AreRestored limits.now rows.now) }
         ensures safe { IfSome (state_of rows.now) (λ s. s.flows ≤ 2 ^ 60) → IfOk result AreSafe }
         ensures limits { IfOk result (HasLimits limits.now) }
+        ensures counts { IfOk result (HasCountsOf rows.now) }
+        ensures unmarked { IfOk result (λ tables. tables.marked ≡ None) }
     {
         let Filled {
             procs,
@@ -113,27 +130,36 @@ impl Tables {
             acts,
             limits: *limits,
             since: None,
+            marked: None,
         })
     }
 
     /// From now on it is remembered what acts are about, and the mark is now. Till then nothing is, and it costs nothing.
     pub fn remember(&mut self, alloc: Global)
         ensures since { BeginsToRemember self.old self.new }
+        ensures marks { MarksNow self.old self.new }
+        ensures marked { self.new.marked ≡ Some self.old.acts }
+        ensures counts { CountsTheSame self.old self.new }
         ensures safe { AreSafe self.old → AreSafe self.new }
         ensures limits { (limits : Limits) → HasLimits limits self.old → HasLimits limits self.new }
     {
         self.entities.mark_saved();
         self.since = Some(Since::new(alloc, self.entities.count()));
+        self.marked = Some(self.acts);
     }
 
     /// All of it is saved: the mark is now. It takes no memory.
     pub fn mark_saved(&mut self)
         ensures since { BeginsAnew self.old self.new }
+        ensures marks { MarksAnew self.old self.new }
+        ensures marked { self.new.marked ≡ option_map (λ _. self.old.acts) self.old.marked }
+        ensures counts { CountsTheSame self.old self.new }
         ensures safe { AreSafe self.old → AreSafe self.new }
         ensures limits { (limits : Limits) → HasLimits limits self.old → HasLimits limits self.new }
     {
         self.entities.mark_saved();
         mark_event(&mut self.since, self.entities.count());
+        self.marked = marked_at(self.marked, self.acts);
     }
 
     /// The rows that say what changed since the mark, and none if nothing is remembered.
@@ -190,6 +216,7 @@ impl Tables {
         ensures safe { AreSafe self.new }
         ensures room { DiffersInRoom self.old self.new }
         ensures since { StaysSince self.old self.new }
+        ensures marks { StaysMarked self.old self.new }
         ensures limits { (limits : Limits) → HasLimits limits self.old → HasLimits limits self.new }
         ensures fits { OnOk result (EventFits self.old event.now) }
         ensures full { (full : Full) → result ≡ Err (fault.Full full) → EventPasses self.old event.now full }
@@ -200,7 +227,7 @@ impl Tables {
         self.prepare_acts(alloc, acts, event.ms, event.key.serial, unmapped)
     }
 
-    #[tactic(auto, using(crate::proofs::Rooming::stands_still, crate::proofs::Rooming::since_stays))]
+    #[tactic(auto, using(crate::proofs::Rooming::stands_still, crate::proofs::Rooming::since_stays, crate::proofs::Rooming::marks_stay))]
     /// Works out what these acts of one event, the oldest first, will do, and takes all the memory for it. The tables
     /// stand for the same acts as before.
     pub fn prepare_acts(
@@ -223,6 +250,7 @@ impl Tables {
         ensures safe { AreSafe self.new }
         ensures room { DiffersInRoom self.old self.new }
         ensures since { StaysSince self.old self.new }
+        ensures marks { StaysMarked self.old self.new }
         ensures limits { (limits : Limits) → HasLimits limits self.old → HasLimits limits self.new }
         ensures fits { IfOk result (λ plan. (limits : Limits) → HasLimits limits self.old → (before : List Taken) → MayFollow self.old before (length acts) → full_at limits.entities limits.flows (turned ms serial acts ++ before) ≡ None) }
         ensures full { (full : Full) → result ≡ Err (fault.Full full) → (limits : Limits) → HasLimits limits self.old → (before : List Taken) → MayFollow self.old before (length acts) → full_at limits.entities limits.flows (turned ms serial acts ++ before) ≡ Some full }
@@ -299,6 +327,7 @@ impl Tables {
         ensures flows { (text : List ℕ → List ℕ) (before now : List Taken) → IsPlanOf text plan before now → flows (now ++ before) ≡ flows before ++ result }
         ensures limits { (limits : Limits) → HasLimits limits self.old → HasLimits limits self.new }
         ensures since { GoesOnSince self.old self.new plan }
+        ensures marks { GoesOnMarked self.old self.new plan }
         ensures safe { AreSafe self.new }
         ensures grown { HasGrown self.old self.new plan }
         ensures same { result ≡ plan.flows }

@@ -19,7 +19,7 @@ use Rattle.flow_events.specs.declared.rows.TableRows.{TableRows}
 use Rattle.flow_events.specs.Rows.{AreRowsSince, batch_of}
 
 pub rows_put : (tables : Tables) (join : Joiner) (state : StateRow) (rows : TableRows) (waited all : List StoreRow) → AreRowsSince tables rows
-    → WhereStands join (λ limits s. PutsWaiting s rows.others waited) → all ≡ waited ++ State state ∷ [] → ArePut tables join state rows.entities all
+    → WhereStands join (λ limits s. PutsWaiting s rows.others waited) → all ≡ waited ++ State state ∷ [] → ArePut tables.entities.most_names tables join state rows.entities all
 rows_put tables join state rows waited all since waits pushed = λ text m0 m lead.
     let t = since text m0.taken lead.now lead.tables_are lead.admitted in
     let w = waits lead.limits m.join lead.join_is in

@@ -26,6 +26,7 @@ use Rattle.flow_events.specs.Drafts.{turned}
 use Rattle.flow_events.specs.declared.fault.PrepareFault.{PrepareFault}
 use Rattle.flow_events.specs.declared.fault.PrepareFault.TheVariants as prepare
 use Rattle.flow_events.specs.Following.{MayFollow, MayComeAfter}
+use Rattle.flow_events.specs.Remembering.{StandsMarked}
 use Rattle.flow_events.specs.Standing.{StandsFor as TablesStandFor, IsPlanOf, HasLimits}
 use Rattle.kept_flows.specs.KeptFlows.{KeptFlows, ComeNext, StandsFor as KeptStandsFor}
 use Rattle.ingest.specs.Counting.{counts_in}
@@ -130,7 +131,7 @@ pub on_some : {A : Type 0} (r : Option A) (P : Type 0) (a : A) → r ≡ Some a 
 on_some {A} r P a is on = subst (λ (o : Option A). OnSome o P) is on
 
 pub has_taken : {K : Type 0} → EventsAdmitted → (limits : Limits) (joined : Joined K) (s : Joining) (released : List Event) → JoinedStandsFor limits joined s released → HasTaken joined.tables (taken_in limits released)
-has_taken admitted limits joined s released stands = record { tables_are = stands.tables; admitted = admitted_in admitted limits released }
+has_taken admitted limits joined s released stands = record { tables_are = stands.tables; marked = stands.marked; admitted = admitted_in admitted limits released }
 
 pub may_come : {K : Type 0} → EventsAdmitted → (limits : Limits) (joined : Joined K) (s : Joining) (released : List Event) (event : Event) → JoinedStandsFor limits joined s released → Some event ≡ next_event limits s
     → MayComeAt event.ms joined.tables joined.kept (taken_in limits released)
@@ -161,23 +162,38 @@ come_next lawful limits event plan taken rise later plan_is fits =
       few_flows = omega (arith, ap length plan_is.flows_are, few.1, limits.flows_within);
     }
 
+-- tables without a mark remember nothing, and nothing is asked of it
+pub never_marked : (tables : Tables) (taken : List Taken) → tables.marked ≡ None → StandsMarked text_of tables taken
+never_marked tables taken none = record {
+  within = λ m is. absurd (none_some m (sym none ∙ is));
+  since = λ before now split is. absurd (none_some (length before) (sym none ∙ is));
+}
+
 -- ---- after an event
 
--- tables and kept flows that say the same as before
-pub stands_still : {K : Type 0} (limits : Limits) (joined after : Joined K) (s : Joining) (released : List Event) → JoinedStandsFor limits joined s released
-    → after.limits ≡ joined.limits → after.join ≡ joined.join → after.excess ≡ joined.excess → after.counts ≡ joined.counts → HasTaken after.tables (taken_in limits released) → after.kept ≡ joined.kept
-    → JoinedStandsFor limits after s released
-stands_still limits joined after s released stands own join excess counts has kept = record {
+-- tables that were marked, and rows that keep the same
+pub stands_marked : {K : Type 0} (limits : Limits) (joined after : Joined K) (s : Joining) (released : List Event) → JoinedStandsFor limits joined s released
+    → after.limits ≡ joined.limits → after.join ≡ joined.join → after.excess ≡ joined.excess → after.counts ≡ joined.counts → after.kept ≡ joined.kept
+    → TablesStandFor text_of after.tables (taken_in limits released) → StandsMarked text_of after.tables (taken_in limits released) → JoinedStandsFor limits after s released
+stands_marked limits joined after s released stands own join excess counts kept tables marked = record {
   limits_are = own ∙ stands.limits_are;
   join = subst (λ (j : Joiner). JoinStandsFor limits j s) (sym join) stands.join;
   released_last = stands.released_last;
   excess = excess ∙ stands.excess;
   counts = counts ∙ stands.counts;
-  tables = has.tables_are;
+  tables = tables;
+  marked = marked;
   kept_are = subst (λ (k : KeptFlows). KeptStandsFor k (flows_in limits released)) (sym kept) stands.kept_are;
   in_time = stands.in_time;
   fits = stands.fits;
 }
+
+-- tables and kept flows that say the same as before
+pub stands_still : {K : Type 0} (limits : Limits) (joined after : Joined K) (s : Joining) (released : List Event) → JoinedStandsFor limits joined s released
+    → after.limits ≡ joined.limits → after.join ≡ joined.join → after.excess ≡ joined.excess → after.counts ≡ joined.counts → HasTaken after.tables (taken_in limits released) → after.kept ≡ joined.kept
+    → JoinedStandsFor limits after s released
+stands_still limits joined after s released stands own join excess counts has kept =
+    stands_marked limits joined after s released stands own join excess counts kept has.tables_are has.marked
 
 -- the limits that the acts of one more event pass
 pub full_then : (limits own : Limits) (released : List Event) (event : Event) (answer : Option Full) → own ≡ limits
@@ -200,10 +216,11 @@ pub stands_next : {K : Type 0} (limits : Limits) (joined after : Joined K) (s : 
     → after.limits ≡ joined.limits → JoinStandsFor limits after.join (next_left limits s) → after.excess ≡ joined.excess
     → after.counts ≡ counts_in (released ++ event ∷ [])
     → TablesStandFor text_of after.tables (turned_by joined.limits event ++ taken_in limits released)
+    → StandsMarked text_of after.tables (turned_by joined.limits event ++ taken_in limits released)
     → KeptStandsFor after.kept (flows (turned_by joined.limits event ++ taken_in limits released))
     → full_at joined.limits.entities joined.limits.flows (turned_by joined.limits event ++ taken_in limits released) ≡ None
     → JoinedStandsFor limits after (next_left limits s) (released ++ event ∷ [])
-stands_next limits joined after s released event stands next own join excess counts tables kept_are fits =
+stands_next limits joined after s released event stands next own join excess counts tables marked kept_are fits =
     let acts : turned_by joined.limits event ++ taken_in limits released ≡ taken_in limits (released ++ event ∷ []) =
     ap (λ (l : Limits). turned_by l event ++ taken_in limits released) stands.limits_are ∙ sym (taken_then limits released event) in
     record {
@@ -213,6 +230,7 @@ stands_next limits joined after s released event stands next own join excess cou
       excess = excess ∙ stands.excess ∙ sym (released_so limits s event next).excess;
       counts = counts;
       tables = subst (λ (l : List Taken). TablesStandFor text_of after.tables l) acts tables;
+      marked = subst (λ (l : List Taken). StandsMarked text_of after.tables l) acts marked;
       kept_are = subst (λ (l : List Taken). KeptStandsFor after.kept (flows l)) acts kept_are;
       in_time = in_time_then limits s released event stands.in_time next;
       fits = full_then limits joined.limits released event None stands.limits_are fits;

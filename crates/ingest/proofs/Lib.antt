@@ -34,3 +34,6 @@ pub mod Parting
 pub mod Restored
 pub mod WaitingRowLemmas
 pub mod CommitRowLemmas
+pub mod Saving
+pub mod Remade
+pub mod Staying

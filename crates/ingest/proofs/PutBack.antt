@@ -488,7 +488,7 @@ same_closed : (s : Joining) (rs : List Record) (a b : List EventKey) → a ≡ b
 same_closed s rs a b e = ap (λ (ks : List EventKey). record { waiting = rs; closed = ks; clock = s.clock; excess = s.excess }) e
 
 module _ (limits : Limits) where
-  abbrev records_in : List (List ℕ) → List Record
+  abbrev pub records_in : List (List ℕ) → List Record
   records_in lines = records_of (record_of limits.line) lines
 
   pub read_waits : (key : EventKey) (lines : List (List ℕ)) → lines ≢ [] → AllByRecursion (IsLineOf limits.line key) lines → waits key (records_in lines) ≡ true
@@ -596,10 +596,10 @@ module _ (limits : Limits) where
 
   -- ---- the first record has the least key
 
-  abbrev flat : List (EventKey × Group) → List Record
+  abbrev pub flat : List (EventKey × Group) → List Record
   flat groups = flat_map (λ (e : EventKey × Group). records_in e.1.lines) groups
 
-  waiting_flat : (s : Joining) (groups : List (EventKey × Group)) → (with_groups limits.line s groups).waiting ≡ s.waiting ++ flat groups
+  pub waiting_flat : (s : Joining) (groups : List (EventKey × Group)) → (with_groups limits.line s groups).waiting ≡ s.waiting ++ flat groups
   waiting_flat s [] = sym (append-nil s.waiting)
   waiting_flat s (e ∷ groups) = waiting_flat (with_group limits.line s e) groups ∙ append_assoc s.waiting (records_in e.1.lines) (flat groups)
 

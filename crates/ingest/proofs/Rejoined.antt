@@ -16,7 +16,8 @@ use Rattle.flow_events.specs.declared.tables.Tables.{Tables}
 use Rattle.ingest.specs.Clocks.{HasReleased}
 use Rattle.ingest.specs.Counting.{counts_in}
 use Rattle.ingest.specs.Events.{taken_in, told_of, state_of, events_of}
-use Rattle.ingest.specs.Rejoining.{IsLeftOf, WereLeft, counts_of}
+use Rattle.ingest.specs.Rejoining.{IsLeftOf, WereLeft}
+use Rattle.ingest.specs.StateParts.{counts_said}
 use Rattle.ingest.specs.StandsFor.{AreInTime}
 use Rattle.ingest.proofs.Clocking.{released_then, released_entered}
 use Rattle.ingest.proofs.Fewer.{enter_time}
@@ -80,7 +81,7 @@ were_left limits mode said join tables state h part left_of =
       keeps = left_of.tables_are.rows_are;
       released_last = goes.last;
       excess = ap (λ (s : StateRow). s.excess) left_of.state_is;
-      counts = ap counts_of left_of.state_is;
+      counts = ap counts_said left_of.state_is;
       in_time = goes.in_time;
       fits = left_of.fits;
     }

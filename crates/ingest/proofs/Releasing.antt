@@ -119,6 +119,10 @@ owed limits s before joined after cause w ripe same passes = record {
 pub joined_at : {K : Type 0} (limits : Limits) (joined seen : Joined K) (s : Joining) (released : List Event) → seen ≡ joined → JoinedStandsFor limits joined s released → JoinedStandsFor limits seen s released
 joined_at {K} limits joined seen s released is stands = subst (λ (j : Joined K). JoinedStandsFor limits j s released) (sym is) stands
 
+-- and they have the same mark
+pub marked_seen : {K : Type 0} (joined seen : Joined K) → seen ≡ joined → seen.tables.marked ≡ joined.tables.marked
+marked_seen {K} joined seen is = ap (λ (j : Joined K). j.tables.marked) is
+
 -- ---- in time
 
 module _ (limits : Limits) (join after : Joiner) (tables : Tables) (kept : KeptFlows) (w : IsInTime limits join tables kept) where
@@ -175,6 +179,7 @@ stands_entered {K} limits joined after s released item t w same join is none =
       excess = w.excess ∙ sym (held_excess limits s item t is none);
       counts = w.counts;
       tables = w.tables;
+      marked = w.marked;
       kept_are = w.kept_are;
       in_time = record { rise = w.in_time.rise; later = omega (arith, w.in_time.later, enter_time limits s item) };
       fits = w.fits;

@@ -19,7 +19,7 @@ use Rattle.flow_events.specs.Added.{StandFrom}
 use Rattle.flow_events.specs.declared.plan.Plan.{Plan}
 use Rattle.flow_events.specs.declared.tables.Tables.{Tables}
 use Rattle.flow_events.specs.Entering.{entered}
-use Rattle.flow_events.specs.Standing.{AreSafe, DiffersInRoom, HasGrown, HasLimits, PlanFlows}
+use Rattle.flow_events.specs.Standing.{AreSafe, CountsTheSame, DiffersInRoom, HasGrown, HasLimits, PlanFlows}
 use Rattle.kept_flows.specs.KeptFlows.{KeptFlows, StandsFor as KeptStandsFor}
 use Rattle.kept_flows.specs.Taking.{AllComeAfter, BringsOnly, IsFlowOf, MayTakeIn}
 use Rattle.ingest.specs.StandsFor.{IsInTime}
@@ -186,3 +186,15 @@ none_kept objects flows ms kept stands empty =
     nothing : (R : List Row) → R ≡ [] → (f : Flow) → IsFlowOf R f → ⊥
     nothing R e f (inl there) = none_in f (subst (λ (S : List Row). Contains (firsts S) f) e there)
     nothing R e f (inr there) = none_in f (subst (λ (S : List Row). Contains (lasts S) f) e there)
+
+-- tables with the same counts, as a mark leaves them
+pub in_time_marked : (limits : Limits) (join : Joiner) (tables after : Tables) (kept : KeptFlows) → IsInTime limits join tables kept → CountsTheSame tables after → AreSafe after → HasLimits limits after → IsInTime limits join after kept
+in_time_marked limits join tables after kept w counts safe bounds = record {
+  s = w.s;
+  join_is = w.join_is;
+  bounds = bounds;
+  together = record {
+    safe = safe;
+    kept_of = kept_same (length tables.entities.keys) tables.flows join.clock.effective (length after.entities.keys) after.flows join.clock.effective kept (ap length counts.keys) counts.flows refl w.together.kept_of;
+  };
+}

@@ -11,13 +11,15 @@ use Rattle.acts.specs.LookBack.{full_at}
 use Rattle.flow_events.specs.declared.plan.Plan.{Plan}
 use Rattle.flow_events.specs.declared.tables.Tables.{Tables}
 use Rattle.flow_events.specs.Drafts.{turned}
+use Rattle.flow_events.specs.Remembering.{StandsMarked}
 use Rattle.flow_events.specs.Standing.{StandsFor as TablesStandFor, IsPlanOf}
 use Rattle.kept_flows.specs.KeptFlows.{KeptFlows, StandsFor as KeptStandsFor}
 use Rattle.ingest.specs.EventActs.{acts_of_event}
 
--- the tables stand for these acts, each of which but a see and a birth names a live pid
+-- the tables stand for these acts, each of which but a see and a birth names a live pid, and remember those since their mark
 pub record HasTaken (tables : Tables) (taken : List Taken) : Type 0 where
   pub tables_are : TablesStandFor text_of tables taken
+  pub marked : StandsMarked text_of tables taken
   pub admitted : Admitted (acts_of taken)
 
 -- the tables and the kept flows are those of these acts, after which an event of this time may come

@@ -25,3 +25,5 @@ pub mod Rejoining
 pub mod StateParts
 pub mod WaitingRows
 pub mod Committing
+pub mod Saving
+pub mod Restoring

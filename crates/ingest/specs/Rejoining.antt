@@ -23,12 +23,8 @@ use Rattle.ingest.specs.Events.{taken_in, flows_in, state_of, events_of}
 use Rattle.ingest.specs.Storing.{moment_of}
 use Rattle.ingest.specs.Parts.{Joined}
 use Rattle.ingest.specs.StandsFor.{AreInTime, JoinedStandsFor}
+use Rattle.ingest.specs.StateParts.{counts_said}
 use Rattle.ingest.specs.Stops.{full_of}
-use Rattle.ingest.specs.declared.event_counts.EventCounts.{EventCounts}
-
--- the counts of events that a State says
-abbrev pub counts_of : StateRow → EventCounts
-counts_of state = record { events = state.events; late = state.late; unmapped = state.unmapped }
 
 -- The joiner, the tables and the rows, if these are told, are those of what waits and of these released events, and the State
 -- counts them. No limit is passed.
@@ -42,7 +38,7 @@ pub record WereLeft (limits : Limits) (mode : Mode) (told : Option (List Row)) (
   pub keeps : Keeps mode (flows_in limits released) rows
   pub released_last : HasReleased s.clock released
   pub excess : state.excess ≡ s.excess
-  pub counts : counts_of state ≡ counts_in released
+  pub counts : counts_said state ≡ counts_in released
   pub in_time : AreInTime (taken_in limits released) s
   pub fits : full_of limits released ≡ None
 

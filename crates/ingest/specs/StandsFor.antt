@@ -11,6 +11,7 @@ use Rattle.name_text.specs.Addresses.{text_of}
 use Rattle.acts.specs.declared.act.Taken.{Taken}
 use Rattle.acts.specs.Flows.{latest, TimesNeverFall}
 use Rattle.flow_events.specs.declared.tables.Tables.{Tables}
+use Rattle.flow_events.specs.Remembering.{StandsMarked}
 use Rattle.flow_events.specs.Standing.{StandsFor as TablesStandFor, HasLimits}
 use Rattle.kept_flows.specs.KeptFlows.{KeptFlows, StandsFor as KeptStandsFor}
 use Rattle.store_check.specs.Conditions.{begun}
@@ -65,7 +66,7 @@ pub record AreInTime (taken : List Taken) (s : Joining) : Type 0 where
   pub rise : TimesNeverFall taken
   pub later : latest taken ≤ s.clock.effective
 
--- this waits, and these events were released, counted and followed
+-- this waits, and these events were released, counted and followed; what came since a mark of the tables is remembered
 pub record JoinedStandsFor {K : Type 0} (limits : Limits) (joined : Joined K) (s : Joining) (released : List Event) : Type 0 where
   pub limits_are : joined.limits ≡ limits
   pub join : JoinStandsFor limits joined.join s
@@ -73,6 +74,7 @@ pub record JoinedStandsFor {K : Type 0} (limits : Limits) (joined : Joined K) (s
   pub excess : joined.excess ≡ s.excess
   pub counts : joined.counts ≡ counts_in released
   pub tables : TablesStandFor text_of joined.tables (taken_in limits released)
+  pub marked : StandsMarked text_of joined.tables (taken_in limits released)
   pub kept_are : KeptStandsFor joined.kept (flows_in limits released)
   pub in_time : AreInTime (taken_in limits released) s
   pub fits : full_of limits released ≡ None

@@ -1,5 +1,5 @@
 -- What a store says of a history.
-use Rattle.std.specs.Prelude.{◌≡◌, ◌++◌, ℕ, List}
+use Rattle.std.specs.Prelude.{◌≡◌, ◌≤◌, ◌++◌, ℕ, List, []}
 use Rattle.flow_base.specs.declared.limits.Limits.{Limits}
 use Rattle.audit_lex.specs.History.{History, tail_of, is_long, short_text}
 use Rattle.acts.specs.declared.act.Taken.{Taken}
@@ -12,6 +12,7 @@ use Rattle.stored.specs.Bytes.{IsStoreOf}
 use Rattle.stored.specs.Moment.{Moment}
 use Rattle.ingest.specs.Counting.{bytes_in, tally_in, counts_in}
 use Rattle.ingest.specs.Events.{taken_in, events_of, state_of}
+use Rattle.ingest.specs.Stops.{Fits}
 
 -- what stands after a history, with this many bytes of this part of a log
 abbrev pub moment_of : Limits → History → ℕ → Moment
@@ -41,3 +42,11 @@ IsCommitFor limits mode h0 p0 h p rows =
 -- the acts of the later moment are those of the earlier one and some since
 abbrev pub HasSince : Moment → Moment → Type 0
 HasSince m0 m = (since : List Taken) × (m.taken ≡ since ++ m0.taken)
+
+-- The bytes store this history, of which no limit is passed, with so many of its bytes in this part of a log. Bytes without a batch
+-- store the history of nothing.
+pub record StoresHistory (limits : Limits) (mode : Mode) (bytes : List ℕ) (h : History) (part : ℕ) : Type 0 where
+  pub store : IsStoreFor limits mode bytes h part
+  pub fits : Fits limits h
+  pub within : part ≤ bytes_in h
+  pub begun : store.batches ≡ [] → h ≡ []

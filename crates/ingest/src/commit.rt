@@ -17,7 +17,8 @@ pub fn rows_around(
     join: &Join,
     state: StateRow,
 ) -> Result<TableRows, NoMemory>
-    ensures { IfOk result (λ rows. ArePut tables.now join.now state rows.entities rows.others) }
+    ensures { IfOk result (λ rows. ArePut tables.now.entities.most_names tables.now join.now state
+        rows.entities rows.others) }
 {
     let mut rows = tables.rows(alloc)?;
     put_waiting(alloc, join, &mut rows.others)?;

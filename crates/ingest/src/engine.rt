@@ -1,14 +1,27 @@
 //! The engine.
-ghost use Rattle.std.specs.Prelude.{◌≡◌, ◌≤◌, ◌<◌, ◌+◌, ◌^◌, ◌++◌, ◌⊎◌, ◌∷◌, [], Some, Err, false};
-ghost use Rattle.std.specs.Prelude.{length, take, is_some, OnOk, OnErr, IfOk, IfErr};
+ghost use Rattle.std.specs.Prelude.{◌≡◌, ◌≤◌, ◌<◌, ◌+◌, ◌^◌, ◌++◌, ◌⊎◌, ◌∷◌, [], ℕ, List, Some, Err};
+ghost use Rattle.std.specs.Prelude.{false, length, take, is_some, OnOk, OnErr, IfOk, IfErr, IsErrOf};
 ghost use Rattle.std.specs.List.{position_or_len};
 ghost use Rattle.memchr.specs.Find.{is_byte};
 ghost use Rattle.flow_base.specs.declared.limits.Full.{Full};
 ghost use Rattle.flow_base.specs.declared.limits.Limits.{Limits};
+ghost use Rattle.outside.specs.Disk.{IsDurable, UsesDisk};
+ghost use Rattle.batch_log.specs.Log.{IsRefused};
+ghost use Rattle.batch_log.specs.declared.log.CommitFault.TheVariants as commit;
 ghost use Rattle.audit_lex.specs.History.{History, Settle};
 ghost use Rattle.record_join.specs.Events.{next_event};
 ghost use Rattle.record_join.specs.StandsFor.{NothingRipe};
 ghost use Rattle.kept_flows.specs.Answering.{AlwaysTold, NeverFail};
+ghost use Rattle.kept_flows.specs.Committing.{CanCommit};
+ghost use Rattle.reach_model.specs.declared.modes.Mode.{Mode};
+ghost use Rattle.row_codec.specs.declared.rows.StoreRow.{StoreRow};
+ghost use Rattle.row_codec.specs.declared.state.StateRow.{StateRow};
+ghost use Rattle.reduced_store.specs.OnDisk.{SameBut};
+ghost use Rattle.reduced_store.specs.Reading.{IsFound};
+ghost use Rattle.reduced_store.specs.Restoring.{CanBeRestored};
+ghost use Rattle.reduced_store.specs.Stores.{found_of};
+ghost use Rattle.store_check.specs.Conditions.{bounds_of};
+ghost use Rattle.stored.specs.Words.{state_of};
 ghost use Rattle.ingest.specs.Ending.{EndsLast};
 ghost use Rattle.ingest.specs.Events.{events_of};
 ghost use Rattle.ingest.specs.Asking.{AskHasCauses, SameButRows, StandsStill};
@@ -17,20 +30,40 @@ ghost use Rattle.ingest.specs.EngineSteps.{StopsIn, HaltsIn, HaltsOwing};
 ghost use Rattle.ingest.specs.Owing.{MayOwe, SettleHalts};
 ghost use Rattle.ingest.specs.PartTaken.{count_on, done_in};
 ghost use Rattle.ingest.specs.Replies.{IsQuestion, IsReply};
+ghost use Rattle.ingest.specs.Rejoining.{StandsForLeft};
+ghost use Rattle.ingest.specs.Restoring.{IsBadWaiting, IsPastInput, IsRemade, StandsForStored, store_after};
+ghost use Rattle.ingest.specs.Saving.{LeavesEither, PassesFull, Saves};
 ghost use Rattle.ingest.specs.StandsFor.{StandsFor, HasNoTail, WhereJoined};
 ghost use Rattle.ingest.specs.Stops.{Fits, Stops};
 ghost use Rattle.ingest.specs.declared.ask_fault.AskFault.TheVariants as fault;
+ghost use Rattle.ingest.specs.Waiting.{AreSoundWaiting};
+ghost use Rattle.ingest.specs.declared.restoring.RestoreFault.TheVariants as restore;
 ghost use Rattle.ingest.specs.declared.stop.StopWhy.TheVariants as why;
 
 use crate::ask_fault::{AskFault, of_reply};
 use crate::event_flows::EventFlows;
 use crate::line_reader::LineReader;
 use crate::replies::{answer_find, answer_question, answer_show, answer_stat, answer_why};
+use crate::restoring::{Remade, RestoreFault, Unrestored, last_state, make_again};
+use crate::spellable::are_spelled;
+use crate::state_row::state_of;
 use crate::stop::{Stop, StopWhy};
+use crate::store_laws::{
+    histories_may_be_committed, stores_follow_histories, stores_say_what_was_left,
+};
+use batch_log::{CommitFault, a_disk_reads_in_one_way};
+use call_acts::acts_of_events_are_admitted;
 use flow_base::{Full, Limit, Limits, NoMemory};
 use memchr::memchr;
+use outside::Disk;
+use query_walk::WalkFault;
 use reach_rows::{Keep, Reducer};
+use reduced_store::{
+    Opened, Store, a_commit_by_rows_is_that_of_its_moments, what_is_found_can_be_restored,
+    what_is_found_was_stored,
+};
 use report_json::{Ask, Reply};
+use row_codec::{StateRow, rows_that_fit_can_be_spelled};
 use std::alloc::Global;
 use std::marker::Model;
 
@@ -68,6 +101,7 @@ impl<R: Reducer, K: Keep> Ingest<R, K> {
         requires known { K.known keep ≡ 0 }
         ensures stands { StandsFor limits.now result [] }
         ensures part { result.part ≡ 0 }
+        ensures keep { result.joined.keep ≡ keep }
     {
         Ingest {
             alloc,
@@ -88,6 +122,7 @@ impl<R: Reducer, K: Keep> Ingest<R, K> {
             → MayOwe limits self.old h → 0 < stop.done → Fits limits h) }
         ensures part { self.new.part ≡ count_on self.old.part (done_in piece.now result) }
         ensures alike { K.alike self.old.joined.keep self.new.joined.keep }
+        ensures marked { self.new.joined.tables.marked ≡ self.old.joined.tables.marked }
     {
         let part = self.part;
         let result = self.feed_next(piece);
@@ -110,6 +145,7 @@ impl<R: Reducer, K: Keep> Ingest<R, K> {
         ensures halts { IfErr result (SettleHalts self.old self.new) }
         ensures part { self.new.part ≡ self.old.part }
         ensures alike { K.alike self.old.joined.keep self.new.joined.keep }
+        ensures marked { self.new.joined.tables.marked ≡ self.old.joined.tables.marked }
     {
         match self.joined.release() {
             Ok(()) => {}
@@ -174,7 +210,7 @@ impl<R: Reducer, K: Keep> Ingest<R, K> {
     /// Answers a question about what was taken, if nothing is owed.
     ///
     /// `StoreFault` means that a read of the rows failed during this call, or that the rows have stopped counting failed
-    /// reads. `BadStore` comes only from rows that aren't observable, and `NoMemory` means that allocation failed. Whatever
+    /// reads. `BadStore` comes only from rows that aren't observable, and `NoMemory` means want of memory. Whatever
     /// is returned, the engine stands for the same history as before.
     pub fn ask(&mut self, ask: &Ask) -> Result<Reply, AskFault>
         requires asks { IsQuestion ask.now }
@@ -208,6 +244,7 @@ impl<R: Reducer, K: Keep> Ingest<R, K> {
         ensures owed_first { IfErr result (λ stop. (limits : Limits) (h : History)
             → MayOwe limits self.old h → 0 < stop.done → Fits limits h) }
         ensures alike { K.alike self.old.joined.keep self.new.joined.keep }
+        ensures marked { self.new.joined.tables.marked ≡ self.old.joined.tables.marked }
     {
         match self.joined.release() {
             Ok(()) => self.feed_bounded(piece),
@@ -222,6 +259,7 @@ impl<R: Reducer, K: Keep> Ingest<R, K> {
         ensures stop { IfErr result (StopsIn piece.now self.old) }
         ensures halts { IfErr result (HaltsIn piece.now self.old self.new) }
         ensures alike { K.alike self.old.joined.keep self.new.joined.keep }
+        ensures marked { self.new.joined.tables.marked ≡ self.old.joined.tables.marked }
     {
         let room = self.reader.most() - self.reader.bytes();
         if piece.len() as u64 <= room {
@@ -249,6 +287,7 @@ impl<R: Reducer, K: Keep> Ingest<R, K> {
         ensures stop { IfErr result (StopsIn piece.now self.old) }
         ensures halts { IfErr result (HaltsIn piece.now self.old self.new) }
         ensures alike { K.alike self.old.joined.keep self.new.joined.keep }
+        ensures marked { self.new.joined.tables.marked ≡ self.old.joined.tables.marked }
     {
         let mut done = 0;
         while done < piece.len() {
@@ -276,6 +315,7 @@ impl<R: Reducer, K: Keep> Ingest<R, K> {
         ensures stop { IfErr result (StopsIn piece.now self.old) }
         ensures halts { IfErr result (HaltsIn piece.now self.old self.new) }
         ensures alike { K.alike self.old.joined.keep self.new.joined.keep }
+        ensures marked { self.new.joined.tables.marked ≡ self.old.joined.tables.marked }
     {
         let end = end_of_line(piece);
         if end == piece.len() || !self.reader.is_between_lines() {
@@ -329,6 +369,7 @@ impl<R: Reducer, K: Keep> Ingest<R, K> {
         ensures stop { IfErr result (StopsIn (part.now ++ 10 ∷ []) self.old) }
         ensures halts { IfErr result (HaltsIn (part.now ++ 10 ∷ []) self.old self.new) }
         ensures alike { K.alike self.old.joined.keep self.new.joined.keep }
+        ensures marked { self.new.joined.tables.marked ≡ self.old.joined.tables.marked }
     {
         match self.join_line(part) {
             Ok(()) => {}
@@ -362,6 +403,7 @@ impl<R: Reducer, K: Keep> Ingest<R, K> {
         ensures ok { OnOk result (OwesAfter (part.now ++ 10 ∷ []) self.old self.new) }
         ensures err { OnErr result (self.new ≡ self.old) }
         ensures alike { K.alike self.old.joined.keep self.new.joined.keep }
+        ensures marked { self.new.joined.tables.marked ≡ self.old.joined.tables.marked }
     {
         match self.reader.read(part)? {
             Some(item) => {
@@ -383,6 +425,7 @@ impl<R: Reducer, K: Keep> Ingest<R, K> {
         ensures begun { OnErr result (¬ HasNoTail self.old.reader) }
         ensures part { self.new.part ≡ self.old.part }
         ensures alike { K.alike self.old.joined.keep self.new.joined.keep }
+        ensures marked { self.new.joined.tables.marked ≡ self.old.joined.tables.marked }
     {
         match self.reader.read(&[])? {
             Some(item) => {
@@ -392,6 +435,159 @@ impl<R: Reducer, K: Keep> Ingest<R, K> {
             }
             None => self.reader.settle_other(),
         }
+    }
+}
+
+impl<R: Reducer, D: Disk> Ingest<R, Store<D>> {
+    /// The engine of a store that was opened, by a new reducer. It stands for whatever history the store has, and from now on it
+    /// remembers what is new.
+    ///
+    /// `BadStore` has the place of the last batch, which says that something waits which no joiner would have left so. `Full` means
+    /// that the store has taken more bytes than may be. A refusal hands the store back.
+    pub fn restore(
+        alloc: Global,
+        limits: &Limits,
+        reducer: R,
+        opened: Opened<D>,
+    ) -> Result<Ingest<R, Store<D>>, Unrestored<Store<D>>>
+    where
+        R: Drop,
+        requires stands { R.stands_for reducer [] }
+        requires holds { R.holds reducer [] }
+        requires found { (payloads : List (List ℕ))
+            × IsFound (bounds_of limits.now) payloads (found_of opened) }
+        requires mode { (m : Mode) → opened.mode ≡ Some m → m ≡ R.mode }
+        ensures stored { IfOk result (StandsForStored D.state limits.now R.mode opened) }
+        ensures sound { IfOk result (λ _. (state : StateRow) → state_of opened.rows ≡ Some state
+            → AreSoundWaiting limits.now state opened.rows) }
+        ensures alike { SameBut opened.store (store_after result) }
+        ensures bad { IfErr result (IsBadWaiting limits.now opened) }
+        ensures full { IfErr result (IsPastInput limits.now opened) }
+    {
+        what_is_found_can_be_restored();
+        what_is_found_was_stored();
+        stores_say_what_was_left();
+        a_disk_reads_in_one_way();
+        let Opened {
+            store,
+            mode: _,
+            last,
+            rows,
+        } = opened;
+        let Some(state) = last_state(rows.as_slice()) else {
+            return Ok(Ingest::begun(alloc, limits, reducer, store));
+        };
+        match make_again(alloc, limits, last.unwrap_or(0), state, rows.as_slice()) {
+            Ok(parts) => Ingest::resumed(alloc, reducer, store, state, parts),
+            Err(why) => Err(Unrestored { why, keep: store }),
+        }
+    }
+
+    // The engine of a store that has no batch.
+    fn begun(alloc: Global, limits: &Limits, reducer: R, store: Store<D>) -> Ingest<R, Store<D>>
+        requires stands { R.stands_for reducer [] }
+        requires holds { R.holds reducer [] }
+        requires none { store.rows.rows ≡ [] }
+        ensures stands { StandsFor limits.now result [] }
+        ensures part { result.part ≡ 0 }
+        ensures keep { result.joined.keep ≡ store }
+        ensures marked { result.joined.tables.marked ≡ Some 0 }
+    {
+        let mut engine = Ingest::new(alloc, limits, reducer, store);
+        engine.joined.remember();
+        engine
+    }
+
+    // The engine of a store by its parts.
+    fn resumed(
+        alloc: Global,
+        reducer: R,
+        store: Store<D>,
+        state: &StateRow,
+        parts: Remade,
+    ) -> Result<Ingest<R, Store<D>>, Unrestored<Store<D>>>
+    where
+        R: Drop,
+        requires stands { R.stands_for reducer [] }
+        requires holds { R.holds reducer [] }
+        requires parts { (limits : Limits) × (rows : List StoreRow)
+            × IsRemade limits state.now rows parts
+            × CanBeRestored (bounds_of limits) rows store.rows.rows
+            × (state_of rows ≡ Some state.now) }
+        ensures joined { IfOk result (λ engine. StandsForLeft R.mode (Some store.rows.rows)
+            parts.join parts.tables state.now engine.joined) }
+        ensures reader { IfOk result (λ engine. engine.reader ≡ parts.reader) }
+        ensures part { IfOk result (λ engine. engine.part ≡ state.now.part) }
+        ensures marked { IfOk result (λ engine. engine.joined.tables.marked
+            ≡ Some parts.tables.acts) }
+        ensures alike { SameBut store (store_after result) }
+        ensures memory { IfErr result (λ back. back.why ≡ restore.NoMemory) }
+    {
+        let Remade {
+            reader,
+            join,
+            tables,
+        } = parts;
+        match EventFlows::restore(alloc, join, tables, reducer, store, state) {
+            Ok(joined) => {
+                let mut joined = joined;
+                joined.remember();
+                Ok(Ingest {
+                    alloc,
+                    reader,
+                    joined,
+                    part: state.part,
+                })
+            }
+            Err(back) => match back.fault {
+                WalkFault::NoMemory => Err(Unrestored {
+                    why: RestoreFault::NoMemory,
+                    keep: back.rows,
+                }),
+                WalkFault::StoreFault => unreachable!(),
+                WalkFault::BadStore(_) => unreachable!(),
+            },
+        }
+    }
+
+    /// Puts all that came since the last commit on the disk of the store, in one batch.
+    ///
+    /// `StoreFault` means that a call on the disk failed: the batch may be there or not, and the disk has to be opened again.
+    /// `Full` means that the batch would pass a limit, of its own bytes or of those of the disk, and `NoMemory` want of memory. After
+    /// these two the disk is as before. Whatever is returned, the engine stands for the same history.
+    pub fn commit(&mut self) -> Result<(), CommitFault>
+        requires can { CanCommit D.state self.old.joined.keep }
+        ensures can { OnOk result (CanCommit D.state self.new.joined.keep) }
+        ensures saves { (D.state self.old.joined.keep.disk).told
+            → OnOk result (Saves D.state R.mode self.old self.new) }
+        ensures leaves { (D.state self.old.joined.keep.disk).told
+            → LeavesEither D.state R.mode self.old self.new }
+        ensures durable { OnOk result (IsDurable (D.state self.new.joined.keep.disk)) }
+        ensures full { (full : Full) → result ≡ Err (commit.Full full)
+            → PassesFull D.state R.mode self.old full }
+        ensures refused { IsRefused result → self.new ≡ self.old }
+        ensures stands { StandsStill self.old self.new }
+        ensures part { self.new.part ≡ self.old.part }
+        ensures uses { UsesDisk D.state D.faults D.spent self.old.joined.keep.disk
+            self.new.joined.keep.disk (IsErrOf result commit.StoreFault) }
+    {
+        histories_may_be_committed::<Store<D>>();
+        stores_follow_histories::<Store<D>>();
+        a_commit_by_rows_is_that_of_its_moments();
+        acts_of_events_are_admitted();
+        a_disk_reads_in_one_way();
+        rows_that_fit_can_be_spelled();
+        let state = state_of(self.alloc, &self.reader, &self.joined, self.part)?;
+        let rows = self.joined.rows_around(state)?;
+        let entities = rows.entities.as_slice();
+        let others = rows.others.as_slice();
+        if !are_spelled(entities, others) {
+            return Err(CommitFault::Full(Full {
+                limit: Limit::Payload,
+                number: self.reader.limits().payload,
+            }));
+        }
+        self.joined.save(entities, others)
     }
 }
 

@@ -18,6 +18,11 @@ ghost use Rattle.query_walk.specs.Walks.{SameRows};
 ghost use Rattle.kept_flows.specs.KeptFlows.{kept_of};
 ghost use Rattle.ingest.specs.Asking.{WalkHasCauses};
 ghost use Rattle.ingest.specs.Bounds.{IsFew, IsBounded, StaysFew, OneMore};
+ghost use Rattle.std.specs.List.{All};
+ghost use Rattle.std.specs.Option.{option_map};
+ghost use Rattle.row_codec.specs.Rows.{CanBeSpelled};
+ghost use Rattle.kept_flows.specs.Committing.{CanCommit, CommitsRows};
+ghost use Rattle.ingest.specs.Committing.{ArePut};
 ghost use Rattle.ingest.specs.EventActs.{is_unmapped};
 ghost use Rattle.ingest.specs.Events.{flows_in, objects_in, taken_in};
 ghost use Rattle.ingest.specs.Faults.{of_refused};
@@ -33,19 +38,23 @@ ghost use Rattle.ingest.specs.Together.{GoTogether, GoWithPlan};
 ghost use Rattle.ingest.specs.StandsFor.{JoinedStandsFor, WhereJoined, WhereWaiting};
 ghost use Rattle.ingest.specs.declared.stop.StopWhy.TheVariants as why;
 
+use crate::commit::rows_around;
 use crate::event_counts::EventCounts;
 use crate::stop::StopWhy;
 use acts::flows_of_acts_are_lawful;
 use audit_record::Record;
+use batch_log::CommitFault;
 use call_acts::{acts_are_few, acts_of_events_are_admitted};
 use flow_base::{Bytes, EntityId, Key, Limits, List, NoMemory};
-use flow_events::{Plan, PrepareFault, Tables};
+use flow_events::{Plan, PrepareFault, TableRows, Tables};
 use kept_flows::{KeptFlows, Unrestored, Way};
+use outside::Disk;
 use query_walk::WalkFault;
 use reach_model::Mode;
 use reach_rows::{Keep, Question, Reducer};
 use record_join::{EventView, Join, JoinClock, Taken as Entered};
-use row_codec::StateRow;
+use reduced_store::Store;
+use row_codec::{StateRow, StoreRow};
 use std::alloc::Global;
 use std::marker::Model;
 
@@ -90,6 +99,7 @@ impl<R: Reducer, K: Keep> EventFlows<R, K> {
         requires known { K.known keep ≡ 0 }
         ensures stands { JoinedStandsFor limits.now result start [] }
         ensures few { IsFew 0 result }
+        ensures keep { result.keep ≡ keep }
     {
         EventFlows {
             alloc,
@@ -105,7 +115,7 @@ impl<R: Reducer, K: Keep> EventFlows<R, K> {
     /// recalls. The counts of events and of dropped records are those of the State.
     ///
     /// `StoreFault` means that a read of the rows failed during this call, or that the rows have stopped counting failed
-    /// reads. `BadStore` comes only from rows that aren't observable, and `NoMemory` means that allocation failed. A refusal
+    /// reads. `BadStore` comes only from rows that aren't observable, and `NoMemory` means want of memory. A refusal
     /// hands the rows back as they were.
     pub fn restore(
         alloc: Global,
@@ -121,9 +131,9 @@ impl<R: Reducer, K: Keep> EventFlows<R, K> {
         requires holds { R.holds reducer [] }
         requires waits { (s : Joining) × JoinStandsFor tables.limits join s }
         requires limits { HasLimits tables.limits tables }
+        requires unmarked { tables.marked ≡ None }
         requires together { GoTogether join.clock.effective tables
             (kept_of R.mode K.rows K.count K.known keep) }
-        requires acts { tables.acts ≤ 2 ^ 62 }
         ensures stands { IfOk result
             (StandsForLeft R.mode (K.rows keep) join tables state.now) }
         ensures join { IfOk result (λ again. again.join ≡ join) }
@@ -141,11 +151,7 @@ impl<R: Reducer, K: Keep> EventFlows<R, K> {
                 join,
                 tables,
                 kept,
-                counts: EventCounts {
-                    events: state.events,
-                    late: state.late,
-                    unmapped: state.unmapped,
-                },
+                counts: EventCounts::restore(state),
                 excess: state.excess,
             }),
             Err(back) => Err(back),
@@ -168,6 +174,7 @@ impl<R: Reducer, K: Keep> EventFlows<R, K> {
         ensures few { OnOk result (OneMore self.old self.new) }
         ensures err { OnErr result (self.new ≡ self.old) }
         ensures alike { K.alike self.old.keep self.new.keep }
+        ensures marked { self.new.tables.marked ≡ self.old.tables.marked }
     {
         let taken = self.join.take(item)?;
         if taken == Entered::Excess {
@@ -176,11 +183,23 @@ impl<R: Reducer, K: Keep> EventFlows<R, K> {
         Ok(())
     }
 
+    /// From now on it is remembered what acts are about.
+    pub fn remember(&mut self)
+        ensures same { self.new ≡ record self.old { tables = self.new.tables } }
+        ensures stands { StaysJoined self.old self.new }
+        ensures few { StaysFew self.old self.new }
+        ensures marked { self.new.tables.marked ≡ Some self.old.tables.acts }
+    {
+        let _ = &self.join;
+        self.tables.remember(self.alloc);
+    }
+
     /// Closes all that waits.
     pub fn close(&mut self)
         ensures closed { ClosesAll self.old self.new }
         ensures few { StaysFew self.old self.new }
         ensures alike { K.alike self.old.keep self.new.keep }
+        ensures marked { self.new.tables.marked ≡ self.old.tables.marked }
     {
         self.join.settle();
     }
@@ -194,6 +213,7 @@ impl<R: Reducer, K: Keep> EventFlows<R, K> {
         ensures ok { OnOk result (ReleasesAll self.old self.new) }
         ensures owed { IfErr result (OwesRest self.old self.new) }
         ensures alike { K.alike self.old.keep self.new.keep }
+        ensures marked { self.new.tables.marked ≡ self.old.tables.marked }
     {
         while self.join.ripe() {
             match self.follow() {
@@ -368,6 +388,7 @@ impl<R: Reducer, K: Keep> EventFlows<R, K> {
         ensures full { (full : Full) → result ≡ Err (why.Full full)
             → WhereWaiting self.old (λ limits s released. NextPasses limits s released full) }
         ensures alike { K.alike self.old.keep self.new.keep }
+        ensures marked { self.new.tables.marked ≡ self.old.tables.marked }
     {
         acts_are_few();
         acts_of_events_are_admitted();
@@ -381,6 +402,45 @@ impl<R: Reducer, K: Keep> EventFlows<R, K> {
         self.counts.count(event.late, plan.unmapped());
         let _ = self.tables.apply(plan);
         let _ = self.join.next();
+        Ok(())
+    }
+}
+
+impl<R: Reducer, D: Disk> EventFlows<R, Store<D>> {
+    /// The rows of a commit of this State besides those of flows.
+    pub fn rows_around(&self, state: StateRow) -> Result<TableRows, NoMemory>
+        ensures put { IfOk result (λ rows. ArePut self.now.limits.names self.now.tables
+            self.now.join state rows.entities rows.others) }
+        ensures mode { self.now.kept.mode ≡ R.mode }
+    {
+        let _ = self.kept.mode();
+        rows_around(self.alloc, &self.tables, &self.join, state)
+    }
+
+    /// Puts the rows of flows since the last commit on the disk, between rows of entities and others. Then all of the tables is
+    /// saved, and the mark is now.
+    ///
+    /// It fails as `KeptFlows::commit` does, and then the tables are as before.
+    pub fn save(&mut self, entities: &[StoreRow], others: &[StoreRow]) -> Result<(), CommitFault>
+        requires entities { All CanBeSpelled entities.now }
+        requires others { All CanBeSpelled others.now }
+        requires can { CanCommit D.state self.old.keep }
+        ensures can { OnOk result (CanCommit D.state self.new.keep) }
+        ensures own { (self.old.kept.mode ≡ R.mode)
+            × (self.old.kept.told ≡ Some self.old.keep.rows.rows) }
+        ensures commits { CommitsRows D.state D.faults D.spent R.mode entities.now others.now
+            self.old.keep self.new.keep result }
+        ensures same { self.new
+            ≡ record self.old { keep = self.new.keep; tables = self.new.tables } }
+        ensures stands { StaysJoined self.old self.new }
+        ensures few { StaysFew self.old self.new }
+        ensures marked { OnOk result (self.new.tables.marked
+            ≡ option_map (λ _. self.old.tables.acts) self.old.tables.marked) }
+        ensures unmarked { OnErr result (self.new.tables ≡ self.old.tables) }
+    {
+        let _ = &self.join;
+        self.kept.commit(self.alloc, entities, others)?;
+        self.tables.mark_saved();
         Ok(())
     }
 }

@@ -15,10 +15,13 @@ mod event_flows;
 mod laws;
 mod line_reader;
 mod replies;
+mod restoring;
 mod spellable;
 mod state_row;
 mod stop;
 mod store_laws;
+#[cfg(test)]
+mod store_tests;
 #[cfg(test)]
 mod tests;
 mod waiting;
@@ -30,8 +33,10 @@ pub use laws::{
     fronts_fit, lines_spell_records, parts_are_counted, stops_stay, what_fits_never_stops,
     what_owes_nothing_stands, what_stands_owes_nothing,
 };
+pub use restoring::{RestoreFault, Unrestored};
 pub use stop::{Stop, StopWhy};
 pub use store_laws::{
     histories_may_be_committed, stores_follow_histories, stores_say_what_was_left,
+    what_can_commit_still_can, what_is_saved_stays_saved,
 };
 pub use waiting::restore_join;

@@ -114,6 +114,14 @@ impl LineReader {
         self.limits.input
     }
 
+    /// The limits.
+    pub fn limits(&self) -> Limits
+        ensures { result ≡ self.now.limits }
+    {
+        let _ = &self.cut;
+        self.limits
+    }
+
     /// How many lines have ended.
     pub fn lines(&self) -> u64
         ensures { result ≡ self.now.cut.lines }

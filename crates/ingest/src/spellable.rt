@@ -25,6 +25,13 @@ pub fn can_be_spelled(rows: &[StoreRow]) -> bool
     true
 }
 
+/// Whether all rows of both lists can be spelled.
+pub fn are_spelled(rows: &[StoreRow], others: &[StoreRow]) -> bool
+    ensures { IsTrue result ↔ (All CanBeSpelled rows.now × All CanBeSpelled others.now) }
+{
+    can_be_spelled(rows) && can_be_spelled(others)
+}
+
 // Whether a row can be spelled.
 fn has_spelling(row: &StoreRow) -> bool
     ensures { IsTrue result ↔ CanBeSpelled row.now }

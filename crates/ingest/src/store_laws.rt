@@ -18,10 +18,14 @@ ghost use Rattle.ingest.specs.Rejoining.{IsLeftOf, WereLeft};
 ghost use Rattle.ingest.specs.Parts.{Engine};
 ghost use Rattle.ingest.specs.PartTaken.{StandsWith};
 ghost use Rattle.ingest.specs.StandsFor.{StandsFor};
+ghost use Rattle.kept_flows.specs.Committing.{CanCommit};
+ghost use Rattle.reduced_store.specs.OnDisk.{OnDisk, SameBut};
+ghost use Rattle.ingest.specs.Saving.{IsSaved};
 ghost use Rattle.ingest.specs.Storing.{HasSince, IsCommitFor, IsStoreFor, moment_of};
 
 use audit_lex::lines_are_counted;
 use call_acts::acts_are_few;
+use outside::Disk;
 use reach_rows::Keep;
 use record_join::states_are_sound;
 use stored::commits_store;
@@ -73,4 +77,18 @@ pub fn stores_say_what_was_left()
         (tables : Tables) (state : StateRow) (h : History) (part : ℕ)
         → IsLeftOf limits mode told join tables state h part
         → WereLeft limits mode told join tables state (state_of limits h) (events_of limits h) }
+{}
+
+/// A store that can commit still can while its disk and its log are as they were.
+pub fn what_can_commit_still_can<D: Disk>()
+    ensures { (old new : OnDisk D) → SameBut old new
+        → CanCommit D.state old → CanCommit D.state new }
+{}
+
+/// What is saved of a history stays saved while the disk, the saved rows and the mark of the tables are as they were.
+pub fn what_is_saved_stays_saved<D: Disk>()
+    ensures { (limits : Limits) (mode : Mode) (h : History) (part : ℕ) (old new : Engine (OnDisk D))
+        → SameBut old.joined.keep new.joined.keep
+        → new.joined.tables.marked ≡ old.joined.tables.marked
+        → IsSaved D.state limits mode old h part → IsSaved D.state limits mode new h part }
 {}

@@ -2,3 +2,4 @@ pub mod KeptFlows
 pub mod Answering
 pub mod Taking
 pub mod Restoring
+pub mod Committing

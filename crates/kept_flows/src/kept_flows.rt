@@ -1,5 +1,6 @@
 //! A reducer with its rows.
 ghost use Rattle.std.specs.Prelude.{◌≡◌, ◌<◌, ◌≤◌, ◌+◌, ◌^◌, [], List, length, Some};
+ghost use Rattle.std.specs.List.{All};
 ghost use Rattle.std.specs.Prelude.{IfOk, IfErr, OnErr, OnOk};
 ghost use Rattle.flow_base.specs.declared.types.Flow.{Flow as AFlow};
 ghost use Rattle.reach_model.specs.Numbers.{known};
@@ -8,6 +9,8 @@ ghost use Rattle.reach_rows.specs.Kept.{known_after};
 ghost use Rattle.query_walk.specs.declared.fault.WalkFault.TheVariants as fault;
 ghost use Rattle.reach_model.specs.Rows.{Row as ARow};
 ghost use Rattle.query_walk.specs.Walks.{SameRows};
+ghost use Rattle.row_codec.specs.Rows.{CanBeSpelled};
+ghost use Rattle.kept_flows.specs.Committing.{CanCommit, CommitsRows};
 ghost use Rattle.kept_flows.specs.KeptFlows.{StandsFor, TakesIn, SameFaults, HasCauses, kept_of};
 ghost use Rattle.kept_flows.specs.Restoring.{StandsAgain, RestoresFrom, RestoresAlike};
 ghost use Rattle.kept_flows.specs.Taking.{BringsOnly, MayTakeIn};
@@ -17,10 +20,14 @@ use crate::one_flow::take_all;
 use crate::one_path::{Way, find_way};
 use crate::one_question::answer;
 use crate::restoring::{Unrestored, recall_all};
+use batch_log::CommitFault;
 use flow_base::{EntityId, Flow, List, NoMemory};
+use outside::Disk;
 use query_walk::WalkFault;
 use reach_model::{Mode, first_flows_are_kept, lawful_flows_grow};
 use reach_rows::{Keep, Question, Reducer, verdicts_make_the_rows};
+use reduced_store::Store;
+use row_codec::StoreRow;
 use std::alloc::Global;
 use std::marker::Model;
 
@@ -63,7 +70,7 @@ impl<R: Reducer, K: Keep> KeptFlows<R, K> {
     /// The flows of an earlier run, by a new reducer and the rows that were kept then. The reducer recalls each row in order.
     ///
     /// `StoreFault` means that a read of the rows failed during this call, or that the rows have stopped counting failed
-    /// reads. `BadStore` comes only from rows that aren't observable, and `NoMemory` means that allocation failed. A refusal
+    /// reads. `BadStore` comes only from rows that aren't observable, and `NoMemory` means want of memory. A refusal
     /// hands the rows back as they were.
     pub fn restore(reducer: R, rows: K) -> Result<KeptFlows<R, K>, Unrestored<K>>
     where
@@ -124,7 +131,7 @@ impl<R: Reducer, K: Keep> KeptFlows<R, K> {
         self.rows.known()
     }
 
-    /// Takes in the flows that come next. The only error is that allocation fails, and then the kept flows are as before.
+    /// Takes in the flows that come next. The only error is want of memory, and then the kept flows are as before.
     /// Taking flows in reads no rows, so no read of them can fail.
     ///
     /// The kept flows need not stand for any flows, as rows that no log left don't. `taken` speaks of whatever flows they
@@ -146,7 +153,7 @@ impl<R: Reducer, K: Keep> KeptFlows<R, K> {
     /// The answer to a question about a known object, or `None` if the mode doesn't answer it.
     ///
     /// `StoreFault` means that a read of the rows failed during this call, or that the rows have stopped counting failed
-    /// reads. `BadStore` comes only from rows that aren't observable, and `NoMemory` means that allocation failed. Whatever
+    /// reads. `BadStore` comes only from rows that aren't observable, and `NoMemory` means want of memory. Whatever
     /// is returned, the kept flows are as before, so they stand for the same flows.
     pub fn ask(
         &mut self,
@@ -187,5 +194,32 @@ impl<R: Reducer, K: Keep> KeptFlows<R, K> {
         ensures alike { K.alike self.old.keep self.new.keep }
     {
         find_way(alloc, &self.reducer, &mut self.rows, from, to, until)
+    }
+}
+
+impl<R: Reducer, D: Disk> KeptFlows<R, Store<D>> {
+    /// Puts the rows since the last commit on the disk of the store that keeps them, in one batch between rows in front and rows
+    /// behind.
+    ///
+    /// `StoreFault` means that a call on the disk failed: the batch may be there or not, and the disk has to be opened again. After
+    /// `Full`, a limit that the batch would pass, and after `NoMemory`, want of memory, nothing has changed.
+    pub fn commit(
+        &mut self,
+        alloc: Global,
+        front: &[StoreRow],
+        back: &[StoreRow],
+    ) -> Result<(), CommitFault>
+        requires front { All CanBeSpelled front.now }
+        requires back { All CanBeSpelled back.now }
+        requires can { CanCommit D.state self.old.keep }
+        ensures can { OnOk result (CanCommit D.state self.new.keep) }
+        ensures own { (self.old.kept.mode ≡ R.mode)
+            × (self.old.kept.told ≡ Some self.old.keep.rows.rows) }
+        ensures kept { self.new.kept ≡ self.old.kept }
+        ensures commits { CommitsRows D.state D.faults D.spent R.mode front.now back.now
+            self.old.keep self.new.keep result }
+    {
+        let mode = self.reducer.mode();
+        self.rows.commit_rows(alloc, mode, front, back)
     }
 }

@@ -64,7 +64,7 @@ order_push R f a later differ from to = record {
 
 -- ---- one more Extend row
 
-all_changed : (P : Row → Type 0) (i : ℕ) (to : Row → Row) (R : List Row) → ((q : Row) → slice_get R i ≡ Some q → P q → P (to q)) → AllByRecursion P R → AllByRecursion P (changed_at i to R)
+pub all_changed : (P : Row → Type 0) (i : ℕ) (to : Row → Row) (R : List Row) → ((q : Row) → slice_get R i ≡ Some q → P q → P (to q)) → AllByRecursion P R → AllByRecursion P (changed_at i to R)
 all_changed P i to [] here all = tt
 all_changed P zero to (r ∷ R) here all = (here r refl all.0, all.1)
 all_changed P (suc i) to (r ∷ R) here all = (all.0, all_changed P i to R here all.1)

@@ -10,3 +10,7 @@ pub mod ExtendLemmas
 pub mod ListedLemmas
 pub mod SpellingLemmas
 pub mod CommitLemmas
+pub mod PickedLemmas
+pub mod OrderLemmas
+pub mod RestoreLemmas
+pub mod StoringLemmas

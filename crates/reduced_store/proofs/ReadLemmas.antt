@@ -34,7 +34,7 @@ alone x = flat_map-cons (λ b. b) x [] ∙ append-nil x
 pub all_pushed : (batches : List (List StoreRow)) (batch : List StoreRow) → all_of (batches ++ batch ∷ []) ≡ all_of batches ++ batch
 all_pushed batches batch = flat_map-append (λ (b : List StoreRow). b) batches (batch ∷ []) ∙ ap (λ (r : List StoreRow). all_of batches ++ r) (alone batch)
 
-last_pushed : {A : Type 0} (xs : List A) (x : A) → last_of (xs ++ x ∷ []) ≡ Some x
+pub last_pushed : {A : Type 0} (xs : List A) (x : A) → last_of (xs ++ x ∷ []) ≡ Some x
 last_pushed [] x = refl
 last_pushed (y ∷ []) x = refl
 last_pushed (y ∷ z ∷ xs) x = last_pushed (z ∷ xs) x
@@ -47,7 +47,7 @@ continue_push bounds mode before [] batch all next = (subst (λ (r : List StoreR
 continue_push bounds mode before (b ∷ batches) batch all next =
     (all.0, continue_push bounds mode (before ++ b) batches batch all.1 (subst (λ (r : List StoreRow). Continues bounds mode r batch) (sym (all_first before b batches)) next))
 
-continue_last : (bounds : Bounds) (mode : Mode) (before : List StoreRow) (batches : List (List StoreRow)) (batch : List StoreRow) → AllContinue bounds mode before (batches ++ batch ∷ []) → AllContinue bounds mode before batches × Continues bounds mode (before ++ all_of batches) batch
+pub continue_last : (bounds : Bounds) (mode : Mode) (before : List StoreRow) (batches : List (List StoreRow)) (batch : List StoreRow) → AllContinue bounds mode before (batches ++ batch ∷ []) → AllContinue bounds mode before batches × Continues bounds mode (before ++ all_of batches) batch
 continue_last bounds mode before [] batch all = (tt, subst (λ (r : List StoreRow). Continues bounds mode r batch) (sym (append-nil before)) all.0)
 continue_last bounds mode before (b ∷ batches) batch all =
     let rest = continue_last bounds mode (before ++ b) batches batch all.1 in
@@ -77,7 +77,7 @@ zip_last R (x ∷ xs) (b ∷ ys) y all =
 
 -- ---- one reading
 
-one_reading : Apart → (m : Mode) (xs ys : List (List StoreRow)) (payloads : List (List ℕ)) → AllZip (IsPayload m) xs payloads → AllZip (IsPayload m) ys payloads → xs ≡ ys
+pub one_reading : Apart → (m : Mode) (xs ys : List (List StoreRow)) (payloads : List (List ℕ)) → AllZip (IsPayload m) xs payloads → AllZip (IsPayload m) ys payloads → xs ≡ ys
 one_reading apart m [] [] [] a b = refl
 one_reading apart m [] [] (p ∷ ps) a b = absurd a
 one_reading apart m [] (y ∷ ys) [] a b = absurd b
@@ -87,7 +87,7 @@ one_reading apart m (x ∷ xs) [] (p ∷ ps) a b = absurd b
 one_reading apart m (x ∷ xs) (y ∷ ys) (p ∷ ps) a b =
     ap (λ (r : List StoreRow). r ∷ xs) (apart m m x y p a.0 b.0).1 ∙ ap (λ (r : List (List StoreRow)). y ∷ r) (one_reading apart m xs ys ps a.1 b.1)
 
-one_mode : Apart → (m n : Mode) (xs ys : List (List StoreRow)) (payloads : List (List ℕ)) → payloads ≢ [] → AllZip (IsPayload m) xs payloads → AllZip (IsPayload n) ys payloads → m ≡ n
+pub one_mode : Apart → (m n : Mode) (xs ys : List (List StoreRow)) (payloads : List (List ℕ)) → payloads ≢ [] → AllZip (IsPayload m) xs payloads → AllZip (IsPayload n) ys payloads → m ≡ n
 one_mode apart m n xs ys [] some a b = absurd (some refl)
 one_mode apart m n [] ys (p ∷ ps) some a b = absurd a
 one_mode apart m n (x ∷ xs) [] (p ∷ ps) some a b = absurd b

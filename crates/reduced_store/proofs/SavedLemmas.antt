@@ -1,6 +1,6 @@
 -- The rows as the last commit left them, while rows are added and extended.
 use Rattle.std.proofs.Common.{◌≡◌, ◌≢◌, ◌∙◌, ℕ, zero, suc, ◌+◌, ◌<◌, ◌≤◌, List, [], ◌∷◌, ◌++◌, length, get_or, take, Option, Some, None, true, max, refl, sym, ap, subst, arith}
-use Rattle.std.specs.Option.{unwrap_or, option_map, ForSome}
+use Rattle.std.specs.Option.{unwrap_or}
 use Rattle.std.proofs.lemmas.List.{take-append-le}
 use Rattle.std.proofs.Math.Seq.{take-length}
 use Rattle.flow_base.specs.declared.types.Flow.{Flow}
@@ -11,8 +11,8 @@ use Rattle.reach_model.proofs.Numbering.{known_push}
 use Rattle.reach_rows.specs.Kept.{AreRows, ComesAfter, GoesOn}
 use Rattle.reach_rows.proofs.RowLemmas.{rows_push, rows_extended}
 use Rattle.store_check.proofs.Growing.{firsts_same}
-use Rattle.reduced_store.specs.Held.{Held, told_if}
-use Rattle.reduced_store.proofs.HeldLemmas.{told_rows, told_maps, changed_length, changed_is_after, firsts_of_push}
+use Rattle.reduced_store.specs.Held.{Held}
+use Rattle.reduced_store.proofs.HeldLemmas.{changed_length, changed_is_after, firsts_of_push}
 use Rattle.reach_rows.specs.declared.rows.Mark.{Mark}
 use Rattle.store_check.specs.Store.{changed_at, extended}
 use Rattle.stored.specs.Batch.{mark_of}
@@ -70,29 +70,27 @@ pub saved_opened : (find : ℕ → Option Mark) (count : ℕ) (R : List Row) →
 saved_opened find count R none all = ap (λ (n : ℕ). take n (put_back find 0 R)) all ∙ ap (take (length R)) (none_put_back find 0 R none) ∙ take-length R
 
 -- rows that grow stay lawful, if they are
-pub push_lawful : (h g : Held) (f : Flow) → h ≡ g → ForSome (told_if g.lawful g.rows) (λ R. ComesAfter R f) → GoesOn (known (firsts g.rows)) f
+pub push_lawful : (h g : Held) (f : Flow) → h ≡ g → ComesAfter g.rows f → GoesOn (known (firsts g.rows)) f
     → h.lawful ≡ true → AreRows h.rows → AreRows (h.rows ++ row_of f ∷ [])
 push_lawful h g f same later numbered =
-    subst (λ (x : Held). x.lawful ≡ true → AreRows x.rows → AreRows (x.rows ++ row_of f ∷ [])) (sym same) (λ so are. rows_push are (later g.rows (told_rows g.lawful g.rows so)) numbered)
+    subst (λ (x : Held). x.lawful ≡ true → AreRows x.rows → AreRows (x.rows ++ row_of f ∷ [])) (sym same) (λ so are. rows_push are later numbered)
 
 pub set_lawful : (h g : Held) (i : ℕ) (f : Flow) (mark : Mark) → h ≡ g → mark ≡ mark_of f → i < length g.rows
-    → ForSome (told_if g.lawful g.rows) (λ R. (d : Row) → SamePair (get_or R i d).last f) → ForSome (told_if g.lawful g.rows) (λ R. ComesAfter R f)
+    → ((d : Row) → SamePair (get_or g.rows i d).last f) → ComesAfter g.rows f
     → h.lawful ≡ true → AreRows h.rows → AreRows (changed_at i (extended mark) h.rows)
 set_lawful h g i f mark same is within pair later =
     subst (λ (x : Held). x.lawful ≡ true → AreRows x.rows → AreRows (changed_at i (extended mark) x.rows)) (sym same) (λ so are.
-    let told = told_rows g.lawful g.rows so in
     subst (λ (m : Mark). AreRows (changed_at i (extended m) g.rows)) (sym is)
-    (subst AreRows (sym (changed_is_after g.rows i f within (pair g.rows told))) (rows_extended are (later g.rows told) i within (pair g.rows told))))
+    (subst AreRows (sym (changed_is_after g.rows i f within pair)) (rows_extended are later i within pair)))
 
--- how they are told then
-pub set_told : (h new g : Held) (i : ℕ) (f : Flow) (mark : Mark) → h ≡ g → mark ≡ mark_of f → new ≡ record h { rows = changed_at i (extended mark) h.rows } → i < length g.rows
-    → ForSome (told_if g.lawful g.rows) (λ R. (d : Row) → SamePair (get_or R i d).last f)
-    → told_if new.lawful new.rows ≡ option_map (λ R. rows_after R f (Extend i)) (told_if g.lawful g.rows)
-set_told h new g i f mark same is now within pair =
-    ap (λ (x : Held). told_if x.lawful x.rows) now
-    ∙ ap (λ (x : Held). told_if x.lawful (changed_at i (extended mark) x.rows)) same
-    ∙ told_maps g.lawful g.rows (changed_at i (extended mark) g.rows) (λ S. rows_after S f (Extend i)) (λ so.
-    ap (λ (m : Mark). changed_at i (extended m) g.rows) is ∙ changed_is_after g.rows i f within (pair g.rows (told_rows g.lawful g.rows so)))
+-- which they are then
+pub set_after : (h new g : Held) (i : ℕ) (f : Flow) (mark : Mark) → h ≡ g → mark ≡ mark_of f → new ≡ record h { rows = changed_at i (extended mark) h.rows } → i < length g.rows
+    → ((d : Row) → SamePair (get_or g.rows i d).last f) → new.rows ≡ rows_after g.rows f (Extend i)
+set_after h new g i f mark same is now within pair =
+    ap (λ (x : Held). x.rows) now
+    ∙ ap (λ (x : Held). changed_at i (extended mark) x.rows) same
+    ∙ ap (λ (m : Mark). changed_at i (extended m) g.rows) is
+    ∙ changed_is_after g.rows i f within pair
 
 pub set_same : (h new g : Held) (i : ℕ) (mark : Mark) → h ≡ g → new ≡ record h { rows = changed_at i (extended mark) h.rows }
     → (length new.rows ≡ length g.rows) × (known (firsts new.rows) ≡ known (firsts g.rows))

@@ -1,6 +1,8 @@
 pub mod Held
 pub mod Filling
 pub mod Reading
+pub mod Restoring
+pub mod Storing
 pub mod Opening
 pub mod Saving
 pub mod OnDisk

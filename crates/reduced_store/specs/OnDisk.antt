@@ -1,9 +1,10 @@
 -- A store, as contracts see it.
 use Rattle.std.proofs.Common.{◌∙◌, refl}
-use Rattle.std.specs.Prelude.{◌≡◌, ◌⊎◌, ℕ, ◌≤◌, List, ◌++◌, length, map, drop, Result, IsErrOf, ⊤}
+use Rattle.std.specs.Prelude.{◌≡◌, ◌⊎◌, ℕ, ◌≤◌, true, List, ◌++◌, length, map, drop, Option, Result, IsErrOf, ⊤}
 use Rattle.std.specs.List.{flat_map}
 use Rattle.reach_model.specs.declared.modes.Mode.{Mode}
 use Rattle.reach_model.specs.Rows.{Row, firsts}
+use Rattle.reach_rows.specs.declared.rows.Mark.{Mark}
 use Rattle.row_codec.specs.declared.rows.StoreRow.{StoreRow}
 use Rattle.row_codec.specs.declared.rows.StoreRow.TheVariants.{Kept, Extend}
 use Rattle.row_codec.specs.Payload.{header, IsPayload}
@@ -14,6 +15,7 @@ use Rattle.batch_log.specs.declared.log.CommitFault.{CommitFault}
 use Rattle.batch_log.specs.declared.log.CommitFault.TheVariants.{NoMemory}
 use Rattle.reach_rows.specs.Alike.{GoesAlong}
 use Rattle.reduced_store.specs.Held.{Held, HasRoom}
+use Rattle.reduced_store.specs.Saving.{IsSince}
 
 -- its disk, the log of the disk's batches, its rows, the rows as the last commit left them, and room to list so many rows
 -- that are extended
@@ -23,6 +25,11 @@ pub record OnDisk (D : Type 0) : Type 0 where
   pub rows : Held
   pub saved : List Row
   pub listing_room : ℕ
+
+-- The rows are lawful, and the first so many are those of the last commit, of which these earlier last marks are listed.
+pub record AreLawfulSince (count : ℕ) (find : ℕ → Option Mark) (held : Held) : Type 0 where
+  pub lawful : held.lawful ≡ true
+  pub since : IsSince count find held.rows
 
 -- room for so many flows, each of which may add a row or extend one
 abbrev pub HasRoomFor : {D : Type 0} → OnDisk D → ℕ → Type 0

@@ -1,5 +1,5 @@
 -- What opening a disk finds.
-use Rattle.std.specs.Prelude.{◌≡◌, ◌⊎◌, ℕ, suc, ◌-◌, ◌<◌, List, length, take, slice_get, slice_index_or, Option}
+use Rattle.std.specs.Prelude.{◌≡◌, ◌⊎◌, ℕ, suc, ◌-◌, ◌<◌, List, length, take, slice_get, slice_index_or, Option, Some}
 use Rattle.std.specs.Option.{option_map}
 use Rattle.std.specs.List.{AllZip}
 use Rattle.flow_base.specs.declared.limits.Limits.{Limits}
@@ -11,6 +11,9 @@ use Rattle.batch_log.specs.Finding.{places}
 use Rattle.batch_log.specs.Log.{Log}
 use Rattle.batch_log.specs.Payloads.{IsThere}
 use Rattle.store_check.specs.Conditions.{Bounds, bounds_of}
+use Rattle.store_check.specs.Store.{rows_of}
+use Rattle.stored.specs.Words.{all_of}
+use Rattle.reduced_store.specs.Filling.{AreApart}
 use Rattle.reduced_store.specs.Reading.{IsRead, AreNoStore, IsFound}
 use Rattle.reduced_store.specs.declared.reading.Found.{Found}
 
@@ -38,8 +41,20 @@ BeginsLast limits bytes place = (payloads : List (List ℕ)) × IsStore limits.p
 abbrev pub IsStoreRead : Limits → List ℕ → (Log × Found) → Type 0
 IsStoreRead limits bytes read = (payloads : List (List ℕ)) × HasBatches limits.payload payloads read.0.last bytes × IsFound (bounds_of limits) payloads read.1
 
--- The batches break at this place, or they are whole and that of this gate is the first that doesn't go on with the store.
+-- The bytes have the batches of a store, and two of its rows have one last place. The place is that of the last batch's gate.
+pub record RepeatsAPlace (limits : Limits) (place : ℕ) (bytes : List ℕ) : Type 0 where
+  pub payloads : List (List ℕ)
+  pub store : IsStore limits.payload payloads bytes
+  pub mode : Mode
+  pub batches : List (List StoreRow)
+  pub read : IsRead (bounds_of limits) mode batches payloads
+  pub repeats : ¬ AreApart (rows_of (all_of batches))
+  pub last : Some place ≡ last_gate (places 0 payloads)
+
+-- The batches break at this place, or they are whole and that of this gate is the first that doesn't go on with the store, or
+-- all of them do and two rows of the store have one last place.
 abbrev pub IsBadAt : Limits → ℕ → List ℕ → Type 0
 IsBadAt limits place bytes =
     BreaksAt limits.payload place bytes
-    ⊎ ((payloads : List (List ℕ)) × IsStore limits.payload payloads bytes × StopsAt (bounds_of limits) (places 0 payloads) payloads place)
+    ⊎ (((payloads : List (List ℕ)) × IsStore limits.payload payloads bytes × StopsAt (bounds_of limits) (places 0 payloads) payloads place)
+    ⊎ RepeatsAPlace limits place bytes)

@@ -105,5 +105,6 @@ pub record IsFound (bounds : Bounds) (payloads : List (List ℕ)) (f : Found) : 
   pub batches : List (List StoreRow)
   pub mode : IsOfMode bounds batches payloads f.mode
   pub rows : f.rows.rows ≡ rows_of (all_of batches)
+  pub sound : AreSound bounds.entities (all_of batches)
   pub lawful : (f.rows.lawful ≡ true) ↔ AreApart (rows_of (all_of batches))
   pub others : f.others ≡ table_rows batches ++ closing_rows batches

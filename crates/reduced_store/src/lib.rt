@@ -8,8 +8,9 @@
 //! last commit, and the last marks that rows had then which were extended since, so that it is known
 //! what of the rows is new. A commit puts that on the disk.
 //!
-//! The conditions on a store let two rows have one last place, which the laws of rows forbid. So the
-//! rows of a store are lawful or not. Rows that a mode keeps always are.
+//! The conditions on a store let two rows have one last place, which the laws of rows forbid. No log
+//! leaves such a store, since rows that a mode keeps are lawful. It is refused when it is opened, so the
+//! rows of a `Store` are lawful. Rows that are still being read may be lawful or not.
 #![tactic(auto)]
 
 mod apart;
@@ -24,7 +25,10 @@ mod rows;
 mod spelling;
 mod store;
 
-pub use laws::{a_commit_by_rows_is_that_of_its_moments, rows_of_a_mode_are_apart};
+pub use laws::{
+    a_commit_by_rows_is_that_of_its_moments, others_say_what_all_rows_say,
+    rows_of_a_mode_are_apart, what_is_found_can_be_restored, what_is_found_was_stored,
+};
 pub use open::{StoreRead, read_store};
 pub use opened::{OpenFault, Opened, Unopened};
 pub use reading::Found;

@@ -1,5 +1,5 @@
 //! Opening a disk: one sync, and then reads alone.
-ghost use Rattle.std.specs.Prelude.{◌≡◌, ◌⊎◌, ℕ, List, IfOk, IsErrOf};
+ghost use Rattle.std.specs.Prelude.{◌≡◌, ◌⊎◌, [], ℕ, List, true, None, if◌then◌else◌, IfOk, IsErrOf};
 ghost use Rattle.std.specs.List.{All};
 ghost use Rattle.outside.specs.Disk.{IsDurable, OnlyLooks, Settles, UsesDisk};
 ghost use Rattle.batch_log.specs.Log.{log_of};
@@ -10,6 +10,7 @@ ghost use Rattle.reduced_store.specs.Opening.{AreThere, BeginsLast, StopsAt, IsS
 ghost use Rattle.reduced_store.specs.Reading.{IsFound};
 
 use crate::reading::{Found, Reading};
+use crate::rows::StoreRows;
 use batch_log::{Batch, BatchLog, LogFault, listed_batches_have_their_payloads, read_payload};
 use flow_base::Limits;
 use outside::Disk;
@@ -27,7 +28,7 @@ pub struct StoreRead {
 /// Opens a disk: its log, and what its store holds. It makes one sync, so that nothing of an earlier
 /// run is pending, and then only reads. A bad store has the place of its first gate that is neither
 /// closed nor that of a whole batch, and else that of the first batch that doesn't go on with the
-/// store.
+/// store, and else, if two rows have one last place, that of the last batch's gate.
 pub fn read_store<D: Disk>(
     alloc: Global,
     limits: &Limits,
@@ -41,6 +42,7 @@ pub fn read_store<D: Disk>(
     ensures last { (D.state disk.old).told
         → IfOk result (λ read. BeginsLast limits.now (D.state disk.old).reads read.last) }
     ensures log { IfOk result (λ read. read.log ≡ log_of limits.now read.log.last) }
+    ensures lawful { IfOk result (λ read. read.found.rows.lawful ≡ true) }
     ensures bad { (D.state disk.old).told → (place : ℕ) → IsErrOf result (fault.BadStore place)
         → IsBadAt limits.now place (D.state disk.old).reads }
     ensures durable { (D.state disk.old).told
@@ -55,7 +57,17 @@ pub fn read_store<D: Disk>(
     let (log, batches) = BatchLog::open_on(alloc, limits, disk)?;
     let found = read_batches(alloc, limits, disk, batches.as_slice())?;
     let last = last_gate(batches.as_slice());
-    Ok(StoreRead { log, last, found })
+    match unless_lawful(last, &found.rows) {
+        Some(place) => Err(LogFault::BadStore(place)),
+        None => Ok(StoreRead { log, last, found }),
+    }
+}
+
+// The place of the last batch's gate, if two rows have one last place.
+fn unless_lawful(last: Option<u64>, rows: &StoreRows) -> Option<u64>
+    ensures { result ≡ (if rows.now.lawful then None else last) }
+{
+    if rows.is_lawful() { None } else { last }
 }
 
 // The place of the last batch's gate.
@@ -81,6 +93,7 @@ fn read_batches<D: Disk>(
     ensures store { (D.state disk.old).told → (payloads : List (List ℕ))
         → AreThere (D.state disk.old).reads batches.now payloads
         → IfOk result (IsFound (bounds_of limits.now) payloads) }
+    ensures none { batches.now ≡ [] → IfOk result (IsFound (bounds_of limits.now) []) }
     ensures bad { (D.state disk.old).told → (payloads : List (List ℕ))
         → AreThere (D.state disk.old).reads batches.now payloads
         → (place : ℕ) → IsErrOf result (fault.BadStore place)

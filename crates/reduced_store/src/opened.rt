@@ -10,7 +10,8 @@ use row_codec::StoreRow;
 
 /// Why a store wasn't opened: a call on the disk failed, it is no store, it is one of another mode,
 /// or an allocation failed. A bad store has the place of its first gate that is neither closed nor
-/// that of a whole batch, and else that of the first batch that doesn't go on with the store.
+/// that of a whole batch, and else that of the first batch that doesn't go on with the store, and else,
+/// if two rows have one last place, that of the last batch's gate.
 #[derive(Clone, Copy, Debug, PartialEq, Eq)]
 pub enum OpenFault {
     StoreFault,

@@ -2,7 +2,8 @@
 //!
 //! The conditions on a store don't ask that no two rows have one last place, and the laws of rows
 //! do. So the rows are judged once, when the store is opened, and are lawful or not from then on. What
-//! is said of rows is said of lawful ones.
+//! is said of rows is said of lawful ones. Opening refuses a store of others, so a `Store` has lawful
+//! rows.
 ghost use Rattle.std.specs.Prelude.{◌≡◌, ◌-◌, ◌+◌, ◌<◌, ◌≤◌, ◌∷◌, ◌++◌, ◌↔◌, [], ℕ, None, true, false, map, fold, length, vec_len, vec_capacity, slice_index_or, IfOk, IfSome, OnOk};
 ghost use Rattle.std.specs.List.{All};
 ghost use Rattle.row_codec.specs.Rows.{CanBeSpelled};
@@ -102,6 +103,13 @@ impl StoreRows {
             self.take_row(row)?;
         }
         Ok(())
+    }
+
+    /// Whether the rows were judged lawful.
+    pub(crate) fn is_lawful(&self) -> bool
+        ensures { result ≡ self.now.lawful }
+    {
+        self.lawful
     }
 
     /// Judges rows that are in order: they are lawful if no two of them have one last place.

@@ -36,6 +36,9 @@ use std::marker::Model;
 
 /// A store on a disk: the log of the disk's batches, and the rows. Of the rows it is known what they
 /// were at the last commit: how many there were, and the last marks of those that were extended since.
+///
+/// The rows are lawful. They are read from memory, so no read of them fails, and no failed call on the
+/// disk counts as one.
 #[derive(Drop)]
 pub struct Store<D: Disk> {
     log: BatchLog,
@@ -47,8 +50,8 @@ pub struct Store<D: Disk> {
 
 impl<D: Disk> Model for Store<D> {
     ghost use Rattle.std.specs.Prelude.{take};
-    ghost use Rattle.reduced_store.specs.OnDisk.{OnDisk};
-    ghost use Rattle.reduced_store.specs.Saving.{mark_at, put_back, IsSince};
+    ghost use Rattle.reduced_store.specs.OnDisk.{OnDisk, AreLawfulSince};
+    ghost use Rattle.reduced_store.specs.Saving.{mark_at, put_back};
 
     ghost Value = { OnDisk D };
 
@@ -60,7 +63,7 @@ impl<D: Disk> Model for Store<D> {
       listing_room = a.earlier.spare;
     } };
 
-    ghost invariant = { λ a. IsSince a.count (mark_at a.earlier.all) a.rows.rows };
+    ghost invariant = { λ a. AreLawfulSince a.count (mark_at a.earlier.all) a.rows };
 }
 
 impl<D: Disk> Store<D> {
@@ -86,6 +89,7 @@ impl<D: Disk> Store<D> {
         ensures stands { (D.state disk).told → IfOk result (λ opened. (payloads : List (List ℕ))
             × LogHas opened.store.log payloads (D.state opened.store.disk).reads) }
         ensures saved { IfOk result (λ opened. opened.store.saved ≡ opened.store.rows.rows) }
+        ensures lawful { IfOk result (λ opened. opened.store.rows.lawful ≡ true) }
         ensures agree { IfOk result (λ opened. Agree opened.mode asked) }
         ensures bad { (D.state disk).told → (place : ℕ)
             → IfErr result (λ back. back.fault ≡ fault.BadStore place
@@ -260,23 +264,22 @@ impl<D: Disk> Store<D> {
 }
 
 impl<D: Disk> Rows for Store<D> {
-    ghost use Rattle.std.specs.Prelude.{◌≡◌, ◌<◌, length, IfOk, IfSome};
+    ghost use Rattle.std.specs.Prelude.{◌≡◌, ◌<◌, length, IfOk, Some};
     ghost use Rattle.reach_model.specs.Numbers.{known};
     ghost use Rattle.reach_model.specs.Rows.{firsts};
     ghost use Rattle.reach_rows.specs.Kept.{IsRowAt};
     ghost use Rattle.reach_rows.specs.Reading.{IsReading};
-    ghost use Rattle.reduced_store.specs.Held.{told_if};
     ghost use Rattle.reduced_store.specs.OnDisk.{SameBut, stores_go_along};
 
-    ghost rows = { λ s. told_if s.rows.lawful s.rows.rows };
+    ghost rows = { λ s. Some s.rows.rows };
 
     ghost count = { λ s. length s.rows.rows };
 
     ghost known = { λ s. known (firsts s.rows.rows) };
 
-    ghost faults = { λ s. D.faults s.disk };
+    ghost faults = { λ s. 0 };
 
-    ghost spent = { λ s. D.spent s.disk };
+    ghost spent = { λ s. ⊥ };
 
     ghost alike = { SameBut };
 
@@ -302,15 +305,12 @@ impl<D: Disk> Rows for Store<D> {
 
     fn row(&mut self, index: u64) -> Result<Row, RowFault>
         requires { index < length self.old.rows.rows }
-        ensures exact { IfOk result (λ row. IfSome
-            (told_if self.old.rows.lawful self.old.rows.rows) (λ R. IsRowAt R index row)) }
+        ensures exact { IfOk result (IsRowAt self.old.rows.rows index) }
         ensures ends { IfOk result (λ row. (row.from.0 < known (firsts self.old.rows.rows))
             × (row.to.0 < known (firsts self.old.rows.rows))) }
         ensures rows { self.new.rows ≡ self.old.rows }
         ensures same { SameBut self.old self.new }
-        ensures cause { IsReading (told_if self.old.rows.lawful self.old.rows.rows)
-            (D.faults self.old.disk) (D.faults self.new.disk)
-            (D.spent self.old.disk) (D.spent self.new.disk) result }
+        ensures cause { IsReading (Some self.old.rows.rows) 0 0 ⊥ ⊥ result }
     {
         let _ = &self.disk;
         Ok(self.rows.row_at(index))
@@ -321,14 +321,12 @@ impl<D: Disk> Rows for Store<D> {
 
 impl<D: Disk> Keep for Store<D> {
     ghost use Rattle.std.specs.Prelude.{◌≡◌, ◌<◌, ◌+◌, ◌++◌, ◌∷◌, [], max, length, slice_index_or, OnOk};
-    ghost use Rattle.std.specs.Option.{ForSome, option_map};
     ghost use Rattle.reach_model.specs.declared.modes.Verdict.TheVariants as Verdict;
     ghost use Rattle.reach_model.specs.Numbers.{known, beyond};
     ghost use Rattle.reach_model.specs.Rows.{Row as ARow, SamePair, firsts, row_of, rows_after};
     ghost use Rattle.reach_rows.specs.Kept.{ComesAfter, GoesOn};
     ghost use Rattle.store_check.specs.Store.{changed_at, extended};
     ghost use Rattle.stored.specs.Batch.{mark_of as flow_mark};
-    ghost use Rattle.reduced_store.specs.Held.{told_if};
     ghost use Rattle.reduced_store.specs.OnDisk.{HasRoomFor, SameBut};
 
     ghost has_room = { HasRoomFor };
@@ -345,8 +343,7 @@ impl<D: Disk> Keep for Store<D> {
     fn add(&mut self, flow: &Flow)
         requires room { (n : ℕ) × HasRoomFor self.old (n + 1) }
         requires numbered { GoesOn (known (firsts self.old.rows.rows)) flow.now }
-        requires later { ForSome (told_if self.old.rows.lawful self.old.rows.rows)
-            (λ R. ComesAfter R flow.now) }
+        requires later { ComesAfter self.old.rows.rows flow.now }
         ensures rows { self.new.rows.rows ≡ self.old.rows.rows ++ row_of flow.now ∷ [] }
         ensures known { known (firsts self.new.rows.rows)
             ≡ max (known (firsts self.old.rows.rows)) (beyond flow.now) }
@@ -359,15 +356,13 @@ impl<D: Disk> Keep for Store<D> {
     fn extend(&mut self, row: u64, flow: &Flow)
         requires room { (n : ℕ) × HasRoomFor self.old (n + 1) }
         requires row { row < length self.old.rows.rows }
-        requires pair { ForSome (told_if self.old.rows.lawful self.old.rows.rows)
-            (λ R. (d : ARow) → SamePair (slice_index_or R row d).last flow.now) }
-        requires later { ForSome (told_if self.old.rows.lawful self.old.rows.rows)
-            (λ R. ComesAfter R flow.now) }
+        requires pair { (d : ARow)
+            → SamePair (slice_index_or self.old.rows.rows row d).last flow.now }
+        requires later { ComesAfter self.old.rows.rows flow.now }
         ensures rows { self.new.rows.rows
             ≡ changed_at row (extended (flow_mark flow.now)) self.old.rows.rows }
-        ensures told { told_if self.new.rows.lawful self.new.rows.rows
-            ≡ option_map (λ R. rows_after R flow.now (Verdict.Extend row))
-            (told_if self.old.rows.lawful self.old.rows.rows) }
+        ensures after { self.new.rows.rows
+            ≡ rows_after self.old.rows.rows flow.now (Verdict.Extend row) }
         ensures counts { (length self.new.rows.rows ≡ length self.old.rows.rows)
             × (known (firsts self.new.rows.rows) ≡ known (firsts self.old.rows.rows)) }
         ensures same { SameBut self.old self.new }
@@ -385,10 +380,12 @@ fn admit<D: Disk>(
     read: StoreRead,
     disk: D,
 ) -> Result<Opened<D>, Unopened<D>>
+    requires { read.found.rows.lawful ≡ true }
     ensures store { IfOk result (λ opened.
         (opened.store.log ≡ read.log) × (found_of opened ≡ read.found)) }
     ensures last { IfOk result (λ opened. opened.last ≡ read.last) }
     ensures saved { IfOk result (λ opened. opened.store.saved ≡ opened.store.rows.rows) }
+    ensures lawful { IfOk result (λ opened. opened.store.rows.lawful ≡ true) }
     ensures agree { IfOk result (λ _. Agree read.found.mode asked) }
     ensures wrong { IfErr result (λ back. IsWrong read.found.mode asked back.fault) }
     ensures disk { disk_after result ≡ disk }

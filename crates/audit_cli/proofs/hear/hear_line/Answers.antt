@@ -3,7 +3,7 @@ use Rattle.std.proofs.lemmas.List.{take-append-drop}
 use Rattle.std.proofs.lemmas.Result.{err_from_is_err_and}
 use Rattle.audit_lex.specs.History.{lines_of, with_bytes}
 use Rattle.audit_lex.specs.LineCut.{line_of}
-use Rattle.audit_cli.specs.Dialogue.{nothing_beyond}
+use Rattle.audit_cli.specs.Dialogue.{kind_of, nothing_beyond}
 use Rattle.audit_cli.specs.Hearing.{Heard, Holds}
 use Rattle.audit_cli.proofs.HearLemmas.{heard_line, heard_longer, heard_no_line, heard_nothing}
 use Rattle.audit_cli.proofs.hear.hear_line.Goals as goal
@@ -22,7 +22,7 @@ returns-in_err-turn-in-Some-clause-heard g c = λ limits m h at holds.
     let held : Holds limits c.next.new.self (with_bytes h part) = record { limit = c.next.ensures.limit ∙ holds.limit; stands = c.in_ok-count.ensures.stands h holds.stands } in
     let line = heard_line _ limits nothing_beyond _ _ _ _ _ _ m h part given.0 _ (c.question_in.ensures limits.question (length (lines_of h) + 1) given.0 told) held given.1 (c.in_err-turn-in-Some.ensures.talk limits m at) in
     let longer = heard_longer c.lines_stay.ensures.stay _ limits nothing_beyond _ _ _ _ _ _ m h part (drop c.in_ok-count.count c.args.piece.now) tt line in
-    rw (p.1, p.2) (subst (λ (xs : List ℕ). Heard g.R.Reducer.mode limits nothing_beyond c.next.new.self c.take_turn.new.session.engine (g.L.Source.left c.take_turn.new.log) (g.O.Sink.written c.args.out.now) (g.O.Sink.written c.take_turn.new.out) (Err c.in_err-turn-in-Some.field-0.0) m h xs)
+    rw (p.1, p.2) (subst (λ (xs : List ℕ). Heard (kind_of g.R.Reducer.mode c.args.takes) limits nothing_beyond c.next.new.self c.take_turn.new.session.engine (g.L.Source.left c.take_turn.new.log) (g.O.Sink.written c.args.out.now) (g.O.Sink.written c.take_turn.new.out) (Err c.in_err-turn-in-Some.field-0.0) m h xs)
     (take-append-drop c.in_ok-count.count c.args.piece.now) longer)
 
 pub returns-in-None-clause-heard : goal.returns-in-None-clause-heard

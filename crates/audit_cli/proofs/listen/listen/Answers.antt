@@ -3,7 +3,7 @@ use Rattle.std.proofs.lemmas.List.{take-append-drop}
 use Rattle.std.proofs.lemmas.Result.{err_from_is_err_and}
 use Rattle.audit_cli.specs.declared.halt.Turn.TheVariants as turn
 use Rattle.audit_cli.specs.declared.halt.Halt.TheVariants as halt
-use Rattle.audit_cli.specs.Dialogue.{input_full}
+use Rattle.audit_cli.specs.Dialogue.{kind_of, input_full}
 use Rattle.audit_cli.specs.Dialogue.{nothing_beyond}
 use Rattle.audit_cli.specs.Hearing.{Heard}
 use Rattle.audit_cli.specs.Listening.{PassesRoom}
@@ -27,7 +27,7 @@ returns-in_err-hear-clause-heard g c = λ m h q at holds told.
     let heard = c.in_err-hear.ensures.heard limits m h at holds in
     let longer = heard_longer c.lines_stay.ensures.stay _ limits _ _ _ _ _ _ _ m h _ (drop c.min-allowed.result q) tt (heard_weaker _ limits nothing_beyond (PassesRoom limits room h q) _ _ _ _ _ _ m h _ (λ answered full none. absurd none) heard) in
     let whole : take c.min-allowed.result c.read.new.buf ++ drop c.min-allowed.result q ≡ q = rw same (take-append-drop c.min-allowed.result q) in
-    rw (p.1, p.2) (subst (λ (xs : List ℕ). Heard g.R.Reducer.mode limits (PassesRoom limits room h q) c.hear.new.cut c.hear.new.session.engine (g.L.Source.left c.hear.new.log) (g.O.Sink.written c.args.out.now) (g.O.Sink.written c.hear.new.out) (Err c.in_err-hear.field-0.0) m h xs) whole longer)
+    rw (p.1, p.2) (subst (λ (xs : List ℕ). Heard (kind_of g.R.Reducer.mode c.args.takes) limits (PassesRoom limits room h q) c.hear.new.cut c.hear.new.session.engine (g.L.Source.left c.hear.new.log) (g.O.Sink.written c.args.out.now) (g.O.Sink.written c.hear.new.out) (Err c.in_err-hear.field-0.0) m h xs) whole longer)
 
 pub returns-then-allowed-count-clause-heard : goal.returns-then-allowed-count-clause-heard
 returns-then-allowed-count-clause-heard g c = λ m h q at holds told.
@@ -42,7 +42,7 @@ returns-then-allowed-count-clause-heard g c = λ m h q at holds told.
     let passes = questions_pass _ limits _ _ _ _ _ m h (take c.min-allowed.result c.read.new.buf) q room (same ∙ ap (λ (n : ℕ). take n q) all) over heard in
     let full = heard_full c.lines_stay.ensures.stay _ limits (PassesRoom limits room h q) _ _ _ _ _ m h _ (drop c.min-allowed.result q) heard passes in
     let whole : take c.min-allowed.result c.read.new.buf ++ drop c.min-allowed.result q ≡ q = rw same (take-append-drop c.min-allowed.result q) in
-    subst (λ (xs : List ℕ). Heard g.R.Reducer.mode limits (PassesRoom limits room h q) c.hear.new.cut c.hear.new.session.engine (g.L.Source.left c.hear.new.log) (g.O.Sink.written c.args.out.now) (g.O.Sink.written c.hear.new.out) (Err (halt.Full (input_full limits))) m h xs) whole full
+    subst (λ (xs : List ℕ). Heard (kind_of g.R.Reducer.mode c.args.takes) limits (PassesRoom limits room h q) c.hear.new.cut c.hear.new.session.engine (g.L.Source.left c.hear.new.log) (g.O.Sink.written c.args.out.now) (g.O.Sink.written c.hear.new.out) (Err (halt.Full (input_full limits))) m h xs) whole full
 
 pub returns-in-Ended-clause-heard : goal.returns-in-Ended-clause-heard
 returns-in-Ended-clause-heard g c = λ m h q at holds told.
@@ -53,7 +53,7 @@ returns-in-Ended-clause-heard g c = λ m h q at holds told.
     let heard = rw c.in-Ended.is at c.in_ok-hear.ensures.heard limits m h at holds in
     let longer = heard_longer c.lines_stay.ensures.stay _ limits _ _ _ _ _ _ _ m h _ (drop c.min-allowed.result q) tt (heard_weaker _ limits nothing_beyond (PassesRoom limits room h q) _ _ _ _ _ _ m h _ (λ answered full none. absurd none) heard) in
     let whole : take c.min-allowed.result c.read.new.buf ++ drop c.min-allowed.result q ≡ q = rw same (take-append-drop c.min-allowed.result q) in
-    subst (λ (xs : List ℕ). Heard g.R.Reducer.mode limits (PassesRoom limits room h q) c.hear.new.cut c.hear.new.session.engine (g.L.Source.left c.hear.new.log) (g.O.Sink.written c.args.out.now) (g.O.Sink.written c.hear.new.out) (Ok turn.Ended) m h xs) whole longer
+    subst (λ (xs : List ℕ). Heard (kind_of g.R.Reducer.mode c.args.takes) limits (PassesRoom limits room h q) c.hear.new.cut c.hear.new.session.engine (g.L.Source.left c.hear.new.log) (g.O.Sink.written c.args.out.now) (g.O.Sink.written c.hear.new.out) (Ok turn.Ended) m h xs) whole longer
 
 pub returns-else-allowed-count-clause-heard : goal.returns-else-allowed-count-clause-heard
 returns-else-allowed-count-clause-heard g c = λ m h q at holds told.
@@ -65,7 +65,7 @@ returns-else-allowed-count-clause-heard g c = λ m h q at holds told.
     let heard = rw c.in-More.is at c.in_ok-hear.ensures.heard limits m h at holds in
     let weaker = heard_weaker _ limits nothing_beyond (PassesRoom limits room h q) _ _ _ _ _ _ m h _ (λ answered full none. absurd none) heard in
     let whole : take c.min-allowed.result c.read.new.buf ≡ take c.in-Ok.count q = same ∙ ap (λ (n : ℕ). take n q) all in
-    subst (λ (xs : List ℕ). Heard g.R.Reducer.mode limits (PassesRoom limits room h q) c.hear.new.cut c.hear.new.session.engine (g.L.Source.left c.hear.new.log) (g.O.Sink.written c.args.out.now) (g.O.Sink.written c.hear.new.out) (Ok turn.More) m h xs) whole weaker
+    subst (λ (xs : List ℕ). Heard (kind_of g.R.Reducer.mode c.args.takes) limits (PassesRoom limits room h q) c.hear.new.cut c.hear.new.session.engine (g.L.Source.left c.hear.new.log) (g.O.Sink.written c.args.out.now) (g.O.Sink.written c.hear.new.out) (Ok turn.More) m h xs) whole weaker
 
 pub returns-in-Ended-clause-closes : goal.returns-in-Ended-clause-closes
 returns-in-Ended-clause-closes g c = λ m h q at holds told.

@@ -5,7 +5,7 @@ use Rattle.std.proofs.Math.Seq.{take-add}
 use Rattle.audit_lex.specs.History.{with_bytes}
 use Rattle.audit_cli.specs.declared.halt.Turn.TheVariants as turn
 use Rattle.audit_cli.specs.declared.halt.Halt.TheVariants as halt
-use Rattle.audit_cli.specs.Dialogue.{QuestionsStop, nothing_beyond, asks, lines_in}
+use Rattle.audit_cli.specs.Dialogue.{kind_of, QuestionsStop, nothing_beyond, asks, lines_in}
 use Rattle.audit_cli.specs.Course.{EndTalked}
 use Rattle.audit_cli.specs.Hearing.{Heard}
 use Rattle.audit_cli.specs.Listening.{PassesRoom}
@@ -22,6 +22,7 @@ loop-buf-init g c = record {
   left = λ q told. told;
   part = λ q told. omega arith;
   heard = λ m q at told. heard_none _ c.args.limits.now nothing_beyond _ _ _ _ m [] at (record { limit = c.new-cut.ensures.limit; stands = c.new-cut.ensures.nothing });
+  alike = g.met.K.Rows.goes_along.same c.args.session.now.engine.joined.keep;
   log_up = search rules;
   questions_up = search rules;
   out_up = search rules;
@@ -39,7 +40,7 @@ returns-in_err-count-clause-talked g c = λ m q at told.
     let carries = questions_pass_after _ limits n _ _ _ _ _ m q within part first in
     let both = heard_both _ limits (PassesRoom limits (limits.input - n) (with_bytes [] (take n q)) (drop n q)) (QuestionsStop limits q) _ _ _ _ _ _ _ _ _ _ m [] _ _ first carries second in
     let ended = end_heard c.lines_stay.ensures.stay _ limits (QuestionsStop limits q) _ _ _ _ _ _ m _ tt both in
-    rw (p.1, p.2) (subst (λ (xs : List ℕ). EndTalked g.R.Reducer.mode limits (QuestionsStop limits q) c.listen.new.session.engine (g.L.Source.left c.listen.new.log) (g.O.Sink.written c.args.out.now) (g.O.Sink.written c.listen.new.out) (Err c.in_err-count.field-0.0) m (asks limits (lines_in xs))) (take-append-drop n q) ended)
+    rw (p.1, p.2) (subst (λ (xs : List ℕ). EndTalked (kind_of g.R.Reducer.mode c.args.takes) limits (QuestionsStop limits q) c.listen.new.session.engine (g.L.Source.left c.listen.new.log) (g.O.Sink.written c.args.out.now) (g.O.Sink.written c.listen.new.out) (Err c.in_err-count.field-0.0) m (asks limits (lines_in xs))) (take-append-drop n q) ended)
 
 pub loop-buf-preserved : goal.loop-buf-preserved
 loop-buf-preserved g c =
@@ -61,7 +62,8 @@ loop-buf-preserved g c =
           let second = rw c.in-Piece.is at c.in_ok-count.ensures.heard first.talked.to (with_bytes [] (take n q)) (drop n q) first.talked.at first.holds (c.loop-buf.invariant.left q told) in
           let more = heard_more _ limits (PassesRoom limits (limits.input - n) (with_bytes [] (take n q)) (drop n q)) nothing_beyond _ _ _ _ _ _ _ _ second in
           let both = heard_both _ limits nothing_beyond nothing_beyond _ _ _ _ _ _ _ _ _ _ m [] _ _ first (carries_none (asks limits first.answered) nothing_beyond) more in
-          subst (λ (xs : List ℕ). Heard g.R.Reducer.mode limits nothing_beyond c.listen.new.cut c.listen.new.session.engine (g.L.Source.left c.listen.new.log) (g.O.Sink.written c.args.out.now) (g.O.Sink.written c.listen.new.out) (Ok turn.More) m [] xs) (sym (take-add n k q)) both;
+          subst (λ (xs : List ℕ). Heard (kind_of g.R.Reducer.mode c.args.takes) limits nothing_beyond c.listen.new.cut c.listen.new.session.engine (g.L.Source.left c.listen.new.log) (g.O.Sink.written c.args.out.now) (g.O.Sink.written c.listen.new.out) (Ok turn.More) m [] xs) (sym (take-add n k q)) both;
+      alike = g.met.K.Rows.goes_along.next _ _ _ c.loop-buf.invariant.alike c.in_ok-count.ensures.alike;
       log_up = search rules;
       questions_up = search rules;
       out_up = search rules;
@@ -78,7 +80,7 @@ returns-in-Ended-clause-talked g c = λ m q at told.
     let carries = questions_pass_after _ limits n _ _ _ _ _ m q within part first in
     let both = heard_both _ limits (PassesRoom limits (limits.input - n) (with_bytes [] (take n q)) (drop n q)) (QuestionsStop limits q) _ _ _ _ _ _ _ _ _ _ m [] _ _ first carries second in
     let ended = end_heard c.lines_stay.ensures.stay _ limits (QuestionsStop limits q) _ _ _ _ _ _ m _ tt both in
-    subst (λ (xs : List ℕ). EndTalked g.R.Reducer.mode limits (QuestionsStop limits q) c.listen.new.session.engine (g.L.Source.left c.listen.new.log) (g.O.Sink.written c.args.out.now) (g.O.Sink.written c.listen.new.out) (Ok tt) m (asks limits (lines_in xs))) (take-append-drop n q) ended
+    subst (λ (xs : List ℕ). EndTalked (kind_of g.R.Reducer.mode c.args.takes) limits (QuestionsStop limits q) c.listen.new.session.engine (g.L.Source.left c.listen.new.log) (g.O.Sink.written c.args.out.now) (g.O.Sink.written c.listen.new.out) (Ok tt) m (asks limits (lines_in xs))) (take-append-drop n q) ended
 
 pub returns-in-Silence-clause-talked : goal.returns-in-Silence-clause-talked
 returns-in-Silence-clause-talked g c = λ m q at told.
@@ -91,7 +93,7 @@ returns-in-Silence-clause-talked g c = λ m q at told.
     let both = heard_both _ limits nothing_beyond nothing_beyond _ _ _ _ _ _ _ _ _ _ m [] _ _ first (carries_none (asks limits first.answered) nothing_beyond) more in
     let ended = end_both _ limits (QuestionsStop limits q) _ _ _ _ _ _ _ _ _ m _ both (c.finish.ensures.heard limits both.talked.to _ both.talked.at both.holds) in
     let same : take n q ++ [] ≡ q = ap (λ (xs : List ℕ). take n q ++ xs) (sym none) ∙ take-append-drop n q in
-    subst (λ (xs : List ℕ). EndTalked g.R.Reducer.mode limits (QuestionsStop limits q) c.finish.new.session.engine (g.L.Source.left c.finish.new.log) (g.O.Sink.written c.args.out.now) (g.O.Sink.written c.finish.new.out) c.finish.result m (asks limits (lines_in xs))) same ended
+    subst (λ (xs : List ℕ). EndTalked (kind_of g.R.Reducer.mode c.args.takes) limits (QuestionsStop limits q) c.finish.new.session.engine (g.L.Source.left c.finish.new.log) (g.O.Sink.written c.args.out.now) (g.O.Sink.written c.finish.new.out) c.finish.result m (asks limits (lines_in xs))) same ended
 
 pub returns-in-Ended-clause-within : goal.returns-in-Ended-clause-within
 returns-in-Ended-clause-within g c = λ m q at told.
@@ -123,3 +125,13 @@ pub returns-in_err-buf-clause-talked : goal.returns-in_err-buf-clause-talked
 returns-in_err-buf-clause-talked g c = λ m q at told.
     let p = err_from_is_err_and c.from_residual.result c.from_residual.ensures.1 in
     rw (p.1, p.2) (ended_early _ c.args.limits.now _ _ _ _ halt.NoMemory m _ tt)
+
+pub returns-in_err-count-clause-alike : goal.returns-in_err-count-clause-alike
+returns-in_err-count-clause-alike g c = g.met.K.Rows.goes_along.next _ _ _ c.loop-buf.invariant.alike c.in_err-count.ensures.alike
+
+pub returns-in-Ended-clause-alike : goal.returns-in-Ended-clause-alike
+returns-in-Ended-clause-alike g c = g.met.K.Rows.goes_along.next _ _ _ c.loop-buf.invariant.alike c.in_ok-count.ensures.alike
+
+pub returns-in-Silence-clause-alike : goal.returns-in-Silence-clause-alike
+returns-in-Silence-clause-alike g c =
+    g.met.K.Rows.goes_along.next _ _ _ c.loop-buf.invariant.alike (g.met.K.Rows.goes_along.next _ _ _ c.in_ok-count.ensures.alike c.finish.ensures.alike)

@@ -1,8 +1,7 @@
-use Rattle.std.proofs.Common.{length, ◌-◌, ◌≤◌, Some}
+use Rattle.std.proofs.Common.{length, ◌-◌, ◌≤◌, ◌≡◌}
 use Rattle.flow_base.specs.declared.limits.Limits.{Limits}
-use Rattle.report_json.specs.declared.ask.Ask.TheVariants as ask
-use Rattle.audit_cli.specs.Dialogue.{Moment, after}
-use Rattle.audit_cli.specs.Course.{At, GoesUp}
+use Rattle.audit_cli.specs.Dialogue.{Kind, Moment, taken_on}
+use Rattle.audit_cli.specs.Course.{At, CountsOn, GoesUp}
 use Rattle.audit_cli.proofs.log.take_log.Given as goal
 
 -- the first `count` bytes were taken
@@ -11,8 +10,11 @@ invariant-loop-count g l =
     let source = g.L.Source in
     record {
       within : l.count ≤ l.most;
-      at : (limits : Limits) (m : Moment) → At g.R.Reducer.mode limits l.initial.engine (source.left l.initial.log) m → At g.R.Reducer.mode limits l.engine (source.left l.log) (after (Some (ask.Take l.count)) m);
-      part : (limits : Limits) (m : Moment) → At g.R.Reducer.mode limits l.initial.engine (source.left l.initial.log) m → l.count ≤ length m.log;
+      at : (kind : Kind) (limits : Limits) (m : Moment) → At kind limits l.initial.engine (source.left l.initial.log) m → At kind limits l.engine (source.left l.log) (taken_on l.count m);
+      part : (kind : Kind) (limits : Limits) (m : Moment) → At kind limits l.initial.engine (source.left l.initial.log) m → l.count ≤ length m.log;
+      counted : CountsOn l.initial.engine.part l.engine.part l.count;
+      alike : g.K.Rows.alike l.initial.engine.joined.keep l.engine.joined.keep;
+      marked : l.engine.joined.tables.marked ≡ l.initial.engine.joined.tables.marked;
       counts : GoesUp (source.faults l.initial.log) (source.faults l.log) (source.spent l.initial.log) (source.spent l.log);
     }
 

@@ -17,3 +17,15 @@ returns-clause-complete g c = (c.standard_limits-limits.result, c.standard_limit
 
 pub returns-clause-no_further : goal.returns-clause-no_further
 returns-clause-no_further g c = (c.standard_limits-limits.result, c.standard_limits-limits.ensures, c.audit_run.ensures.no_further)
+
+pub returns-clause-reduced : goal.returns-clause-reduced
+returns-clause-reduced g c = (c.standard_limits-limits.result, c.standard_limits-limits.ensures, c.audit_run.ensures.reduced)
+
+pub returns-clause-queried : goal.returns-clause-queried
+returns-clause-queried g c = (c.standard_limits-limits.result, c.standard_limits-limits.ensures, c.audit_run.ensures.queried)
+
+pub returns-clause-refused : goal.returns-clause-refused
+returns-clause-refused g c = (c.standard_limits-limits.result, c.standard_limits-limits.ensures, c.audit_run.ensures.refused)
+
+pub returns-clause-unanswered : goal.returns-clause-unanswered
+returns-clause-unanswered g c = (c.standard_limits-limits.result, c.standard_limits-limits.ensures, c.audit_run.ensures.unanswered)

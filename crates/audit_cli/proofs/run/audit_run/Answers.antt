@@ -1,5 +1,11 @@
-use Rattle.std.proofs.Common.{sym, inr, ◌∙◌}
+use Rattle.std.proofs.Common.{refl, ◌≡◌, subst, Some, Err, sym, inr, ◌∙◌}
 use Rattle.audit_cli.proofs.JobLemmas.{headline, front_written, nothing_written, full_exact, complete, job_same, same_log, same_questions, ended_within, done_only, read_fault}
+use Rattle.audit_cli.specs.declared.halt.Halt.TheVariants as halt
+use Rattle.audit_cli.specs.declared.halt.StoreHalt.TheVariants as over
+use Rattle.audit_cli.proofs.StoreRuns.{queried_none, refuses_by, unbegun_run}
+use Rattle.reach_model.specs.declared.modes.Mode.{Mode}
+use Rattle.audit_cli.specs.Statuses.{RefusesStore, store_status}
+use Rattle.audit_cli.specs.Stores.{IsBadIn, IsWrongIn}
 use Rattle.audit_cli.proofs.run.audit_run.Goals as goal
 
 pub returns-in-Ok-clause-headline : goal.returns-in-Ok-clause-headline
@@ -52,3 +58,23 @@ returns-in-Ok-clause-no_further g c = λ done bytes asked row told tells is.
     let same = job_same _ _ _ c.in-Ok.ensures.found row in
     let left = c.run.ensures.left bytes asked (same_log _ _ _ _ same told) (same_questions _ _ _ _ same tells) in
     rw (← same) (done_only c.run.result _ left (sym c.status_of.ensures ∙ is))
+
+pub returns-in-Err-NoMemory-clause-reduced : goal.returns-in-Err-NoMemory-clause-reduced
+returns-in-Err-NoMemory-clause-reduced g c = λ kept name store resume row.
+    (Err (over.Run halt.NoMemory), refl, unbegun_run resume g.D.Disk.state c.args.limits.now kept c.args.disk (g.L.Source.left c.args.log.now) (g.O.Sink.written c.args.out.now) g.met.D.Disk.lawful)
+
+pub returns-in-Err-NoMemory-clause-queried : goal.returns-in-Err-NoMemory-clause-queried
+returns-in-Err-NoMemory-clause-queried g c = λ store row.
+    (Err (over.Run halt.NoMemory), refl, record { queried = λ kept h asked stood told. queried_none c.args.limits.now kept h asked (g.O.Sink.written c.args.out.now) })
+
+pub returns-in-Ok-Reduce-clause-refused : goal.returns-in-Ok-Reduce-clause-refused
+returns-in-Ok-Reduce-clause-refused g c = λ kept name store resume row.
+    let found = c.in-Ok-Reduce.ensures.found in
+    let is = c.in-Ok-Reduce.field-0-is in
+    let same : c.in-Ok-Reduce.mode ≡ kept = cc in
+    rw c.told_of.ensures.status
+    (subst (λ (m : Mode). RefusesStore (store_status c.reduce.result.outcome) (IsBadIn c.args.limits.now (g.D.Disk.state c.args.disk)) (IsWrongIn c.args.limits.now (g.D.Disk.state c.args.disk) (Some m))) same
+    (refuses_by _ _ _ _ _ _ c.reduce.result.outcome c.reduce.ensures.causes))
+
+pub returns-in-Ok-Query-clause-unanswered : goal.returns-in-Ok-Query-clause-unanswered
+returns-in-Ok-Query-clause-unanswered g c = λ store row. rw c.told_of-in-Ok-Query.ensures.status (refuses_by _ _ _ _ _ _ c.query.result.outcome c.query.ensures.causes)

@@ -9,10 +9,10 @@ returns-in-Err-clause-full c = λ full is taken has.
     (may_come_after _ taken c.args.event.now c.requires.limits has c.requires.few (c.acts_are_few.ensures _ _))
 
 pub returns-in-Ok-clause-same : goal.returns-in-Ok-clause-same
-returns-in-Ok-clause-same c = λ taken has. record { tables_are = c.prepare.ensures.same text_of taken has.tables_are; admitted = has.admitted }
+returns-in-Ok-clause-same c = λ taken has. record { tables_are = c.prepare.ensures.same text_of taken has.tables_are; marked = c.prepare.ensures.marks text_of taken has.marked; admitted = has.admitted }
 
 pub returns-in-Err-clause-same : goal.returns-in-Err-clause-same
-returns-in-Err-clause-same c = λ taken has. record { tables_are = c.prepare.ensures.same text_of taken has.tables_are; admitted = has.admitted }
+returns-in-Err-clause-same c = λ taken has. record { tables_are = c.prepare.ensures.same text_of taken has.tables_are; marked = c.prepare.ensures.marks text_of taken has.marked; admitted = has.admitted }
 
 pub returns-in-Ok-clause-plan : goal.returns-in-Ok-clause-plan
 returns-in-Ok-clause-plan c = λ taken has.

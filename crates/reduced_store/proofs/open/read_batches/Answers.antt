@@ -1,4 +1,4 @@
-use Rattle.std.proofs.Common.{◌≡◌, ◌≤◌, ◌+◌, ◌∙◌, ◌∷◌, ◌++◌, [], ℕ, suc, List, length, take, get_or, arith, refl, sym, ap, subst}
+use Rattle.std.proofs.Common.{◌≡◌, ◌<◌, ◌≤◌, ◌+◌, ◌∙◌, ◌∷◌, ◌++◌, [], ℕ, suc, List, length, take, get_or, arith, refl, sym, ap, subst}
 use Rattle.std.proofs.lemmas.Result.{err_from_is_err_and}
 use Rattle.outside.proofs.Moments.{looks_in_a_row, uses_in_a_row}
 use Rattle.batch_log.specs.declared.find.Batch.{Batch}
@@ -13,6 +13,7 @@ loop-batch-init g c =
     let first = c.new-reading.ensures c.args.limits.now in
     record {
       some = ([], first);
+      none = λ empty. first;
       known = λ told payloads there. first;
       looks = record { later = omega arith; keeps = λ t x le s. s; adds_nothing = λ t x le s. s; image = λ x i. i; same = λ told. refl; tells = λ told. told };
       uses = record { still_told = λ t. t; told_before = λ t. t; later = omega arith; stays = λ s. s; rose = λ none. absurd none };
@@ -65,6 +66,7 @@ loop-batch-preserved g c =
     let d : Batch = record { gate = 0; length = 0 } in
     record {
       some = (so_far.some.0 ++ c.as_slice.result.now ∷ [], subst (λ b. Further b bounds so_far.some.0 c.as_slice.result.now c.take.new.self) c.if-not-branch.false (c.in_ok-take.ensures so_far.some.0 so_far.some.1));
+      none = λ empty. let some : i < length listed = c.loop-batch-test.true in let zero : length listed ≡ 0 = ap length empty in absurd (omega (arith, some, zero));
       known = λ told payloads there.
           let h = so_far.known told payloads there in
           let read : IsPayloadOf (get_or listed i d) old.reads c.as_slice.result.now =
@@ -82,3 +84,6 @@ returns-clause-store g c = λ told payloads there.
     let reads = (g.D.Disk.state c.args.disk.now).reads in
     let whole = all_taken reads c.args.batches.now payloads there c.loop-batch.batch-index (omega (arith, c.loop-batch-test.false)) in
     c.in_ok-finish.ensures payloads (subst (λ ps. HasRead bounds ps c.loop-batch.reading) whole (so_far.known told payloads there))
+
+pub returns-clause-none : goal.returns-clause-none
+returns-clause-none g c = λ empty. c.in_ok-finish.ensures [] (c.loop-batch.invariant.none empty)

@@ -14,7 +14,7 @@ use Rattle.proc_table.specs.Table.{StandsFor as LivesAs}
 use Rattle.flow_events.specs.Births.{BornAs}
 use Rattle.flow_events.specs.Entering.{entered}
 use Rattle.flow_events.proofs.Applying.{held_after, addresses_after, names_kept, same_kept}
-use Rattle.flow_events.proofs.Rooming.{saved_still, stands_joined}
+use Rattle.flow_events.proofs.Rooming.{marks_go_on, saved_still, stands_joined}
 use Rattle.flow_events.proofs.Safety.{acts_fit, safe_grown}
 use Rattle.flow_events.proofs.tables.Tables.apply.Goals as goal
 
@@ -77,7 +77,11 @@ returns-clause-grown c = record {
   flows = ap (λ (l : List Flow). c.args.self.now.flows + length l) c.as_slice-4.ensures;
   keys = c.enter_all.ensures.keys ∙ ap (λ seen. entered seen c.args.plan.keys) (ap (λ e. e.keys) c.give_all.ensures.rest);
   limits = refl;
+  marked = refl;
 }
+
+pub returns-clause-marks : goal.returns-clause-marks
+returns-clause-marks c = λ text taken fresh marks plan. marks_go_on text c.args.self.now _ c.args.plan taken fresh (returns-clause-since c) refl marks plan
 
 pub returns-clause-safe : goal.returns-clause-safe
 returns-clause-safe c =

@@ -17,6 +17,7 @@ loop-done-preserved g c =
       limits = c.in-Ok.ensures.limits ∙ w.limits;
       quiet = c.in-Ok.ensures.quiet;
       alike = g.met.K.Rows.goes_along.next c.args.self.now.joined.keep c.loop-done.self.joined.keep c.feed_line.new.self.joined.keep w.alike c.in-Ok.ensures.alike;
+      marked = c.in-Ok.ensures.marked ∙ w.marked;
       taken = λ limits h stands.
           let before = with_bytes h (take c.loop-done.done piece) in
           rw (take_rest piece c.loop-done.done, more_taken h c.loop-done.done c.in-Ok.count piece) at (c.in-Ok.ensures.ok limits before (w.taken limits h stands));
@@ -41,3 +42,6 @@ returns-in-Err-clause-halts g c = λ limits h stands.
 pub returns-in-Err-clause-alike : goal.returns-in-Err-clause-alike
 returns-in-Err-clause-alike g c =
     g.met.K.Rows.goes_along.next c.args.self.now.joined.keep c.loop-done.self.joined.keep c.feed_line.new.self.joined.keep c.loop-done.invariant.alike c.in-Err.ensures.alike
+
+pub returns-in-Err-clause-marked : goal.returns-in-Err-clause-marked
+returns-in-Err-clause-marked g c = c.in-Err.ensures.marked ∙ c.loop-done.invariant.marked

@@ -13,6 +13,7 @@ invariant-loop-done g l = record {
   limits : l.self.reader.limits ≡ l.initial.self.reader.limits;
   quiet : NothingRipe l.self.joined.join;
   alike : g.K.Rows.alike l.initial.self.joined.keep l.self.joined.keep;
+  marked : l.self.joined.tables.marked ≡ l.initial.self.joined.tables.marked;
   taken : (limits : Limits) (h : History) → StandsFor limits l.initial.self h → StandsFor limits l.self (with_bytes h (take l.done l.piece));
 }
 

@@ -3,7 +3,7 @@ use Rattle.name_text.specs.Addresses.{text_of}
 use Rattle.record_join.specs.StandsFor.{event_seen}
 use Rattle.ingest.specs.Events.{taken_in}
 use Rattle.ingest.proofs.FewActs.{few_at, acts_room, acts_then, few_next, few_still}
-use Rattle.ingest.proofs.Releasing.{joined_at}
+use Rattle.ingest.proofs.Releasing.{joined_at, marked_seen}
 use Rattle.ingest.proofs.Following.{same_err, same_some, ripe_so, never_none, on_some, has_taken, may_come, stands_still, full_then, stands_next, same_event, length_seen, in_time_by}
 use Rattle.ingest.proofs.Together.{together_at, in_time_followed, in_time_refused}
 use Rattle.ingest.proofs.event_flows.EventFlows.follow.Goals as goal
@@ -54,6 +54,7 @@ returns-clause-next g c = λ limits s released event stands few next.
     (stands_next limits _ _ s released seen own peeked (c.apply.ensures.limits _ c.in-Ok.ensures.limits).limits_are (c.next.ensures.stands limits s own.join) refl
     (c.count.ensures released seen own.counts few refl (c.unmapped.ensures ∙ c.in-Ok.ensures.unmapped))
     (c.apply.ensures.next text_of (taken_in limits released) _ (c.in-Ok.ensures.same (taken_in limits released) may.has).tables_are (c.in-Ok.ensures.plan (taken_in limits released) may.has))
+    (c.apply.ensures.marks text_of (taken_in limits released) _ (c.in-Ok.ensures.same (taken_in limits released) may.has).marked (c.in-Ok.ensures.plan (taken_in limits released) may.has))
     (c.in-Ok.ensures.kept (taken_in limits released) may)
     (c.in-Ok.ensures.fits (taken_in limits released) may.has))
 
@@ -85,3 +86,6 @@ pub invariant_of-self : goal.invariant_of-self
 invariant_of-self g c =
     in_time_by _ _ _ _ _ c.in-Err.ensures.limits.limits_are
     (in_time_refused _ _ _ _ _ _ c.self.invariant c.in-Err.ensures.room c.in-Err.ensures.safe c.in-Err.ensures.limits c.in-Err.ensures.refused)
+
+pub returns-clause-marked : goal.returns-clause-marked
+returns-clause-marked g c = c.apply.ensures.grown.marked ∙ c.in-Ok.ensures.room.marked ∙ marked_seen _ _ c.self.view_is

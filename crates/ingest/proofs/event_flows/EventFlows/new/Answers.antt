@@ -1,7 +1,7 @@
 use Rattle.std.proofs.Common.{refl, ap, length, arith, []}
 use Rattle.name_text.specs.Addresses.{text_of}
 use Rattle.record_join.specs.History.{start}
-use Rattle.ingest.proofs.Following.{in_time_by}
+use Rattle.ingest.proofs.Following.{in_time_by, never_marked}
 use Rattle.ingest.proofs.Limiting.{full_none}
 use Rattle.ingest.proofs.Together.{none_kept}
 use Rattle.ingest.proofs.event_flows.EventFlows.new.Goals as goal
@@ -26,6 +26,7 @@ returns-clause-stands g c = record {
   excess = refl;
   counts = c.new-4.ensures;
   tables = c.new-2.ensures.stands text_of;
+  marked = never_marked _ [] c.new-2.ensures.unmarked;
   kept_are = c.new-3.ensures.none;
   in_time = record { rise = tt; later = omega arith };
   fits = full_none c.args.limits.now.entities c.args.limits.now.flows 0 0 (omega arith) (omega arith);

@@ -10,6 +10,7 @@ loop-self-preserved g c = record {
       goes_on limits s released _ _ w (sym (c.ripe.ensures.ripe limits w.rest own.join) ∙ c.loop-self-test.true) c.in-Ok.ensures.next;
   few = λ records few. c.in-Ok.ensures.few records (c.loop-self.invariant.few records few);
   alike = g.met.K.Rows.goes_along.next _ _ _ c.loop-self.invariant.alike c.in-Ok.ensures.alike;
+  marked = c.in-Ok.ensures.marked ∙ c.loop-self.invariant.marked;
 }
 
 pub returns-in-Err-clause-owed : goal.returns-in-Err-clause-owed

@@ -14,6 +14,7 @@ returns c = λ payloads h.
       batches = h.batches;
       mode = subst (IsOfMode bounds h.batches payloads) (sym c.mode_of-mode.ensures) (mode_found bounds h.batches payloads c.args.self.checked h.checked);
       rows = c.judge.ensures.rows ∙ h.rows;
+      sound = h.sound;
       lawful = subst (λ (R : List Row). (c.judge.new.self.lawful ≡ true) ↔ AreApart R) h.rows c.in_ok-judge.ensures.lawful;
       others = c.in_ok-move_after.ensures ∙ ap (λ (r : List StoreRow). r ++ c.args.self.closing) h.tables ∙ ap (λ (r : List StoreRow). table_rows h.batches ++ r) h.closing;
     }

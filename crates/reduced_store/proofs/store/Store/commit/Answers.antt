@@ -11,7 +11,10 @@ use Rattle.reduced_store.proofs.ExtendLemmas.{since_opened}
 use Rattle.reduced_store.proofs.store.Store.commit.Goals as goal
 
 pub invariant_of-self : goal.invariant_of-self
-invariant_of-self g c = since_opened c.count-self-inside.result (mark_at c.new.result.all) c.self.inside.rows.rows c.new.ensures c.count-self-inside.ensures.count
+invariant_of-self g c = record {
+  lawful = c.self.invariant.lawful;
+  since = since_opened c.count-self-inside.result (mark_at c.new.result.all) c.self.inside.rows.rows c.new.ensures c.count-self-inside.ensures.count;
+}
 
 pub returns-in-Ok-clause-saved : goal.returns-in-Ok-clause-saved
 returns-in-Ok-clause-saved g c = saved_opened (mark_at c.new.result.all) c.count-self-inside.result c.self.inside.rows.rows c.new.ensures c.count-self-inside.ensures.count

@@ -12,6 +12,6 @@ returns g c =
     let find = mark_at c.self.inside.earlier.all in
     let count = c.self.inside.count in
     let rows = c.self.inside.rows.rows in
-    let given = since_all count find rows c.self.invariant
+    let given = since_all count find rows c.self.invariant.since
     ∙ ap (λ (s : OnDisk _). map Extend (extends_from 0 (s.saved ++ map fresh (drop (length s.saved) s.rows.rows)) s.rows.rows)) c.self.view_is in
     IfOk-weaker c.extends_over.result _ (λ extends. extends ≡ map Extend (extends_from 0 (c.args.self.now.saved ++ map fresh (drop (length c.args.self.now.saved) c.args.self.now.rows.rows)) c.args.self.now.rows.rows)) (λ extends is. is ∙ given) c.extends_over.ensures

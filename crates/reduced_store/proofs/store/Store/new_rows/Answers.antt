@@ -11,6 +11,6 @@ use Rattle.reduced_store.proofs.store.Store.new_rows.Goals as goal
 pub returns-clause-are : goal.returns-clause-are
 returns-clause-are g c =
     let find = mark_at c.self.inside.earlier.all in
-    let given = kept_of_saved find c.self.inside.count c.self.inside.rows.rows c.self.invariant.within
+    let given = kept_of_saved find c.self.inside.count c.self.inside.rows.rows c.self.invariant.since.within
     ∙ ap (λ (s : OnDisk _). map Kept (kept_from (firsts s.saved) (drop (length s.saved) s.rows.rows))) c.self.view_is in
     IfOk-weaker c.kept_after.result _ (λ kept. kept ≡ map Kept (kept_from (firsts c.args.self.now.saved) (drop (length c.args.self.now.saved) c.args.self.now.rows.rows))) (λ kept is. is ∙ given) c.kept_after.ensures.are

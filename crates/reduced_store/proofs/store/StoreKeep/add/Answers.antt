@@ -24,7 +24,7 @@ returns-clause-same g c =
       disk = ap (λ (s : OnDisk _). s.disk) c.self.view_is;
       log = ap (λ (s : OnDisk _). s.log) c.self.view_is;
       lawful = c.push.ensures.lawful ∙ ap (λ (s : OnDisk _). s.rows.lawful) c.self.view_is;
-      saved = ap (λ R. take count (put_back find 0 R)) c.push.ensures.rows ∙ saved_push find count rows (row_of c.args.flow.now) c.self.invariant.within ∙ ap (λ (s : OnDisk _). s.saved) c.self.view_is;
+      saved = ap (λ R. take count (put_back find 0 R)) c.push.ensures.rows ∙ saved_push find count rows (row_of c.args.flow.now) c.self.invariant.since.within ∙ ap (λ (s : OnDisk _). s.saved) c.self.view_is;
     }
 
 pub returns-clause-room : goal.returns-clause-room
@@ -35,4 +35,7 @@ returns-clause-room g c = λ n room.
 pub invariant_of-self : goal.invariant_of-self
 invariant_of-self g c =
     let find = mark_at c.self.inside.earlier.all in
-    subst (IsSince c.self.inside.count find) (sym c.push.ensures.rows) (since_added c.self.inside.count find c.self.inside.rows.rows c.args.flow.now c.self.invariant)
+    record {
+      lawful = c.push.ensures.lawful ∙ c.self.invariant.lawful;
+      since = subst (IsSince c.self.inside.count find) (sym c.push.ensures.rows) (since_added c.self.inside.count find c.self.inside.rows.rows c.args.flow.now c.self.invariant.since);
+    }

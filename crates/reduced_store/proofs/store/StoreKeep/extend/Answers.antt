@@ -1,9 +1,9 @@
 use Rattle.std.proofs.Common.{◌<◌, ◌∙◌, length, sym, ap, subst, take, arith}
 use Rattle.reduced_store.specs.Held.{Held}
-use Rattle.reduced_store.specs.OnDisk.{OnDisk}
-use Rattle.reduced_store.specs.Saving.{mark_at, put_back, IsSince}
+use Rattle.reduced_store.specs.OnDisk.{OnDisk, AreLawfulSince}
+use Rattle.reduced_store.specs.Saving.{mark_at, put_back}
 use Rattle.reduced_store.proofs.ExtendLemmas.{since_extended}
-use Rattle.reduced_store.proofs.SavedLemmas.{set_lawful, set_told, set_same, put_back_extended}
+use Rattle.reduced_store.proofs.SavedLemmas.{set_lawful, set_after, set_same, put_back_extended}
 use Rattle.reduced_store.proofs.store.StoreKeep.extend.Goals as goal
 
 pub set_last-requires-clause-lawful : goal.set_last-requires-clause-lawful
@@ -19,11 +19,14 @@ invariant_of-self g c =
     let rows = c.self.inside.rows.rows in
     let within = subst (λ (s : OnDisk _). row < length s.rows.rows) (sym c.self.view_is) c.requires.row in
     let back = put_back_extended find found 0 row row c.last_mark.result c.mark_of.result rows (omega arith) c.note.ensures.here c.note.ensures.others (λ h d. c.last_mark.ensures d) in
-    subst (λ (h : Held). IsSince count found h.rows) (sym c.set_last.ensures) (since_extended count find found rows row c.mark_of.result c.self.invariant within c.note.ensures.others back)
+    subst (AreLawfulSince count found) (sym c.set_last.ensures) (record {
+      lawful = c.self.invariant.lawful;
+      since = since_extended count find found rows row c.mark_of.result c.self.invariant.since within c.note.ensures.others back;
+    })
 
-pub returns-clause-told : goal.returns-clause-told
-returns-clause-told g c =
-    set_told c.self.inside.rows c.set_last.new.self c.args.self.now.rows c.args.row c.args.flow.now c.mark_of.result (ap (λ (s : OnDisk _). s.rows) c.self.view_is) c.mark_of.ensures c.set_last.ensures c.requires.row c.requires.pair
+pub returns-clause-after : goal.returns-clause-after
+returns-clause-after g c =
+    set_after c.self.inside.rows c.set_last.new.self c.args.self.now.rows c.args.row c.args.flow.now c.mark_of.result (ap (λ (s : OnDisk _). s.rows) c.self.view_is) c.mark_of.ensures c.set_last.ensures c.requires.row c.requires.pair
 
 pub returns-clause-counts : goal.returns-clause-counts
 returns-clause-counts g c =

@@ -1,0 +1,21 @@
+use Rattle.std.proofs.Common.{sym, subst, refl}
+use Rattle.reach_model.specs.declared.modes.Mode.{Mode}
+use Rattle.audit_cli.specs.Stores.{IsOpenAt, IsQueried}
+use Rattle.audit_cli.proofs.StoreRuns.{kept_mode, queried_unrestored}
+use Rattle.audit_cli.proofs.stores.query_with.Goals as goal
+
+pub returns-in-Err-clause-run : goal.returns-in-Err-clause-run
+returns-in-Err-clause-run g c = record {
+  queried = λ kept h asked stood told.
+      rw c.halt_of_restore.ensures (queried_unrestored g.D.Disk.state c.args.limits.now kept c.args.opened h stood.0 asked (g.O.Sink.written c.args.out.now) c.in-Err.back
+      c.what_is_found_was_stored.ensures stood.1 c.in-Err.ensures.full c.in-Err.back.why refl);
+}
+
+pub returns-in-Ok-clause-run : goal.returns-in-Ok-clause-run
+returns-in-Ok-clause-run g c = record {
+  queried = λ kept h asked stood told.
+      let same = kept_mode g.D.Disk.state c.args.limits.now kept g.R.Reducer.mode c.args.opened h stood.0 c.what_is_found_was_stored.ensures c.requires.mode stood.1 in
+      let x = subst (λ (m : Mode). IsOpenAt g.D.Disk.state c.args.limits.now m c.args.opened h stood.0) same stood.1 in
+      subst (λ (m : Mode). IsQueried c.args.limits.now m h asked (g.O.Sink.written c.args.out.now) (g.O.Sink.written c.query_engine.new.out) c.query_engine.result.outcome) (sym same)
+      (c.query_engine.ensures.queried h asked (c.in-Ok.ensures.stored h stood.0 x.open_on x.stores).0.stands told);
+}

@@ -1,0 +1,19 @@
+use Rattle.std.proofs.Common.{◌∙◌, ap, sym, subst, []}
+use Rattle.reduced_store.specs.OnDisk.{OnDisk}
+use Rattle.ingest.specs.Parts.{Engine, Joined}
+use Rattle.ingest.specs.StandsFor.{StandsFor}
+use Rattle.ingest.proofs.engine.Ingest+R+Store+D.begun.Goals as goal
+
+pub invariant_of-engine : goal.invariant_of-engine
+invariant_of-engine g c =
+    let w = c.engine.invariant in
+    record { records = w.records; few = c.remember.ensures.few w.records w.few; paid = w.paid; within = w.within }
+
+pub returns-clause-stands : goal.returns-clause-stands
+returns-clause-stands g c =
+    let st = subst (λ (e : Engine (OnDisk g.row.D.Denot)). StandsFor c.args.limits.now e []) (sym c.engine.view_is) c.new-engine.ensures.stands in
+    record { reader = st.reader; joined = c.remember.ensures.stands c.args.limits.now _ _ st.joined; fits = st.fits }
+
+pub returns-clause-keep : goal.returns-clause-keep
+returns-clause-keep g c =
+    ap (λ (j : Joined (OnDisk g.row.D.Denot)). j.keep) c.remember.ensures.same ∙ ap (λ (e : Engine (OnDisk g.row.D.Denot)). e.joined.keep) c.engine.view_is ∙ c.new-engine.ensures.keep
