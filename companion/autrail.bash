@@ -7,12 +7,13 @@ _autrail() {
     done
     case $before in
         -if | --input) mapfile -t COMPREPLY < <(compgen -f -- "$word"); return ;;
+        --store) mapfile -t COMPREPLY < <(compgen -f -- "$word"); return ;;
         -m | --mode) mapfile -t COMPREPLY < <(compgen -W 'plain continuous full source' -- "$word"); return ;;
         --svg | --png) mapfile -t COMPREPLY < <(compgen -f -- "$word"); return ;;
         --at | --since) mapfile -t COMPREPLY < <(compgen -W "$times" -- "$word"); return ;;
         --program) mapfile -t COMPREPLY < <(compgen -c -- "$word"); return ;;
     esac
-    local options='-if -m -q --order --no-order --program --help'
+    local options='-if --store -m -q --order --no-order --program --help'
     case $command in
         '') options="back fore why find show stat ask rules $options --version" ;;
         back) options="$options --at -a --hide --each --paths --tree --json --dot --svg --png" ;;

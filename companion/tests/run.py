@@ -380,6 +380,117 @@ class Fitness(Scratch):
         self.assertNotIn('arguments', said[1]['read_from_log'])
 
 
+def reduced(log: Path, store: Path, mode: str = 'plain', *words: str) -> None:
+    """Takes a log into a store."""
+    subprocess.run([*shlex.split(PROGRAM), 'reduce', mode, log, store, *words], stdout=subprocess.DEVNULL, check=True)
+
+
+def over_store(store: Path, *words: str | bytes | Path, **more: str) -> tuple[int, str, str]:
+    """The status, the answer and the notes over a store."""
+    done = run('--store', store, *words, **more)
+    return done.returncode, done.stdout.decode(), done.stderr.decode()
+
+
+WITHOUT_LINES = 'autrail: without arguments and users: a store has no lines of its own; name the log by -if beside --store\n'
+
+
+class Stores(Scratch):
+    """Answers over a store, with and without the log beside it."""
+
+    def setUp(self) -> None:
+        super().setUp()
+        self.store = self.folder / 'host.store'
+
+    def test_the_answers_are_those_over_the_log(self) -> None:
+        reduced(EXAMPLE, self.store)
+        for words in ('back 127.0.0.1:4445 --tree', 'fore customers.csv', 'why customers.csv 127.0.0.1:4445 --lines', 'find *received*', 'show pid:435',
+                      'back x.sh --at 2026-06-09T08:01:55.440 --json', 'back x.sh --dot'):
+            with self.subTest(words):
+                want = asked(EXAMPLE, words)
+                self.assertEqual(over_store(self.store, '-q', '-if', EXAMPLE, *words.split())[:2], (0, want))
+                self.assertEqual(run('-q', '--store', self.store, '-if', EXAMPLE, 'ask', stdin=words).stdout.decode(), want)
+
+    def test_without_the_log_users_are_left_out_and_lines_are_refused(self) -> None:
+        reduced(EXAMPLE, self.store)
+        status, answer, said = over_store(self.store, 'back', '127.0.0.1:4445', '--tree')
+        want = (HERE / 'expected' / 'port4445.txt').read_text()
+        self.assertEqual((status, [it for it in answer.splitlines() if '#' in it]), (0, [it for it in want.splitlines() if re.search(r'#\d+$', it)]))
+        self.assertTrue(said.endswith(WITHOUT_LINES), said)
+        self.assertNotIn('uid=', answer)
+        self.assertNotIn('processes', answer)
+        groups = over_store(self.store, '-q', 'fore', 'customers.csv')
+        self.assertEqual(groups, (0, '/customers.csv  #47  can have reached:\naddresses:\n  #49    127.0.0.1:4445\nfiles:\n  #45    /tmp/.loot.tar\n'
+                                     'processes:\n  #39    tar[434]\n  #48    nc.openbsd[435]\n', ''))
+        for words in (('--lines',), ('-i',)):
+            self.assertEqual(over_store(self.store, '-q', 'why', 'customers.csv', '127.0.0.1:4445', *words),
+                             (2, '', "autrail: --lines shows the log's lines, and a store has no lines of its own; name the log by -if beside --store\n"))
+
+    def test_a_path_over_two_logs(self) -> None:
+        """One process wrote a file in the first log. Another one read it in the second log, and wrote a second file."""
+        first = self.log(opened_and(0, '"/in"', 7, 1) + opened_and(1, '"/tmp/a"', 8, 5), 'first.log')
+        second = self.log(opened_and(0, '"/tmp/a"', 8, 20, pid=200) + opened_and(1, '"/tmp/b"', 9, 30, pid=200), 'second.log')
+        for mode in ('plain', 'continuous', 'full', 'source'):
+            store = self.folder / f'{mode}.store'
+            reduced(first, store, mode)
+            reduced(second, store, mode)
+            path = [json.loads(it) for it in over_store(store, '-q', 'why', '/in', '/tmp/b', '--json')[1].splitlines()]
+            self.assertEqual([(it['serial'], it['how'], it['from_label'], it['to_label']) for it in path],
+                             [(2, 'read', '/in', 'p[100]'), (6, 'write', 'p[100]', '/tmp/a'), (21, 'read', '/tmp/a', 'p[200]'), (31, 'write', 'p[200]', '/tmp/b')])
+        # The second log beside the store has the lines of two steps, and may have those of another life.
+        done = run('-q', '--store', self.folder / 'plain.store', '-if', second, 'why', '/in', '/tmp/b', '--lines')
+        self.assertEqual((done.returncode, done.stdout.count(b'type=SYSCALL'), done.stderr), (0, 2, b'autrail: the logs that were named have no lines for 2 steps\n'))
+        self.assertIn('lines with this number, perhaps of another life', over_store(self.folder / 'plain.store', '-q', '-if', second, 'show', 'pid:200')[1])
+        self.assertEqual(over_store(self.folder / 'source.store', '-q', 'fore', '/tmp/a'),
+                         (2, '', "autrail: mode source doesn't answer this; ask in the mode plain or continuous\n"))
+
+    def test_counts_and_what_the_store_cannot_show(self) -> None:
+        reduced(EXAMPLE, self.store)
+        status, answer, said = over_store(self.store, 'stat')
+        self.assertEqual((status, answer.splitlines()[0]), (0, f'{self.store}: 524 events of 284,340 bytes of logs'))
+        self.assertEqual(answer.splitlines()[-1], 'warning: 22 of 524 events came late, so a path over them may be missing or have a later time')
+        counts = json.loads(over_store(self.store, 'stat', '--json')[1])
+        self.assertEqual((counts['mode'], counts['lines'], counts['flows'], counts['files'], counts['least']), ('plain', 1519, 156, [], None))
+        status, answer, said = over_store(self.store, '-q', 'why', 'customers.csv', '/srv/evil/received.tar')
+        self.assertEqual((status, answer), (1, ''))
+        self.assertIn('no path in this store from #47', said)
+        self.assertIn("the store has 524 events of 284,340 bytes of logs; it can't show what came before or after", said)
+
+    def test_what_is_no_store_is_refused(self) -> None:
+        reduced(EXAMPLE, self.store)
+        later = bytearray(self.store.read_bytes())
+        later[13] = 2
+        empty, torn = b'', self.store.read_bytes()[:-20]
+        cases = [(self.folder / 'none', 4, '"autrail keep STORE" makes one'), (self.folder, 7, 'a store is a regular file'),
+                 (EXAMPLE, 7, "this isn't a store; a log is named by -if"), (self.log(empty, 'empty'), 7, 'the store has no batch yet'),
+                 (self.log(b'\x5a', 'closed'), 7, 'the store has no batch yet'), (self.log(bytes(later), 'later'), 7, 'a store of a form'),
+                 (self.log(torn, 'torn'), 7, 'the program says: audit_cli: bad store at 0')]
+        for store, status, want in cases:
+            with self.subTest(store.name):
+                found = over_store(store, 'find', '*')
+                self.assertEqual(found[:2], (status, ''), found)
+                self.assertIn(want, found[2])
+        done = run('-if', self.store, 'stat')
+        self.assertEqual((done.returncode, done.stderr.decode()), (2, f'autrail: {self.store} is a store and not a log; name it by --store\n'))
+        for words, want in ((('-m', 'plain', 'stat'), "-m doesn't stand beside --store"), (('--order', 'stat'), "--order doesn't stand beside --store")):
+            self.assertIn(want, over_store(self.store, *words)[2])
+        done = run('-q', '--store', self.store, 'ask', stdin='stat --store x\nfind /tmp/x.sh\n')
+        self.assertEqual((done.returncode, done.stdout.count(b'\n'), done.stderr.count(b'stand before ask')), (0, 1, 1))
+
+    def test_hostile_names_do_not_reach_a_terminal(self) -> None:
+        text = ''.join(opened_and(0, name.hex().upper(), 50 + place, 10 + 10 * place) + call(15 + 10 * place, 3, exit=0) for place, name in enumerate(HOSTILE.values()))
+        log = self.log(text + opened_and(1, '"/tmp/out"', 90, 200, 'CREATE'))
+        store = self.folder / 'a\x1b[31m\nstore'
+        reduced(log, store)
+        for words in ('back /tmp/out', 'back /tmp/out --tree', 'back /tmp/out --json', 'back /tmp/out --dot', 'find *', 'show *a* --each', 'stat', 'find nosuch', 'why pid:100 /tmp/out --lines'):
+            found = run('--store', store, *words.split())
+            for text in (found.stdout, found.stderr):
+                self.assertIsNone(RAW.search(text), (words, RAW.search(text)))
+                self.assertNotIn('\u202e'.encode(), text)
+        for name in (HOSTILE['feed'], HOSTILE['bytes'], HOSTILE['quote']):
+            self.assertEqual(over_store(store, '-q', 'find', name)[1].count('\n'), 1, name)
+        self.assertIn('a\\x1b[31m\\nstore: no such store', over_store(self.folder / 'a\x1b[31m\nstore' / '..' / 'b' / 'a\x1b[31m\nstore', 'stat')[2])
+
+
 def ordered(log: Path | str, *words: str, **more: str) -> tuple[int, str]:
     """The status and the answer over a log in the order of effects, without warnings."""
     done = run('-q', '--order', '-if', str(log), *words, **more)
@@ -988,7 +1099,7 @@ class Installed(Scratch):
         if not shutil.which('bash'):
             self.skipTest('bash is not on this machine')
         script = 'source companion/autrail.bash; COMP_WORDS=(autrail "$@"); COMP_CWORD=$#; _autrail; printf "%s\\n" "${COMPREPLY[@]}"'
-        for words, want in ((['ba'], ['back']), (['back', 'x', '--tr'], ['--tree']), (['-m', 'con'], ['continuous']), (['back', 'x', '--at', 'yes'], ['yesterday']), (['--or'], ['--order'])):
+        for words, want in ((['ba'], ['back']), (['back', 'x', '--tr'], ['--tree']), (['-m', 'con'], ['continuous']), (['back', 'x', '--at', 'yes'], ['yesterday']), (['--or'], ['--order']), (['--sto'], ['--store'])):
             done = subprocess.run(['bash', '-c', script, 'bash', *words], capture_output=True, text=True, cwd=TOP, check=False)
             self.assertEqual(done.stdout.split(), want, words)
 
