@@ -21,6 +21,11 @@ install: built
 	install -m 644 companion/man/autrail.1 "$(PREFIX)/share/man/man1/autrail.1"
 	install -m 644 companion/autrail.bash "$(PREFIX)/share/bash-completion/completions/autrail"
 	install -m 644 companion/_autrail "$(PREFIX)/share/zsh/site-functions/_autrail"
+	install -d "$(PREFIX)/lib/systemd/system"
+	for unit in service timer; do \
+		sed 's|@PREFIX@|$(PREFIX)|g' "companion/autrail-keep.$$unit" > "$(PREFIX)/lib/systemd/system/autrail-keep.$$unit" && \
+		chmod 644 "$(PREFIX)/lib/systemd/system/autrail-keep.$$unit" || exit 1; \
+	done
 
 # The scripts prove and build a program if the code has changed since; a program of another place is taken as it is. The second
 # program is built anew only if it was built before.
