@@ -39,3 +39,4 @@ man:
 
 test:
 	python3 companion/tests/run.py
+	python3 companion/fleet/test.py

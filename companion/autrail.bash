@@ -21,7 +21,7 @@ _autrail() {
         why) options="$options --at --lines -i --interpret --each --json" ;;
         find | show) options="$options --each --json" ;;
         stat) options="$options --json" ;;
-        keep) options="$options --over-gap --json" ;;
+        keep) options="$options --over-gap --wait --json" ;;
     esac
     mapfile -t COMPREPLY < <(compgen -W "$options" -- "$word")
     if [ -n "$command" ] && [ "${word#-}" = "$word" ]; then
