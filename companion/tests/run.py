@@ -181,7 +181,9 @@ class Answers(unittest.TestCase):
         self.assertEqual(done.stderr, b'autrail: flows up to 2026-06-09 08:01:55.440 UTC+0000\n')
 
     def test_sessions_of_the_documents_are_as_printed(self) -> None:
-        text = (TOP / 'docs' / 'INVESTIGATING.md').read_text()
+        folder = tempfile.mkdtemp(prefix='autrail-')
+        self.addCleanup(shutil.rmtree, folder)
+        text = (TOP / 'docs' / 'INVESTIGATING.md').read_text().replace('/tmp/web1.store', folder + '/web1.store')
         sessions = re.findall(r'^    \$ (autrail .*)\n((?:    (?!\$ ).*\n|\n(?=    (?!\$ )))*)', text, re.M)
         self.assertGreater(len(sessions), 5)
         for command, printed in sessions:
