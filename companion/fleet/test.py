@@ -33,6 +33,8 @@ BUILT = TOP / 'crates' / 'audit_cli' / 'out' / 'audit_cli'
 ADMIN_PATH = os.environ['PATH'] + ':/usr/sbin:/sbin'
 SLURM = ('munged', 'slurmctld', 'slurmd', 'sbatch', 'scontrol', 'scancel')
 LONG = False
+# A log that takes the program so long that it can be killed between its first commit and its last.
+LARGE = 64 << 20
 
 
 def environment(**more: str) -> dict[str, str]:
@@ -55,10 +57,11 @@ def repeated(size: int) -> bytes:
 
 
 def wait_until(holds, what: str) -> None:
-    for _ in range(1200):
+    end = time.monotonic() + 60
+    while time.monotonic() < end:
         if holds():
             return
-        time.sleep(0.05)
+        time.sleep(0.001)
     raise AssertionError(f'{what} did not come')
 
 
@@ -107,6 +110,16 @@ class Hosts(unittest.TestCase):
         log.write_bytes(text)
         want = self.replies(['watch', 'continuous', log], 'take 1000000000\nsettle\n')[2:]
         self.assertEqual(self.replies(['query', self.stores / f'{host}.store']), want)
+
+    def kill_when_half_taken(self, host: str) -> None:
+        """Kills autrail and the program at work on a host's store, when the store has its first batch."""
+        store, state = self.stores / f'{host}.store', self.stores / f'{host}.store.state'
+        wait_until(lambda: begins_with_an_open_gate(store), 'the first batch')
+        # The name of the store is a word of the programs that are at work on it.
+        for pid in processes_with(str(store)):
+            with contextlib.suppress(ProcessLookupError):
+                os.kill(pid, signal.SIGKILL)
+        self.assertIsNotNone(json.loads(state.read_text())['coming'], 'the portion was taken before it could be killed')
 
 
 class Local(Hosts):
@@ -182,7 +195,7 @@ class Local(Hosts):
         self.assertEqual(self.table()['b'][0], str(len(first + then)))
 
     def test_a_job_that_is_killed_goes_on(self) -> None:
-        text = repeated(9 << 20)
+        text = repeated(LARGE)
         self.put('big', text)
         self.put('small', EXAMPLE.read_bytes())
         run = subprocess.Popen(self.words('-j', '1', '--restart-times', '2'), stdout=subprocess.PIPE, stderr=subprocess.STDOUT, text=True, cwd=self.folder, env=environment())
@@ -193,15 +206,12 @@ class Local(Hosts):
         self.assertEqual([self.table()[it][0] for it in ('big', 'small')], [f'{len(text):,}', '284,340'])
         self.must_have('big', text)
 
-    def kill_when_half_taken(self, host: str) -> None:
-        """Kills autrail and the program at work on a host's store, when the store has its first batch."""
-        store, state = self.stores / f'{host}.store', self.stores / f'{host}.store.state'
-        wait_until(lambda: store.exists() and store.read_bytes()[:1] == b'\xa5', 'the first batch')
-        # The name of the store is a word of the programs that are at work on it.
-        for pid in processes_with(str(store)):
-            with contextlib.suppress(ProcessLookupError):
-                os.kill(pid, signal.SIGKILL)
-        self.assertIsNotNone(json.loads(state.read_text())['coming'], 'the portion was taken before it could be killed')
+
+def begins_with_an_open_gate(store: Path) -> bool:
+    if not store.exists():
+        return False
+    with open(store, 'rb') as file:
+        return file.read(1) == b'\xa5'
 
 
 def processes_with(word: str) -> list[int]:
@@ -249,8 +259,8 @@ def free_ports() -> list[int]:
         return [it.getsockname()[1] for it in sockets]
 
 
-class Cluster(Hosts):
-    """Through a Slurm of one node, by the profile in the folder."""
+class WithSlurm(Hosts):
+    """A Slurm of one node, and the profile in the folder."""
 
     def setUp(self) -> None:
         missing = [it for it in SLURM if not shutil.which(it, path=ADMIN_PATH)]
@@ -294,8 +304,12 @@ class Cluster(Hosts):
     def cluster(self, *words: str) -> tuple[str, ...]:
         return ('--profile', str(HERE / 'slurm'), *words)
 
+
+class Cluster(WithSlurm):
+    """Through Slurm."""
+
     def test_the_same_through_slurm_and_a_job_is_killed(self) -> None:
-        text = repeated(9 << 20)
+        text = repeated(LARGE)
         self.put('big', text)
         self.put('broken', EXAMPLE.read_bytes())
         self.stores.mkdir()
@@ -303,7 +317,7 @@ class Cluster(Hosts):
         for host in ('web1', 'web2'):
             self.put(host, EXAMPLE.read_bytes())
         run = subprocess.Popen(self.words(*self.cluster('--group-components', 'keep=1')), stdout=subprocess.PIPE, stderr=subprocess.STDOUT, text=True, cwd=self.folder, env=environment())
-        Local.kill_when_half_taken(self, 'big')
+        self.kill_when_half_taken('big')
         said = run.communicate(timeout=900)[0]
         self.assertEqual(run.returncode, 0, said)
         self.assertIn('Submitted group job', said)
@@ -314,7 +328,7 @@ class Cluster(Hosts):
         self.assertEqual([json.loads(it)['status'] for it in (self.stores / 'answers.jsonl').read_text().splitlines()], [0, 7, 0, 0])
 
 
-class Timed(Cluster):
+class Timed(WithSlurm):
     """50 hosts of 20 MB: one after the other, on four processors, and through Slurm."""
 
     def setUp(self) -> None:
