@@ -20,7 +20,8 @@ import sys
 from datetime import datetime, timezone
 from pathlib import Path
 
-AUTRAIL = os.environ.get('AUTRAIL') or str(Path(__file__).resolve().parent.parent / 'autrail')
+BESIDE = Path(__file__).resolve().parent.parent / 'autrail'
+AUTRAIL = os.environ.get('AUTRAIL') or (str(BESIDE) if BESIDE.is_file() else 'autrail')
 # As in the Snakefile.
 NAME = r'[A-Za-z0-9][A-Za-z0-9._-]*'
 COLUMNS = ('host', 'bytes of logs', 'from', 'to', 'events', 'rows', 'objects', 'store', 'to mistrust')

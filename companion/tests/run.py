@@ -1323,6 +1323,8 @@ class Scripts(Scratch):
             (self.top / 'crates' / name).mkdir(parents=True)
             shutil.copy(TOP / name, self.top / name)
         (self.top / '.ci').mkdir()
+        (self.top / 'companion').mkdir()
+        shutil.copytree(TOP / 'companion' / 'words', self.top / 'companion' / 'words')
         for name in ('.ci/state', '.ci/built_program', 'crates.txt', 'HANDLES'):
             shutil.copy(TOP / name, self.top / name)
         (self.folder / 'rt').write_text(RT)
@@ -1350,6 +1352,14 @@ class Scripts(Scratch):
         (self.top / 'crates' / 'audit_cli' / 'code').write_text('changed')
         self.assertEqual(self.ended(self.start('audit_cli'))[:2], (3, 'audit_cli:\n'))
         self.assertEqual(len(self.asked()), 4)
+
+    def test_the_forms_of_words_are_told_without_building(self) -> None:
+        for name in ('audit_cli', 'audit_order'):
+            forms = (HERE.parent / 'words' / name).read_text().splitlines()
+            self.assertEqual(forms[0], f'{name} of Kitrevasu {module().VERSION}')
+            for word, want in (('--help', forms), ('-h', forms), ('--version', forms[:1])):
+                self.assertEqual(self.ended(self.start(name, word)), (2, '', want))
+        self.assertFalse(self.said.exists())
 
     def test_two_programs_are_built_one_after_the_other(self) -> None:
         if not shutil.which('flock'):
@@ -1384,9 +1394,10 @@ class Installed(Scratch):
         program.chmod(0o755)
         order = self.log('#!/bin/sh\nexit 8\n', 'order')
         order.chmod(0o755)
-        of_both = {'bin/audit_cli', 'bin/autrail', 'lib/kitrevasu/audit_cli', 'lib/systemd/system/autrail-keep.service', 'lib/systemd/system/autrail-keep.timer', 'share/autrail/kitrevasu.rules', 'share/bash-completion/completions/autrail',
+        of_both = {'bin/audit_cli', 'bin/autrail', 'lib/kitrevasu/audit_cli', 'lib/kitrevasu/audit_cli.words', 'lib/systemd/system/autrail-keep.service', 'lib/systemd/system/autrail-keep.timer', 'share/autrail/kitrevasu.rules', 'share/bash-completion/completions/autrail',
                    'share/man/man1/autrail.1', 'share/zsh/site-functions/_autrail'}
-        for second, more in ((self.folder / 'none', set()), (order, {'bin/audit_order', 'lib/kitrevasu/audit_order'})):
+        of_both |= {'share/autrail/fleet/' + it for it in ('Snakefile', 'host.py', 'slurm/config.yaml', 'slurm/job_state')}
+        for second, more in ((self.folder / 'none', set()), (order, {'bin/audit_order', 'lib/kitrevasu/audit_order', 'lib/kitrevasu/audit_order.words'})):
             done = subprocess.run(['make', '-s', 'install', f'PREFIX={self.folder}/usr', f'PROGRAM={program}', f'ORDER={second}'], cwd=TOP, capture_output=True, check=False)
             self.assertEqual(done.returncode, 0, done.stderr)
             self.assertEqual(b'./audit_order </dev/null builds it' in done.stdout, not more)
@@ -1395,11 +1406,24 @@ class Installed(Scratch):
         installed = self.folder / 'usr' / 'bin' / 'autrail'
         self.assertEqual(subprocess.run([installed, 'rules'], capture_output=True, check=False).stdout, (HERE.parent / 'kitrevasu.rules').read_bytes())
         self.assertEqual(subprocess.run([self.folder / 'usr' / 'bin' / 'audit_cli'], check=False).returncode, 7)
+        told = subprocess.run([self.folder / 'usr' / 'bin' / 'audit_cli', '--help'], capture_output=True, check=False)
+        self.assertEqual((told.returncode, told.stdout, told.stderr), (2, b'', (HERE.parent / 'words' / 'audit_cli').read_bytes()))
         service = (self.folder / 'usr' / 'lib' / 'systemd' / 'system' / 'autrail-keep.service').read_text()
         self.assertIn(f'ExecStart={self.folder}/usr/bin/autrail keep ', service)
         # The companion finds the second program beside itself.
         done = subprocess.run([installed, '--order', '-if', EXAMPLE, 'stat'], capture_output=True, env=environment(AUDIT_ORDER=''), check=False)
         self.assertEqual((done.returncode, done.stdout), (8, b''))
+
+    def test_a_package_is_made_below_a_folder(self) -> None:
+        """What is installed below DESTDIR names the places where it will be."""
+        if not shutil.which('make'):
+            self.skipTest('make is not on this machine')
+        program = self.log('#!/bin/sh\nexit 7\n', 'program')
+        program.chmod(0o755)
+        subprocess.run(['make', '-s', 'install', f'DESTDIR={self.folder}/package', 'PREFIX=/usr', f'PROGRAM={program}', f'ORDER={program}'], cwd=TOP, stdout=subprocess.DEVNULL, check=True)
+        service = (self.folder / 'package' / 'usr' / 'lib' / 'systemd' / 'system' / 'autrail-keep.service').read_text()
+        self.assertIn('ExecStart=/usr/bin/autrail keep ', service)
+        self.assertEqual([it.name for it in (self.folder / 'package').iterdir()], ['usr'])
 
     def test_systemd_takes_the_units(self) -> None:
         if not shutil.which('systemd-analyze'):
