@@ -7,7 +7,7 @@ _autrail() {
     done
     case $before in
         -if | --input) mapfile -t COMPREPLY < <(compgen -f -- "$word"); return ;;
-        --store) mapfile -t COMPREPLY < <(compgen -f -- "$word"); return ;;
+        --store | --after) mapfile -t COMPREPLY < <(compgen -f -- "$word"); return ;;
         -m | --mode) mapfile -t COMPREPLY < <(compgen -W 'plain continuous full source' -- "$word"); return ;;
         --svg | --png) mapfile -t COMPREPLY < <(compgen -f -- "$word"); return ;;
         --at | --since) mapfile -t COMPREPLY < <(compgen -W "$times" -- "$word"); return ;;
@@ -21,7 +21,7 @@ _autrail() {
         why) options="$options --at --lines -i --interpret --each --json" ;;
         find | show) options="$options --each --json" ;;
         stat) options="$options --json" ;;
-        keep) options="$options --over-gap --wait --json" ;;
+        keep) options="$options --over-gap --after --wait --json" ;;
     esac
     mapfile -t COMPREPLY < <(compgen -W "$options" -- "$word")
     if [ -n "$command" ] && [ "${word#-}" = "$word" ]; then

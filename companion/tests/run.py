@@ -772,6 +772,26 @@ class Keeps(Scratch):
         self.assertEqual((done.returncode, done.stderr), (0, b''))
         self.must_have(text)
 
+    def test_a_store_is_begun_after_another_one(self) -> None:
+        first, second, third = (call(serial, 0).encode() + call(serial + 1, 3).encode() for serial in (1, 11, 21))
+        self.put('audit.log', first)
+        self.assertEqual(self.keep('-m', 'full')[0], 0)
+        self.put('audit.log', first + second)
+        other = self.folder / 'other.store'
+        words = ('keep', other, '-if', self.logs, '--after', self.store, '--json')
+        told = json.loads(run(*words).stdout)
+        self.assertEqual((told['bytes'], told['first'], told['mode']), (len(second), '1780992011.000:11', 'full'))
+        # From then on it is kept as any other one.
+        self.put('audit.log', first + second + third)
+        told = json.loads(run(*words).stdout)
+        self.assertEqual((told['taken'], told['bytes']), (len(third), len(second + third)))
+        self.store = other
+        self.must_have(second + third, 'full')
+        os.unlink(self.logs / 'audit.log')
+        self.put('audit.log', third)
+        self.assertEqual(run('keep', self.folder / 'last.store', '-if', self.logs, '--after', self.folder / 'host.store').returncode, 4)
+        self.assertEqual(run('keep', self.folder / 'last.store', '-if', self.logs, '--after', EXAMPLE).returncode, 2)
+
     def test_one_run_at_a_time(self) -> None:
         self.put('audit.log', repeated(1000))
         self.keep()
