@@ -54,9 +54,10 @@ def keep(hosts: Path, stores: Path, host: str, mode: str) -> None:
     status, kept, said = autrail('keep', store, '-if', str(hosts / host), '-m', mode, '--wait', '--json')
     result = {'host': host, 'status': status, 'said': said, **(kept[0] if kept else {})}
     result['done'] = status == 0 and not result['waiting']
-    # What the store has is told also if nothing could be taken into it now.
-    _, counts, _ = autrail('--store', store, 'stat', '--json')
-    result['stat'] = counts[0] if counts else None
+    if status:
+        # What the store has is told also if nothing could be taken into it now.
+        counts = autrail('--store', store, 'stat', '--json')[1]
+        result |= {'stat': counts[0], 'warnings': counts[0]['warnings']} if counts else {}
     write(stores / 'reports' / f'{host}.json', result)
 
 
@@ -77,12 +78,12 @@ def row(host: str, report: dict | None, size: int) -> list[str]:
     if report is None:
         why = 'look at what Snakemake said' if re.fullmatch(NAME, host) else 'a host\'s name has letters, digits, points, _ and - alone'
         return [host] + ['-'] * 7 + [f'nothing was taken: {why}']
-    stat = report['stat'] or {}
+    stat = report.get('stat') or {}
     failed = [f'status {report["status"]}: ' + ' / '.join(report['said'])] if report['status'] else []
     waits = [f'{report["waiting"]} bytes wait for the end of an event'] if report.get('waiting') else []
     counts = [f'{stat[it]:,}' if it in stat else '-' for it in ('bytes', 'events', 'kept', 'known')]
     times = [time_of(it) for it in (report.get('first'), report.get('last'))]
-    return [host, counts[0], *times, *counts[1:], f'{size:,}', '; '.join(failed + stat.get('warnings', []) + waits) or 'nothing']
+    return [host, counts[0], *times, *counts[1:], f'{size:,}', '; '.join(failed + report.get('warnings', []) + waits) or 'nothing']
 
 
 def time_of(record: str | None) -> str:
