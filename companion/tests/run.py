@@ -546,6 +546,14 @@ class Whole(unittest.TestCase):
                 with unittest.mock.patch.object(self.autrail, 'WINDOW', 4096):
                     self.assertEqual(self.autrail.whole_of(file, file.tell(), False), len(before))
 
+    def test_no_more_is_looked_at_than_may_wait_in_the_program(self) -> None:
+        """Events without an end at one time: the program would have released the oldest of them."""
+        lines = lines_of(*((4000, f'A{it}') for it in range(2000)))
+        with tempfile.TemporaryFile() as file:
+            file.write(lines + b'half a line')
+            with unittest.mock.patch.object(self.autrail, 'WINDOW', 4096), unittest.mock.patch.object(self.autrail, 'WIDEST', 16384):
+                self.assertEqual(self.autrail.whole_of(file, file.tell(), False), len(lines))
+
 
 class Writer:
     """Writes a log in a folder as auditd does, in pieces that end anywhere, and renames its files when they are long."""
@@ -794,6 +802,21 @@ class Keeps(Scratch):
         self.put('audit.log', third)
         self.assertEqual(run('keep', self.folder / 'last.store', '-if', self.logs, '--after', self.folder / 'host.store').returncode, 4)
         self.assertEqual(run('keep', self.folder / 'last.store', '-if', self.logs, '--after', EXAMPLE).returncode, 2)
+
+    def test_what_it_writes_follows_no_link(self) -> None:
+        self.put('audit.log', EXAMPLE.read_bytes())
+        other = self.log('precious', 'other')
+        for name in ('host.store.lock', 'host.store.portion', 'host.store.state.new'):
+            (self.folder / name).symlink_to(other)
+            self.assertEqual(self.keep()[0], 4, name)
+            (self.folder / name).unlink()
+        self.assertEqual(other.read_text(), 'precious')
+
+    def test_times_are_those_of_records(self) -> None:
+        """What a user wrote into a line isn't taken for a record."""
+        line = lines_of((1000, 'USER_CMD')).replace(b'x=1', b'cmd="type=X msg=audit(9000000000.000:7): "')
+        self.put('audit.log', line)
+        self.assertEqual((self.kept()['first'], self.kept()['last']), ('1.000:1000', '1.000:1000'))
 
     def test_one_run_at_a_time(self) -> None:
         self.put('audit.log', repeated(1000))
