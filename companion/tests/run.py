@@ -772,10 +772,27 @@ class Keeps(Scratch):
         self.assertEqual(json.loads((self.folder / 'host.store.state').read_text())['taken']['bytes'], len(text))
         self.must_have(text)
 
-    def test_a_long_log_is_taken_in_portions(self) -> None:
-        """A copy of autrail with small portions. Each of them ends between two events."""
+    def with_small_portions(self) -> Path:
+        """A copy of autrail that takes a log in small portions."""
         small = self.log(AUTRAIL.read_text().replace('PORTION = 1 << 28', 'PORTION = 70000').replace('WINDOW = 1 << 20', 'WINDOW = 8192'), 'autrail')
         small.chmod(0o755)
+        return small
+
+    def test_progress_is_shown_at_a_terminal_alone(self) -> None:
+        small = self.with_small_portions()
+        self.put('audit.log', repeated(3 << 20))
+        for more, want in (((), True), (('-q',), False)):
+            ours, theirs = os.openpty()
+            with open(ours, 'rb') as terminal:
+                done = subprocess.run([small, 'keep', self.folder / f'{want}.store', '-if', self.logs, *more], stdout=subprocess.PIPE, stderr=theirs, env=environment(), check=False)
+                os.write(theirs, b'end')
+                os.close(theirs)
+                self.assertEqual((done.returncode, b' MB of the log taken' in os.read(terminal.fileno(), 100000)), (0, want))
+                self.assertNotIn(b'\r', done.stdout)
+
+    def test_a_long_log_is_taken_in_portions(self) -> None:
+        """Each portion ends between two events."""
+        small = self.with_small_portions()
         text = repeated(500000)
         self.put('audit.log.1.bz2', bz2.compress(text[:text.index(b'\n', 250000) + 1]))
         self.put('audit.log', text[text.index(b'\n', 250000) + 1:])
@@ -1271,6 +1288,17 @@ class Terminal(Scratch):
         self.wait_for('└─ write 2026-06-09 08:01:56.184:1148  127.0.0.1:4445  #49')
         self.keys('frob', 'Enter')
         self.wait_for("invalid choice: 'frob'")
+        self.keys('C-d')
+        self.wait_for('status 0')
+
+    def test_a_store_at_a_terminal(self) -> None:
+        store = self.folder / 'host.store'
+        reduced(EXAMPLE, store)
+        self.start('--store', store, '-if', EXAMPLE, 'ask')
+        self.wait_for('autrail>')
+        self.keys('fore /cust', 'Tab', ' --tree', 'Enter')
+        screen = self.wait_for('└─ write 2026-06-09 08:01:56.184:1148  127.0.0.1:4445  #49')
+        self.assertIn('tar -cf /tmp/.loot.tar', self.wait_for('one path for each of 4 objects'), screen)
         self.keys('C-d')
         self.wait_for('status 0')
 
