@@ -515,27 +515,38 @@ class Whole(unittest.TestCase):
     def setUpClass(cls) -> None:
         cls.autrail = module()
 
+    def whole(self, lines: bytes, quiet: bool = False) -> int:
+        with tempfile.TemporaryFile() as file:
+            file.write(lines)
+            return self.autrail.whole_of(file, len(lines), quiet)
+
     def test_an_event_waits_for_its_end(self) -> None:
-        ended, torn, later = lines_of((1000, 'SYSCALL PATH PROCTITLE')), lines_of((1001, 'SYSCALL PATH')), lines_of((3002, 'USER_LOGIN'))
+        ended, torn, later = lines_of((1000, 'SYSCALL PATH PROCTITLE')), lines_of((1001, 'SYSCALL PATH')), lines_of((3002, 'SYSCALL EOE'))
         cases = [(b'', 0), (b'type=SYSC', 0), (ended, len(ended)), (ended[:-1], 0), (ended + torn, len(ended)), (torn, 0), (torn + ended, 0),
-                 (ended + torn + later, len(ended + torn)), (ended + b'half a line', len(ended)), (b'garbage\n' + ended + b'\n', len(ended) + 9)]
+                 (ended + torn + later, len(ended + torn + later)), (ended + b'half a line', len(ended)), (b'garbage\n' + ended + b'\n', len(ended) + 9),
+                 (ended + lines_of((1001, 'USER_LOGIN')), len(ended + lines_of((1001, 'USER_LOGIN')))), (ended + ended[:ended.index(b'\n') + 1], len(ended))]
         for lines, want in cases:
             with self.subTest(lines):
-                self.assertEqual(self.autrail.whole(lines, False)[0], want)
-        self.assertEqual(self.autrail.whole(ended + torn, True)[0], len(ended + torn))
-        self.assertEqual(self.autrail.whole(ended + torn[:-1], True)[0], len(ended) + torn.index(b'\n') + 1)
+                self.assertEqual(self.whole(lines), want)
+        self.assertEqual(self.whole(ended + torn, True), len(ended + torn))
+        self.assertEqual(self.whole(ended + torn[:-1], True), len(ended) + torn.index(b'\n') + 1)
 
     def test_two_seconds_apart_are_not_yet_later(self) -> None:
         """An event whose last record didn't come waits for a record that is more than two seconds later."""
         for later, want in ((3000, 0), (3001, 1)):
-            lines = lines_of((1000, 'USER_LOGIN'), (later, 'SYSCALL EOE'))
-            self.assertEqual(self.autrail.whole(lines, False)[0], want * len(lines))
+            lines = lines_of((1000, 'SYSCALL'), (later, 'SYSCALL EOE'))
+            self.assertEqual(self.whole(lines), want * len(lines))
 
     def test_events_that_interleave_are_not_torn(self) -> None:
         first = lines_of((1000, 'SYSCALL EOE'))
         lines = first + lines_of((1001, 'SYSCALL'), (1002, 'SYSCALL'), (1001, 'EOE'), (1003, 'SYSCALL'), (1002, 'EOE'))
-        self.assertEqual(self.autrail.whole(lines, False)[0], len(first))
-        self.assertEqual(self.autrail.whole(lines + lines_of((1003, 'EOE')), False)[0], len(lines + lines_of((1003, 'EOE'))))
+        self.assertEqual(self.whole(lines), len(first))
+        self.assertEqual(self.whole(lines + lines_of((1003, 'EOE'))), len(lines + lines_of((1003, 'EOE'))))
+
+    def test_a_later_record_must_stand_before_the_end(self) -> None:
+        """The first event is released by the record of the third, which waits itself. So the portion ends before all three."""
+        before = lines_of((500, 'SYSCALL EOE'))
+        self.assertEqual(self.whole(before + lines_of((1000, 'SYSCALL'), (999, 'SYSCALL'), (3001, 'SYSCALL'), (1000, 'PROCTITLE'), (999, 'PROCTITLE'))), len(before))
 
     def test_the_end_of_a_long_portion_is_looked_at_as_far_back_as_needed(self) -> None:
         """A torn event begins further back than a window, and then than two."""
@@ -548,11 +559,11 @@ class Whole(unittest.TestCase):
 
     def test_no_more_is_looked_at_than_may_wait_in_the_program(self) -> None:
         """Events without an end at one time: the program would have released the oldest of them."""
-        lines = lines_of(*((4000, f'A{it}') for it in range(2000)))
-        with tempfile.TemporaryFile() as file:
-            file.write(lines + b'half a line')
-            with unittest.mock.patch.object(self.autrail, 'WINDOW', 4096), unittest.mock.patch.object(self.autrail, 'WIDEST', 16384):
-                self.assertEqual(self.autrail.whole_of(file, file.tell(), False), len(lines))
+        lines = lines_of(*((4000 + it // 10, 'PATH') for it in range(2000)))
+        with unittest.mock.patch.object(self.autrail, 'WINDOW', 4096), unittest.mock.patch.object(self.autrail, 'WIDEST', 16384):
+            cut = self.whole(lines + b'half a line')
+            self.assertTrue(len(lines) - 16384 < cut < len(lines))
+            self.assertEqual(lines[cut - 1:cut], b'\n')
 
 
 class Writer:
@@ -635,6 +646,18 @@ class Keeps(Scratch):
         self.assertEqual(self.kept()['taken'], 0)
         self.assertEqual({it.name for it in self.folder.glob('host.store*')}, {'host.store', 'host.store.lock', 'host.store.state'})
         self.assertEqual({it.stat().st_mode & 0o77 for it in self.folder.glob('host.store*')}, {0})
+
+    def test_a_log_whose_events_interleave_come_late_and_are_broken(self) -> None:
+        """Whatever portions it is taken in, the store answers as one run, also which events were late."""
+        text = subprocess.run([sys.executable, TOP / 'bench' / 'make_log.py', '1', '4000', '--mix'], capture_output=True, check=True).stdout
+        writer, steps, portions = Writer(self.logs, text, 400000), random.Random(1), 0
+        while writer.written < len(text):
+            writer.write(steps.choice((3000, 70000, 120000)))
+            portions += self.kept()['taken'] > 0
+        writer.end()
+        self.kept()
+        self.assertGreater(portions, 1)
+        self.must_have(text)
 
     def test_a_writer_at_the_same_time(self) -> None:
         text = repeated(900000)
