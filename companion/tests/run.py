@@ -596,6 +596,35 @@ class Writer:
         os.utime(self.folder / 'audit.log', times=(time.time() - 60,) * 2)
 
 
+# autrail, which kills itself before or after its call of that number among those that change what is on the disk or start the program.
+KILLS_ITSELF = """
+import importlib.machinery, importlib.util, os, signal, sys
+loader = importlib.machinery.SourceFileLoader('autrail', sys.argv[1])
+autrail = importlib.util.module_from_spec(importlib.util.spec_from_loader('autrail', loader))
+sys.modules['autrail'] = autrail
+loader.exec_module(autrail)
+calls, last, after = 0, int(sys.argv[2]), sys.argv[3] == 'after'
+
+def counted(call):
+    def counting(*words, **more):
+        global calls
+        calls += 1
+        if calls == last and not after:
+            os.kill(os.getpid(), signal.SIGKILL)
+        result = call(*words, **more)
+        if calls == last:
+            os.kill(os.getpid(), signal.SIGKILL)
+        return result
+    return counting
+
+for name in ('fsync', 'replace', 'unlink'):
+    setattr(os, name, counted(getattr(os, name)))
+autrail.started = counted(autrail.started)
+sys.argv[:] = ['autrail', *sys.argv[4:]]
+sys.exit(autrail.main())
+"""
+
+
 class Keeps(Scratch):
     """A store that is kept up to date with a log."""
 
@@ -693,6 +722,31 @@ class Keeps(Scratch):
         self.wait_for_lock_alone()
         self.assertEqual(self.kept()['bytes'], len(text))
         self.must_have(text)
+
+    def test_runs_that_are_killed_at_each_step(self) -> None:
+        """Before and after each call that changes the disk or starts the program, in the first run of a store and in a later one."""
+        script = self.log(KILLS_ITSELF, 'kills itself')
+        text = repeated(400000)
+        middle = text.index(b'\n', 250000) + 1
+        for before, after in itertools.product((b'', text[:middle]), ('before', 'after')):
+            steps, status = 0, -signal.SIGKILL
+            while status == -signal.SIGKILL:
+                steps += 1
+                for file in self.folder.glob('host.store*'):
+                    file.unlink()
+                if before:
+                    self.put('audit.log', before)
+                    self.assertEqual(self.keep()[0], 0)
+                self.put('audit.log', text)
+                words = [sys.executable, script, AUTRAIL, str(steps), after, 'keep', self.store, '-if', self.logs]
+                status = subprocess.run(words, stdout=subprocess.DEVNULL, env=environment(), check=False).returncode
+                self.wait_for_lock_alone()
+                with self.subTest(before=len(before), after=after, steps=steps):
+                    self.assertEqual(self.kept()['bytes'], len(text))
+                    self.must_have(text)
+            self.assertEqual(status, 0)
+            # The portion, twice the state with its folder, the program, and the portion's end.
+            self.assertGreater(steps, 8)
 
     def start(self) -> subprocess.Popen[bytes]:
         return subprocess.Popen([AUTRAIL, 'keep', self.store, '-if', self.logs], stdout=subprocess.DEVNULL, stderr=subprocess.DEVNULL, env=environment())
