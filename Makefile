@@ -1,26 +1,39 @@
-# Installs the programs and their companion: make install PREFIX=/usr
+# Installs the programs and their companion: make install PREFIX=/usr. A package is made below a folder of its own by DESTDIR=FOLDER.
 PREFIX ?= /usr/local
+DESTDIR ?=
 PROGRAM ?= crates/audit_cli/out/audit_cli
 ORDER ?= crates/audit_order/out/audit_order
 
 .PHONY: install built man test
 
 install: built
-	install -d "$(PREFIX)/bin" "$(PREFIX)/lib/kitrevasu" "$(PREFIX)/share/autrail" "$(PREFIX)/share/man/man1"
-	install -d "$(PREFIX)/share/bash-completion/completions" "$(PREFIX)/share/zsh/site-functions"
-	install -m 755 "$(PROGRAM)" "$(PREFIX)/lib/kitrevasu/audit_cli"
-	install -m 755 companion/installed.sh "$(PREFIX)/bin/audit_cli"
+	install -d "$(DESTDIR)$(PREFIX)/bin" "$(DESTDIR)$(PREFIX)/lib/kitrevasu" "$(DESTDIR)$(PREFIX)/share/autrail" "$(DESTDIR)$(PREFIX)/share/man/man1"
+	install -d "$(DESTDIR)$(PREFIX)/share/bash-completion/completions" "$(DESTDIR)$(PREFIX)/share/zsh/site-functions"
+	install -m 755 "$(PROGRAM)" "$(DESTDIR)$(PREFIX)/lib/kitrevasu/audit_cli"
+	install -m 644 companion/words/audit_cli "$(DESTDIR)$(PREFIX)/lib/kitrevasu/audit_cli.words"
+	install -m 755 companion/installed.sh "$(DESTDIR)$(PREFIX)/bin/audit_cli"
 	if [ -x "$(ORDER)" ]; then \
-		install -m 755 "$(ORDER)" "$(PREFIX)/lib/kitrevasu/audit_order" && \
-		install -m 755 companion/installed.sh "$(PREFIX)/bin/audit_order"; \
+		install -m 755 "$(ORDER)" "$(DESTDIR)$(PREFIX)/lib/kitrevasu/audit_order" && \
+		install -m 644 companion/words/audit_order "$(DESTDIR)$(PREFIX)/lib/kitrevasu/audit_order.words" && \
+		install -m 755 companion/installed.sh "$(DESTDIR)$(PREFIX)/bin/audit_order"; \
 	else \
 		echo 'audit_order is not built, so it is not installed, and autrail --order needs it: ./audit_order </dev/null builds it; then install again'; \
 	fi
-	install -m 755 companion/autrail "$(PREFIX)/bin/autrail"
-	install -m 644 companion/kitrevasu.rules "$(PREFIX)/share/autrail/kitrevasu.rules"
-	install -m 644 companion/man/autrail.1 "$(PREFIX)/share/man/man1/autrail.1"
-	install -m 644 companion/autrail.bash "$(PREFIX)/share/bash-completion/completions/autrail"
-	install -m 644 companion/_autrail "$(PREFIX)/share/zsh/site-functions/_autrail"
+	install -m 755 companion/autrail "$(DESTDIR)$(PREFIX)/bin/autrail"
+	install -m 644 companion/kitrevasu.rules "$(DESTDIR)$(PREFIX)/share/autrail/kitrevasu.rules"
+	install -m 644 companion/man/autrail.1 "$(DESTDIR)$(PREFIX)/share/man/man1/autrail.1"
+	install -m 644 companion/autrail.bash "$(DESTDIR)$(PREFIX)/share/bash-completion/completions/autrail"
+	install -m 644 companion/_autrail "$(DESTDIR)$(PREFIX)/share/zsh/site-functions/_autrail"
+	install -d "$(DESTDIR)$(PREFIX)/share/autrail/fleet/slurm"
+	install -m 644 companion/fleet/Snakefile "$(DESTDIR)$(PREFIX)/share/autrail/fleet/Snakefile"
+	install -m 755 companion/fleet/host.py "$(DESTDIR)$(PREFIX)/share/autrail/fleet/host.py"
+	install -m 644 companion/fleet/slurm/config.yaml "$(DESTDIR)$(PREFIX)/share/autrail/fleet/slurm/config.yaml"
+	install -m 755 companion/fleet/slurm/job_state "$(DESTDIR)$(PREFIX)/share/autrail/fleet/slurm/job_state"
+	install -d "$(DESTDIR)$(PREFIX)/lib/systemd/system"
+	for unit in service timer; do \
+		sed 's|@PREFIX@|$(PREFIX)|g' "companion/autrail-keep.$$unit" > "$(DESTDIR)$(PREFIX)/lib/systemd/system/autrail-keep.$$unit" && \
+		chmod 644 "$(DESTDIR)$(PREFIX)/lib/systemd/system/autrail-keep.$$unit" || exit 1; \
+	done
 
 # The scripts prove and build a program if the code has changed since; a program of another place is taken as it is. The second
 # program is built anew only if it was built before.
@@ -34,3 +47,4 @@ man:
 
 test:
 	python3 companion/tests/run.py
+	python3 companion/fleet/test.py

@@ -1,7 +1,7 @@
 #!/usr/bin/env python3
 """The tests of autrail and of the scripts that build the programs, over the built programs.
 
-    companion/tests/run.py [--program WORDS] [NAME..]
+    companion/tests/run.py [--program WORDS] [--long] [NAME..]
 
 WORDS is the program (what ./audit_cli at the top has built, which is run first for it). Checks that need graphviz, tmux, auditctl, unshare or
 scdoc are skipped on a machine without them, and say so; so are those of --order if audit_order isn't built.
@@ -11,6 +11,7 @@ from __future__ import annotations
 import argparse
 import bz2
 import contextlib
+import fcntl
 import gzip
 import importlib.machinery
 import importlib.util
@@ -18,6 +19,7 @@ import itertools
 import json
 import lzma
 import os
+import random
 import re
 import shlex
 import shutil
@@ -26,6 +28,7 @@ import struct
 import subprocess
 import sys
 import tempfile
+import threading
 import time
 import unittest
 import unittest.mock
@@ -41,6 +44,8 @@ BUILT = TOP / 'crates' / 'audit_cli' / 'out' / 'audit_cli'
 ORDER = TOP / 'crates' / 'audit_order' / 'out' / 'audit_order'
 WAITED = TOP / 'examples' / 'waited_read.log'
 PROGRAM = str(SCRIPT)
+# How many runs of keep are killed; a hundred by --long.
+KILLS = 10
 ADMIN_FOLDERS = os.environ['PATH'] + ':/usr/sbin:/sbin'
 TREES = {'received': 'back /srv/evil/received.tar --tree', 'port4445': 'back 127.0.0.1:4445 --tree', 'customers': 'fore /customers.csv --tree'}
 RAW = re.compile(rb'[\x00-\x09\x0b-\x1f\x7f]|\xc2[\x80-\x9f]')
@@ -85,6 +90,11 @@ def path(serial: int, name: str, inode: int, kind: str = 'NORMAL') -> str:
 def opened_and(move: int, name: str, inode: int, serial: int, kind: str = 'NORMAL', pid: int = 100) -> str:
     """A process opens a file as descriptor 3, and reads (0) or writes (1) it."""
     return call(serial, 257, pid, exit=3) + path(serial, name, inode, kind) + call(serial + 1, move, pid)
+
+
+def repeated(size: int) -> bytes:
+    """The example again and again, with later times and serial numbers each time, until it has so many bytes."""
+    return subprocess.run([sys.executable, TOP / 'bench' / 'repeat_log.py', EXAMPLE, str(size)], capture_output=True, check=True).stdout
 
 
 class Scratch(unittest.TestCase):
@@ -171,7 +181,9 @@ class Answers(unittest.TestCase):
         self.assertEqual(done.stderr, b'autrail: flows up to 2026-06-09 08:01:55.440 UTC+0000\n')
 
     def test_sessions_of_the_documents_are_as_printed(self) -> None:
-        text = (TOP / 'docs' / 'INVESTIGATING.md').read_text()
+        folder = tempfile.mkdtemp(prefix='autrail-')
+        self.addCleanup(shutil.rmtree, folder)
+        text = (TOP / 'docs' / 'INVESTIGATING.md').read_text().replace('/tmp/web1.store', folder + '/web1.store')
         sessions = re.findall(r'^    \$ (autrail .*)\n((?:    (?!\$ ).*\n|\n(?=    (?!\$ )))*)', text, re.M)
         self.assertGreater(len(sessions), 5)
         for command, printed in sessions:
@@ -378,6 +390,565 @@ class Fitness(Scratch):
         first = said[0]['read_from_log']
         self.assertEqual((first['arguments'], first['auid'], first['uid'], first['session'], first['terminal']), ('p abcd x', '1000 (alice)', '1001 (bob)', '7', 'pts0'))
         self.assertNotIn('arguments', said[1]['read_from_log'])
+
+
+def reduced(log: Path, store: Path, mode: str = 'plain', *words: str) -> None:
+    """Takes a log into a store."""
+    subprocess.run([*shlex.split(PROGRAM), 'reduce', mode, log, store, *words], stdout=subprocess.DEVNULL, check=True)
+
+
+def over_store(store: Path, *words: str | bytes | Path, **more: str) -> tuple[int, str, str]:
+    """The status, the answer and the notes over a store."""
+    done = run('--store', store, *words, **more)
+    return done.returncode, done.stdout.decode(), done.stderr.decode()
+
+
+WITHOUT_LINES = 'autrail: without arguments and users: a store has no lines of its own; name the log by -if beside --store\n'
+
+
+class Stores(Scratch):
+    """Answers over a store, with and without the log beside it."""
+
+    def setUp(self) -> None:
+        super().setUp()
+        self.store = self.folder / 'host.store'
+
+    def test_the_answers_are_those_over_the_log(self) -> None:
+        reduced(EXAMPLE, self.store)
+        for words in ('back 127.0.0.1:4445 --tree', 'fore customers.csv', 'why customers.csv 127.0.0.1:4445 --lines', 'find *received*', 'show pid:435',
+                      'back x.sh --at 2026-06-09T08:01:55.440 --json', 'back x.sh --dot'):
+            with self.subTest(words):
+                want = asked(EXAMPLE, words)
+                self.assertEqual(over_store(self.store, '-q', '-if', EXAMPLE, *words.split())[:2], (0, want))
+                self.assertEqual(run('-q', '--store', self.store, '-if', EXAMPLE, 'ask', stdin=words).stdout.decode(), want)
+
+    def test_without_the_log_users_are_left_out_and_lines_are_refused(self) -> None:
+        reduced(EXAMPLE, self.store)
+        status, answer, said = over_store(self.store, 'back', '127.0.0.1:4445', '--tree')
+        want = (HERE / 'expected' / 'port4445.txt').read_text()
+        self.assertEqual((status, [it for it in answer.splitlines() if '#' in it]), (0, [it for it in want.splitlines() if re.search(r'#\d+$', it)]))
+        self.assertTrue(said.endswith(WITHOUT_LINES), said)
+        self.assertNotIn('uid=', answer)
+        self.assertNotIn('processes', answer)
+        groups = over_store(self.store, '-q', 'fore', 'customers.csv')
+        self.assertEqual(groups, (0, '/customers.csv  #47  can have reached:\naddresses:\n  #49    127.0.0.1:4445\nfiles:\n  #45    /tmp/.loot.tar\n'
+                                     'processes:\n  #39    tar[434]\n  #48    nc.openbsd[435]\n', ''))
+        for words in (('--lines',), ('-i',)):
+            self.assertEqual(over_store(self.store, '-q', 'why', 'customers.csv', '127.0.0.1:4445', *words),
+                             (2, '', "autrail: --lines shows the log's lines, and a store has no lines of its own; name the log by -if beside --store\n"))
+
+    def test_a_path_over_two_logs(self) -> None:
+        """One process wrote a file in the first log. Another one read it in the second log, and wrote a second file."""
+        first = self.log(opened_and(0, '"/in"', 7, 1) + opened_and(1, '"/tmp/a"', 8, 5), 'first.log')
+        second = self.log(opened_and(0, '"/tmp/a"', 8, 20, pid=200) + opened_and(1, '"/tmp/b"', 9, 30, pid=200), 'second.log')
+        for mode in ('plain', 'continuous', 'full', 'source'):
+            store = self.folder / f'{mode}.store'
+            reduced(first, store, mode)
+            reduced(second, store, mode)
+            path = [json.loads(it) for it in over_store(store, '-q', 'why', '/in', '/tmp/b', '--json')[1].splitlines()]
+            self.assertEqual([(it['serial'], it['how'], it['from_label'], it['to_label']) for it in path],
+                             [(2, 'read', '/in', 'p[100]'), (6, 'write', 'p[100]', '/tmp/a'), (21, 'read', '/tmp/a', 'p[200]'), (31, 'write', 'p[200]', '/tmp/b')])
+        # The second log beside the store has the lines of two steps, and may have those of another life.
+        done = run('-q', '--store', self.folder / 'plain.store', '-if', second, 'why', '/in', '/tmp/b', '--lines')
+        self.assertEqual((done.returncode, done.stdout.count(b'type=SYSCALL'), done.stderr), (0, 2, b'autrail: the logs that were named have no lines for 2 steps\n'))
+        self.assertIn('lines with this number, perhaps of another life', over_store(self.folder / 'plain.store', '-q', '-if', second, 'show', 'pid:200')[1])
+        self.assertEqual(over_store(self.folder / 'source.store', '-q', 'fore', '/tmp/a'),
+                         (2, '', "autrail: mode source doesn't answer this; ask in the mode plain or continuous\n"))
+
+    def test_counts_and_what_the_store_cannot_show(self) -> None:
+        reduced(EXAMPLE, self.store)
+        status, answer, said = over_store(self.store, 'stat')
+        self.assertEqual((status, answer.splitlines()[0]), (0, f'{self.store}: 524 events of 284,340 bytes of logs'))
+        self.assertEqual(answer.splitlines()[-1], 'warning: 22 of 524 events came late, so a path over them may be missing or have a later time')
+        counts = json.loads(over_store(self.store, 'stat', '--json')[1])
+        self.assertEqual((counts['mode'], counts['lines'], counts['flows'], counts['files'], counts['least']), ('plain', 1519, 156, [], None))
+        status, answer, said = over_store(self.store, '-q', 'why', 'customers.csv', '/srv/evil/received.tar')
+        self.assertEqual((status, answer), (1, ''))
+        self.assertIn('no path in this store from #47', said)
+        self.assertIn("the store has 524 events of 284,340 bytes of logs; it can't show what came before or after", said)
+
+    def test_what_is_no_store_is_refused(self) -> None:
+        reduced(EXAMPLE, self.store)
+        later = bytearray(self.store.read_bytes())
+        later[13] = 2
+        empty, torn = b'', self.store.read_bytes()[:-20]
+        cases = [(self.folder / 'none', 4, '"autrail keep STORE" makes one'), (self.folder, 7, 'a store is a regular file'),
+                 (EXAMPLE, 7, "this isn't a store; a log is named by -if"), (self.log(empty, 'empty'), 7, 'the store has no batch yet'),
+                 (self.log(b'\x5a', 'closed'), 7, 'the store has no batch yet'), (self.log(bytes(later), 'later'), 7, 'a store of a form'),
+                 (self.log(torn, 'torn'), 7, 'the program says: audit_cli: bad store at 0')]
+        for store, status, want in cases:
+            with self.subTest(store.name):
+                found = over_store(store, 'find', '*')
+                self.assertEqual(found[:2], (status, ''), found)
+                self.assertIn(want, found[2])
+        done = run('-if', self.store, 'stat')
+        self.assertEqual((done.returncode, done.stderr.decode()), (2, f'autrail: {self.store} is a store and not a log; name it by --store\n'))
+        for words, want in ((('-m', 'plain', 'stat'), "-m doesn't stand beside --store"), (('--order', 'stat'), "--order doesn't stand beside --store")):
+            self.assertIn(want, over_store(self.store, *words)[2])
+        done = run('-q', '--store', self.store, 'ask', stdin='stat --store x\nfind /tmp/x.sh\n')
+        self.assertEqual((done.returncode, done.stdout.count(b'\n'), done.stderr.count(b'stand before ask')), (0, 1, 1))
+
+    def test_hostile_names_do_not_reach_a_terminal(self) -> None:
+        text = ''.join(opened_and(0, name.hex().upper(), 50 + place, 10 + 10 * place) + call(15 + 10 * place, 3, exit=0) for place, name in enumerate(HOSTILE.values()))
+        log = self.log(text + opened_and(1, '"/tmp/out"', 90, 200, 'CREATE'))
+        store = self.folder / 'a\x1b[31m\nstore'
+        reduced(log, store)
+        for words in ('back /tmp/out', 'back /tmp/out --tree', 'back /tmp/out --json', 'back /tmp/out --dot', 'find *', 'show *a* --each', 'stat', 'find nosuch', 'why pid:100 /tmp/out --lines'):
+            found = run('--store', store, *words.split())
+            for text in (found.stdout, found.stderr):
+                self.assertIsNone(RAW.search(text), (words, RAW.search(text)))
+                self.assertNotIn('\u202e'.encode(), text)
+        for name in (HOSTILE['feed'], HOSTILE['bytes'], HOSTILE['quote']):
+            self.assertEqual(over_store(store, '-q', 'find', name)[1].count('\n'), 1, name)
+        self.assertIn('a\\x1b[31m\\nstore: no such store', over_store(self.folder / 'a\x1b[31m\nstore' / '..' / 'b' / 'a\x1b[31m\nstore', 'stat')[2])
+
+
+def lines_of(*events: tuple[int, str]) -> bytes:
+    """Lines of events, each with a time in milliseconds and the kinds of its records, in the order in which they are written."""
+    return b''.join(f'type={kind} msg=audit({at // 1000}.{at % 1000:03}:{at}): x=1\n'.encode() for at, kinds in events for kind in kinds.split())
+
+
+class Whole(unittest.TestCase):
+    """What is handed to the program: whole events alone, by the rule that the program joins them by."""
+
+    @classmethod
+    def setUpClass(cls) -> None:
+        cls.autrail = module()
+
+    def whole(self, lines: bytes, quiet: bool = False) -> int:
+        with tempfile.TemporaryFile() as file:
+            file.write(lines)
+            return self.autrail.whole_of(file, len(lines), quiet)
+
+    def test_an_event_waits_for_its_end(self) -> None:
+        ended, torn, later = lines_of((1000, 'SYSCALL PATH PROCTITLE')), lines_of((1001, 'SYSCALL PATH')), lines_of((3002, 'SYSCALL EOE'))
+        cases = [(b'', 0), (b'type=SYSC', 0), (ended, len(ended)), (ended[:-1], 0), (ended + torn, len(ended)), (torn, 0), (torn + ended, 0),
+                 (ended + torn + later, len(ended + torn + later)), (ended + b'half a line', len(ended)), (b'garbage\n' + ended + b'\n', len(ended) + 9),
+                 (ended + lines_of((1001, 'USER_LOGIN')), len(ended + lines_of((1001, 'USER_LOGIN')))), (ended + ended[:ended.index(b'\n') + 1], len(ended))]
+        for lines, want in cases:
+            with self.subTest(lines):
+                self.assertEqual(self.whole(lines), want)
+        self.assertEqual(self.whole(ended + torn, True), len(ended + torn))
+        self.assertEqual(self.whole(ended + torn[:-1], True), len(ended) + torn.index(b'\n') + 1)
+
+    def test_two_seconds_apart_are_not_yet_later(self) -> None:
+        """An event whose last record didn't come waits for a record that is more than two seconds later."""
+        for later, want in ((3000, 0), (3001, 1)):
+            lines = lines_of((1000, 'SYSCALL'), (later, 'SYSCALL EOE'))
+            self.assertEqual(self.whole(lines), want * len(lines))
+
+    def test_events_that_interleave_are_not_torn(self) -> None:
+        first = lines_of((1000, 'SYSCALL EOE'))
+        lines = first + lines_of((1001, 'SYSCALL'), (1002, 'SYSCALL'), (1001, 'EOE'), (1003, 'SYSCALL'), (1002, 'EOE'))
+        self.assertEqual(self.whole(lines), len(first))
+        self.assertEqual(self.whole(lines + lines_of((1003, 'EOE'))), len(lines + lines_of((1003, 'EOE'))))
+
+    def test_a_later_record_must_stand_before_the_end(self) -> None:
+        """The first event is released by the record of the third, which waits itself. So the portion ends before all three."""
+        before = lines_of((500, 'SYSCALL EOE'))
+        self.assertEqual(self.whole(before + lines_of((1000, 'SYSCALL'), (999, 'SYSCALL'), (3001, 'SYSCALL'), (1000, 'PROCTITLE'), (999, 'PROCTITLE'))), len(before))
+
+    def test_the_end_of_a_long_portion_is_looked_at_as_far_back_as_needed(self) -> None:
+        """A torn event begins further back than a window, and then than two."""
+        before, torn = lines_of(*((it, 'SYSCALL EOE') for it in range(1000, 1100))), lines_of((4000, 'SYSCALL'))
+        for count in (10, 1999):
+            with tempfile.TemporaryFile() as file:
+                file.write(before + torn + lines_of(*((4001 + it, 'SYSCALL EOE') for it in range(count))))
+                with unittest.mock.patch.object(self.autrail, 'WINDOW', 4096):
+                    self.assertEqual(self.autrail.whole_of(file, file.tell(), False), len(before))
+
+    def test_no_more_is_looked_at_than_may_wait_in_the_program(self) -> None:
+        """Events without an end at one time: the program would have released the oldest of them."""
+        lines = lines_of(*((4000 + it // 10, 'PATH') for it in range(2000)))
+        with unittest.mock.patch.object(self.autrail, 'WINDOW', 4096), unittest.mock.patch.object(self.autrail, 'WIDEST', 16384):
+            cut = self.whole(lines + b'half a line')
+            self.assertTrue(len(lines) - 16384 < cut < len(lines))
+            self.assertEqual(lines[cut - 1:cut], b'\n')
+
+
+class Writer:
+    """Writes a log in a folder as auditd does, in pieces that end anywhere, and renames its files when they are long."""
+
+    def __init__(self, folder: Path, text: bytes, longest: int) -> None:
+        self.folder, self.text, self.longest, self.written = folder, text, longest, 0
+
+    def write(self, count: int) -> None:
+        log = self.folder / 'audit.log'
+        if log.exists() and log.stat().st_size > self.longest:
+            # Files are renamed between two lines alone.
+            self.append(log, self.text.find(b'\n', self.written - 1) + 1 or len(self.text))
+            self.rotate()
+        self.append(log, self.written + count)
+
+    def append(self, log: Path, end: int) -> None:
+        with open(log, 'ab') as file:
+            file.write(self.text[self.written:end])
+        self.written = max(self.written, end)
+
+    def rotate(self) -> None:
+        for number in range(len(list(self.folder.glob('audit.log*'))) - 1, 0, -1):
+            os.rename(self.folder / f'audit.log.{number}', self.folder / f'audit.log.{number + 1}')
+        os.rename(self.folder / 'audit.log', self.folder / 'audit.log.1')
+
+    def end(self) -> None:
+        """Writes the rest, and lets a minute pass."""
+        self.write(len(self.text))
+        os.utime(self.folder / 'audit.log', times=(time.time() - 60,) * 2)
+
+
+# autrail, which kills itself before or after its call of that number among those that change what is on the disk or start the program.
+KILLS_ITSELF = """
+import importlib.machinery, importlib.util, os, signal, sys
+loader = importlib.machinery.SourceFileLoader('autrail', sys.argv[1])
+autrail = importlib.util.module_from_spec(importlib.util.spec_from_loader('autrail', loader))
+sys.modules['autrail'] = autrail
+loader.exec_module(autrail)
+calls, last, after = 0, int(sys.argv[2]), sys.argv[3] == 'after'
+
+def counted(call):
+    def counting(*words, **more):
+        global calls
+        calls += 1
+        if calls == last and not after:
+            os.kill(os.getpid(), signal.SIGKILL)
+        result = call(*words, **more)
+        if calls == last:
+            os.kill(os.getpid(), signal.SIGKILL)
+        return result
+    return counting
+
+for name in ('fsync', 'replace', 'unlink'):
+    setattr(os, name, counted(getattr(os, name)))
+autrail.started = counted(autrail.started)
+sys.argv[:] = ['autrail', *sys.argv[4:]]
+sys.exit(autrail.main())
+"""
+
+
+class Keeps(Scratch):
+    """A store that is kept up to date with a log."""
+
+    def setUp(self) -> None:
+        super().setUp()
+        self.logs, self.store = self.folder / 'audit logs', self.folder / 'host.store'
+        self.logs.mkdir()
+
+    def keep(self, *words: str | Path, **more: str) -> tuple[int, str, str]:
+        done = run('keep', self.store, '-if', self.logs, *words, **more)
+        return done.returncode, done.stdout.decode(), done.stderr.decode()
+
+    def kept(self) -> dict:
+        status, answer, said = self.keep('--json')
+        self.assertEqual((status, said), (0, ''))
+        return json.loads(answer)
+
+    def put(self, name: str, data: bytes, age: int = 60) -> Path:
+        file = self.logs / name
+        file.write_bytes(data)
+        os.utime(file, times=(time.time() - age,) * 2)
+        return file
+
+    def replies(self, words: list[str | Path], before: str = '') -> list[bytes]:
+        questions = before + 'stat\n' + ''.join(f'{way} {of}\n' for of in range(0, 120, 7) for way in ('back', 'fore', 'show'))
+        return subprocess.run([*shlex.split(PROGRAM), *words], input=questions.encode(), stdout=subprocess.PIPE, check=True).stdout.splitlines()
+
+    def must_have(self, text: bytes, mode: str = 'plain') -> None:
+        """The store answers as one run of the program over the whole log."""
+        want = self.replies(['watch', mode, self.log(text, 'whole.log')], 'take 1000000000\nsettle\n')[2:]
+        self.assertEqual(self.replies(['query', self.store]), want)
+
+    def test_a_writer_that_renames_its_files(self) -> None:
+        text = repeated(900000)
+        writer, steps = Writer(self.logs, text, 150000), random.Random(1)
+        while writer.written < len(text):
+            writer.write(steps.choice((1, 500, 40000, 90000)))
+            status, _, said = self.keep('-m', 'continuous')
+            self.assertEqual((status, said), (0, ''))
+        writer.end()
+        last = self.kept()
+        self.assertEqual((last['bytes'], last['waiting'], last['gaps'], last['unseen']), (len(text), 0, [], []))
+        self.assertEqual(last['stat'], json.loads(self.replies(['query', self.store])[0]))
+        self.assertEqual(last['warnings'], json.loads(run('--store', self.store, 'stat', '--json').stdout)['warnings'])
+        self.assertEqual(last['size'], self.store.stat().st_size)
+        self.must_have(text, 'continuous')
+        self.assertGreater(len(list(self.logs.iterdir())), 4)
+        self.assertEqual(self.kept()['taken'], 0)
+        self.assertEqual({it.name for it in self.folder.glob('host.store*')}, {'host.store', 'host.store.lock', 'host.store.state'})
+        self.assertEqual({it.stat().st_mode & 0o77 for it in self.folder.glob('host.store*')}, {0})
+
+    def test_a_log_whose_events_interleave_come_late_and_are_broken(self) -> None:
+        """Whatever portions it is taken in, the store answers as one run, also which events were late."""
+        text = subprocess.run([sys.executable, TOP / 'bench' / 'make_log.py', '1', '4000', '--mix'], capture_output=True, check=True).stdout
+        writer, steps, portions = Writer(self.logs, text, 400000), random.Random(1), 0
+        while writer.written < len(text):
+            writer.write(steps.choice((3000, 70000, 120000)))
+            portions += self.kept()['taken'] > 0
+        writer.end()
+        self.kept()
+        self.assertGreater(portions, 1)
+        self.must_have(text)
+
+    def test_a_writer_at_the_same_time(self) -> None:
+        text = repeated(900000)
+        writer = Writer(self.logs, text, 100000)
+        writer.write(1000)
+
+        def write() -> None:
+            while writer.written < len(text):
+                writer.write(3000)
+                time.sleep(0.01)
+
+        thread = threading.Thread(target=write)
+        thread.start()
+        while thread.is_alive():
+            self.assertEqual(self.keep()[0::2], (0, ''))
+        thread.join()
+        writer.end()
+        self.assertEqual(self.kept()['bytes'], len(text))
+        self.must_have(text)
+
+    def test_runs_that_are_killed_lose_nothing(self) -> None:
+        """Some are killed with the program that they started, and others without it."""
+        text = repeated(600000 + 20000 * KILLS)
+        writer, moments = Writer(self.logs, text, 200000), random.Random(2)
+        begun = time.monotonic()
+        writer.write(60000)
+        self.assertEqual(self.keep()[0], 0)
+        took, killed = time.monotonic() - begun, 0
+        while killed < KILLS:
+            writer.write(moments.choice((700, 20000, 60000)) if writer.written < len(text) - 60000 else 0)
+            killed += self.killed(moments.random() * took, moments.random() < 0.5)
+        writer.end()
+        self.wait_for_lock_alone()
+        self.assertEqual(self.kept()['bytes'], len(text))
+        self.must_have(text)
+
+    def test_runs_that_are_killed_at_each_step(self) -> None:
+        """Before and after each call that changes the disk or starts the program, in the first run of a store and in a later one."""
+        script = self.log(KILLS_ITSELF, 'kills itself')
+        text = repeated(400000)
+        middle = text.index(b'\n', 250000) + 1
+        for before, after in itertools.product((b'', text[:middle]), ('before', 'after')):
+            steps, status = 0, -signal.SIGKILL
+            while status == -signal.SIGKILL:
+                steps += 1
+                for file in self.folder.glob('host.store*'):
+                    file.unlink()
+                if before:
+                    self.put('audit.log', before)
+                    self.assertEqual(self.keep()[0], 0)
+                self.put('audit.log', text)
+                words = [sys.executable, script, AUTRAIL, str(steps), after, 'keep', self.store, '-if', self.logs]
+                status = subprocess.run(words, stdout=subprocess.DEVNULL, env=environment(), check=False).returncode
+                self.wait_for_lock_alone()
+                with self.subTest(before=len(before), after=after, steps=steps):
+                    self.assertEqual(self.kept()['bytes'], len(text))
+                    self.must_have(text)
+            self.assertEqual(status, 0)
+            # The portion, twice the state with its folder, the program, and the portion's end.
+            self.assertGreater(steps, 8)
+
+    def start(self) -> subprocess.Popen[bytes]:
+        return subprocess.Popen([AUTRAIL, 'keep', self.store, '-if', self.logs], stdout=subprocess.DEVNULL, stderr=subprocess.DEVNULL, env=environment())
+
+    def killed(self, after: float, with_program: bool) -> bool:
+        """Starts a run and kills it; whether it was at work then."""
+        child = self.start()
+        time.sleep(after)
+        return self.kill(child, with_program)
+
+    def kill(self, child: subprocess.Popen[bytes], with_program: bool) -> bool:
+        try:
+            programs = Path(f'/proc/{child.pid}/task/{child.pid}/children').read_text().split() if with_program else []
+        except OSError:
+            programs = []
+        child.kill()
+        for pid in programs:
+            with contextlib.suppress(ProcessLookupError):
+                os.kill(int(pid), signal.SIGKILL)
+        return child.wait() < 0
+
+    def test_a_portion_of_which_a_part_was_taken_goes_on(self) -> None:
+        """The program is killed after its first commit, which comes after 4 MiB of the log."""
+        text = repeated(9 << 20)
+        self.put('audit.log', text)
+        for _ in range(20):
+            child = self.start()
+            while child.poll() is None and not (self.store.exists() and self.store.read_bytes()[:1] == b'\xa5'):
+                time.sleep(0.001)
+            if self.kill(child, True):
+                break
+            for file in self.folder.glob('host.store*'):
+                file.unlink()
+        self.wait_for_lock_alone()
+        there = json.loads(self.replies(['query', self.store])[0])['bytes']
+        self.assertTrue(4 << 20 <= there < len(text), there)
+        self.assertEqual(json.loads((self.folder / 'host.store.state').read_text())['coming']['bytes'], len(text))
+        self.assertEqual(self.kept()['bytes'], len(text))
+        self.must_have(text)
+
+    def wait_for_lock_alone(self) -> None:
+        """A program whose run was killed may still be at work, and holds the lock of the store."""
+        with open(self.folder / 'host.store.lock', 'rb') as lock:
+            fcntl.flock(lock, fcntl.LOCK_EX)
+
+    def test_files_that_are_renamed_packed_and_copied_are_known(self) -> None:
+        lines = repeated(400000).splitlines(keepends=True)
+        parts = [b''.join(lines[len(lines) * it // 4:len(lines) * (it + 1) // 4]) for it in range(4)]
+        self.put('audit.log', parts[0] + parts[1][:5000])
+        self.keep()
+        os.unlink(self.logs / 'audit.log')
+        self.put('audit.log.2.gz', gzip.compress(parts[0] + parts[1]))
+        self.put('audit.log.1.xz', lzma.compress(parts[2]))
+        self.put('audit.log', parts[3])
+        self.assertEqual(self.kept()['bytes'], len(b''.join(parts)))
+        shutil.rmtree(self.logs)
+        self.logs.mkdir()
+        self.put('audit.log.1', parts[3])
+        self.assertEqual(self.kept()['taken'], 0)
+        self.must_have(b''.join(parts))
+
+    def test_a_file_that_does_not_end_in_a_line_feed(self) -> None:
+        first, second = lines_of((1000, 'SYSCALL EOE')), lines_of((9000, 'SYSCALL EOE'))
+        self.put('audit.log.1', first[:-1])
+        self.put('audit.log', second)
+        self.assertEqual((self.kept()['bytes'], self.kept()['taken']), (len(first + second), 0))
+        self.must_have(first + second)
+
+    def test_a_missing_file_is_told_and_nothing_taken(self) -> None:
+        parts = [call(serial, 0).encode() + call(serial + 1, 3).encode() for serial in (1, 11, 21, 31, 41)]
+        self.put('audit.log', parts[0])
+        self.assertEqual(self.kept()['last'], '1780992002.000:2')
+        os.unlink(self.logs / 'audit.log')
+        self.put('audit.log.3', parts[2])
+        self.put('audit.log.1', parts[3])
+        self.put('audit.log', parts[4])
+        before = (self.folder / 'host.store.state').read_bytes()
+        status, answer, said = self.keep()
+        self.assertEqual((status, answer), (4, ''))
+        self.assertEqual(said, 'autrail: files of the log are missing: between 2026-06-09 08:00:02.000 (serial 2) and 2026-06-09 08:00:21.000 (serial 21)\n'
+                               'files of the log are missing: between 2026-06-09 08:00:22.000 (serial 22) and 2026-06-09 08:00:31.000 (serial 31)\n'
+                               '  nothing was taken; put the files back, or take what is there by --over-gap\n')
+        self.assertEqual((self.folder / 'host.store.state').read_bytes(), before)
+        self.assertEqual(self.keep('--over-gap')[0], 0)
+        self.assertEqual(self.kept()['gaps'], [['1780992002.000:2', '1780992021.000:21'], ['1780992022.000:22', '1780992031.000:31']])
+        self.must_have(parts[0] + b''.join(parts[2:]))
+        warnings = json.loads(run('--store', self.store, 'stat', '--json').stdout)['warnings']
+        self.assertEqual([it.split(':')[0] for it in warnings], ['files of the log are missing'] * 2 + ['the log has no writes and no opens and no starts of processes and no starts of programs, so paths over them are missing'])
+        self.assertIn('4 events of', run('--store', self.store, 'stat').stdout.decode().splitlines()[0].replace('8 events', '4 events'))
+
+    def test_a_portion_is_taken_although_its_files_are_gone(self) -> None:
+        """The program is stopped at each of its calls; what it was to take stands beside the store."""
+        text = repeated(300000)
+        self.put('audit.log', text)
+        for program in ("sh -c 'exit 6'", "sh -c 'kill -9 $$'"):
+            self.assertIn(self.keep(AUDIT_CLI=program)[0], (6, 137))
+        os.unlink(self.logs / 'audit.log')
+        self.put('audit.log', lines_of((4000000000000, 'SYSCALL EOE')))
+        self.assertEqual(self.keep()[0], 4)
+        self.assertEqual(json.loads((self.folder / 'host.store.state').read_text())['taken']['bytes'], len(text))
+        self.must_have(text)
+
+    def with_small_portions(self) -> Path:
+        """A copy of autrail that takes a log in small portions."""
+        small = self.log(AUTRAIL.read_text().replace('PORTION = 1 << 28', 'PORTION = 70000').replace('WINDOW = 1 << 20', 'WINDOW = 8192'), 'autrail')
+        small.chmod(0o755)
+        return small
+
+    def test_progress_is_shown_at_a_terminal_alone(self) -> None:
+        small = self.with_small_portions()
+        self.put('audit.log', repeated(3 << 20))
+        for more, want in (((), True), (('-q',), False)):
+            ours, theirs = os.openpty()
+            with open(ours, 'rb') as terminal:
+                done = subprocess.run([small, 'keep', self.folder / f'{want}.store', '-if', self.logs, *more], stdout=subprocess.PIPE, stderr=theirs, env=environment(), check=False)
+                os.write(theirs, b'end')
+                os.close(theirs)
+                self.assertEqual((done.returncode, b' MB of the log taken' in os.read(terminal.fileno(), 100000)), (0, want))
+                self.assertNotIn(b'\r', done.stdout)
+
+    def test_a_long_log_is_taken_in_portions(self) -> None:
+        """Each portion ends between two events."""
+        small = self.with_small_portions()
+        text = repeated(500000)
+        self.put('audit.log.1.bz2', bz2.compress(text[:text.index(b'\n', 250000) + 1]))
+        self.put('audit.log', text[text.index(b'\n', 250000) + 1:])
+        done = subprocess.run([small, 'keep', self.store, '-if', self.logs], capture_output=True, env=environment(), check=False)
+        self.assertEqual((done.returncode, done.stderr), (0, b''))
+        self.must_have(text)
+
+    def test_a_store_is_begun_after_another_one(self) -> None:
+        first, second, third = (call(serial, 0).encode() + call(serial + 1, 3).encode() for serial in (1, 11, 21))
+        self.put('audit.log', first)
+        self.assertEqual(self.keep('-m', 'full')[0], 0)
+        self.put('audit.log', first + second)
+        other = self.folder / 'other.store'
+        words = ('keep', other, '-if', self.logs, '--after', self.store, '--json')
+        told = json.loads(run(*words).stdout)
+        self.assertEqual((told['bytes'], told['first'], told['mode']), (len(second), '1780992011.000:11', 'full'))
+        # From then on it is kept as any other one.
+        self.put('audit.log', first + second + third)
+        told = json.loads(run(*words).stdout)
+        self.assertEqual((told['taken'], told['bytes']), (len(third), len(second + third)))
+        self.store = other
+        self.must_have(second + third, 'full')
+        os.unlink(self.logs / 'audit.log')
+        self.put('audit.log', third)
+        self.assertEqual(run('keep', self.folder / 'last.store', '-if', self.logs, '--after', self.folder / 'host.store').returncode, 4)
+        self.assertEqual(run('keep', self.folder / 'last.store', '-if', self.logs, '--after', EXAMPLE).returncode, 2)
+
+    def test_what_it_writes_follows_no_link(self) -> None:
+        self.put('audit.log', EXAMPLE.read_bytes())
+        other = self.log('precious', 'other')
+        for name in ('host.store.lock', 'host.store.portion', 'host.store.state.new'):
+            (self.folder / name).symlink_to(other)
+            self.assertEqual(self.keep()[0], 4, name)
+            (self.folder / name).unlink()
+        self.assertEqual(other.read_text(), 'precious')
+
+    def test_times_are_those_of_records(self) -> None:
+        """What a user wrote into a line isn't taken for a record."""
+        line = lines_of((1000, 'USER_CMD')).replace(b'x=1', b'cmd="type=X msg=audit(9000000000.000:7): "')
+        self.put('audit.log', line)
+        self.assertEqual((self.kept()['first'], self.kept()['last']), ('1.000:1000', '1.000:1000'))
+
+    def test_one_run_at_a_time(self) -> None:
+        self.put('audit.log', repeated(1000))
+        self.keep()
+        with open(self.folder / 'host.store.lock', 'rb') as lock:
+            fcntl.flock(lock, fcntl.LOCK_EX)
+            self.assertEqual(self.keep(), (1, '', f'autrail: {self.store}: another run is at work on this store, so this one took nothing\n'))
+        self.assertEqual(self.kept()['taken'], 0)
+
+    def test_what_does_not_belong_together_is_refused(self) -> None:
+        self.put('audit.log', EXAMPLE.read_bytes())
+        reduced(EXAMPLE, self.store)
+        self.assertEqual(self.keep()[:2], (2, ''))
+        self.store.unlink()
+        self.keep()
+        state = self.folder / 'host.store.state'
+        of_mode = self.keep('-m', 'full')
+        self.assertEqual((of_mode[0], of_mode[2]), (2, f'autrail: {self.store} is kept in mode plain, and no other one\n'))
+        # Something else has grown the store, so the bytes that it has aren't those that keep noted.
+        reduced(EXAMPLE, self.store)
+        self.put('audit.log', repeated(600000))
+        self.assertEqual(self.keep()[0], 7)
+        self.assertNotIn(' from ', run('--store', self.store, '-q', 'stat').stdout.decode().splitlines()[0])
+        state.write_text('{}')
+        self.assertEqual(self.keep()[0], 4)
+        for words in (['-if', self.logs], ['--store', self.store], ['--order']):
+            self.assertEqual(self.keep(*words)[0], 2, words)
+        self.assertEqual(run('keep', self.folder / 'other.store', '-if', '-').returncode, 2)
+        self.assertEqual(run('keep', self.folder / 'other.store', '-if', self.folder / 'none').returncode, 4)
+        self.assertEqual(run('keep', self.folder / 'none' / 'other.store', '-if', self.logs).returncode, 4)
+
+    def test_a_damaged_file_changes_nothing(self) -> None:
+        self.put('audit.log.1.gz', gzip.compress(EXAMPLE.read_bytes())[:-20])
+        self.put('audit.log', lines_of((4000000000000, 'SYSCALL EOE')))
+        status, answer, said = self.keep()
+        self.assertEqual((status, answer), (4, ''))
+        self.assertIn('audit.log.1.gz: the file is damaged', said)
+        self.assertFalse(self.store.exists())
 
 
 def ordered(log: Path | str, *words: str, **more: str) -> tuple[int, str]:
@@ -634,7 +1205,7 @@ class Words(Scratch):
                 self.autrail.spelled(self.autrail.moment(words))
 
     def test_wrong_words_give_one_line(self) -> None:
-        wrong = ['', 'frob', 'back', 'fore', 'why a', 'find', 'show', 'stat x', 'ask x', 'rules x', 'back x y', 'back x --at', 'back x --at soon', 'fore x --since 25:00',
+        wrong = ['', 'frob', 'back', 'fore', 'why a', 'find', 'show', 'stat x', 'ask x', 'rules x', 'keep', 'keep x y', 'back x y', 'back x --at', 'back x --at soon', 'fore x --since 25:00',
                  'back x --since today', 'back x --tree --dot', 'back x --svg x.png', 'back x --png x.svg', '-m fast stat', '--no-such stat', '-if', 'why a b --at never',
                  '-if - ask', 'back x --paths 0', 'back x --paths many', '--order', '--order=1 stat', 'rules --order=1', 'show x --frob', 'find x --tree', 'rules --json']
         for words in wrong:
@@ -797,6 +1368,17 @@ class Terminal(Scratch):
         self.keys('C-d')
         self.wait_for('status 0')
 
+    def test_a_store_at_a_terminal(self) -> None:
+        store = self.folder / 'host.store'
+        reduced(EXAMPLE, store)
+        self.start('--store', store, '-if', EXAMPLE, 'ask')
+        self.wait_for('autrail>')
+        self.keys('fore /cust', 'Tab', ' --tree', 'Enter')
+        screen = self.wait_for('└─ write 2026-06-09 08:01:56.184:1148  127.0.0.1:4445  #49')
+        self.assertIn('tar -cf /tmp/.loot.tar', self.wait_for('one path for each of 4 objects'), screen)
+        self.keys('C-d')
+        self.wait_for('status 0')
+
     def test_progress_and_an_interrupt_over_a_long_log(self) -> None:
         long = self.folder / 'long.log'
         with open(long, 'wb') as file:
@@ -892,6 +1474,8 @@ class Scripts(Scratch):
             (self.top / 'crates' / name).mkdir(parents=True)
             shutil.copy(TOP / name, self.top / name)
         (self.top / '.ci').mkdir()
+        (self.top / 'companion').mkdir()
+        shutil.copytree(TOP / 'companion' / 'words', self.top / 'companion' / 'words')
         for name in ('.ci/state', '.ci/built_program', 'crates.txt', 'HANDLES'):
             shutil.copy(TOP / name, self.top / name)
         (self.folder / 'rt').write_text(RT)
@@ -919,6 +1503,14 @@ class Scripts(Scratch):
         (self.top / 'crates' / 'audit_cli' / 'code').write_text('changed')
         self.assertEqual(self.ended(self.start('audit_cli'))[:2], (3, 'audit_cli:\n'))
         self.assertEqual(len(self.asked()), 4)
+
+    def test_the_forms_of_words_are_told_without_building(self) -> None:
+        for name in ('audit_cli', 'audit_order'):
+            forms = (HERE.parent / 'words' / name).read_text().splitlines()
+            self.assertEqual(forms[0], f'{name} of Kitrevasu {module().VERSION}')
+            for word, want in (('--help', forms), ('-h', forms), ('--version', forms[:1])):
+                self.assertEqual(self.ended(self.start(name, word)), (2, '', want))
+        self.assertFalse(self.said.exists())
 
     def test_two_programs_are_built_one_after_the_other(self) -> None:
         if not shutil.which('flock'):
@@ -953,9 +1545,10 @@ class Installed(Scratch):
         program.chmod(0o755)
         order = self.log('#!/bin/sh\nexit 8\n', 'order')
         order.chmod(0o755)
-        of_both = {'bin/audit_cli', 'bin/autrail', 'lib/kitrevasu/audit_cli', 'share/autrail/kitrevasu.rules', 'share/bash-completion/completions/autrail',
+        of_both = {'bin/audit_cli', 'bin/autrail', 'lib/kitrevasu/audit_cli', 'lib/kitrevasu/audit_cli.words', 'lib/systemd/system/autrail-keep.service', 'lib/systemd/system/autrail-keep.timer', 'share/autrail/kitrevasu.rules', 'share/bash-completion/completions/autrail',
                    'share/man/man1/autrail.1', 'share/zsh/site-functions/_autrail'}
-        for second, more in ((self.folder / 'none', set()), (order, {'bin/audit_order', 'lib/kitrevasu/audit_order'})):
+        of_both |= {'share/autrail/fleet/' + it for it in ('Snakefile', 'host.py', 'slurm/config.yaml', 'slurm/job_state')}
+        for second, more in ((self.folder / 'none', set()), (order, {'bin/audit_order', 'lib/kitrevasu/audit_order', 'lib/kitrevasu/audit_order.words'})):
             done = subprocess.run(['make', '-s', 'install', f'PREFIX={self.folder}/usr', f'PROGRAM={program}', f'ORDER={second}'], cwd=TOP, capture_output=True, check=False)
             self.assertEqual(done.returncode, 0, done.stderr)
             self.assertEqual(b'./audit_order </dev/null builds it' in done.stdout, not more)
@@ -964,9 +1557,32 @@ class Installed(Scratch):
         installed = self.folder / 'usr' / 'bin' / 'autrail'
         self.assertEqual(subprocess.run([installed, 'rules'], capture_output=True, check=False).stdout, (HERE.parent / 'kitrevasu.rules').read_bytes())
         self.assertEqual(subprocess.run([self.folder / 'usr' / 'bin' / 'audit_cli'], check=False).returncode, 7)
+        told = subprocess.run([self.folder / 'usr' / 'bin' / 'audit_cli', '--help'], capture_output=True, check=False)
+        self.assertEqual((told.returncode, told.stdout, told.stderr), (2, b'', (HERE.parent / 'words' / 'audit_cli').read_bytes()))
+        service = (self.folder / 'usr' / 'lib' / 'systemd' / 'system' / 'autrail-keep.service').read_text()
+        self.assertIn(f'ExecStart={self.folder}/usr/bin/autrail keep ', service)
         # The companion finds the second program beside itself.
         done = subprocess.run([installed, '--order', '-if', EXAMPLE, 'stat'], capture_output=True, env=environment(AUDIT_ORDER=''), check=False)
         self.assertEqual((done.returncode, done.stdout), (8, b''))
+
+    def test_a_package_is_made_below_a_folder(self) -> None:
+        """What is installed below DESTDIR names the places where it will be."""
+        if not shutil.which('make'):
+            self.skipTest('make is not on this machine')
+        program = self.log('#!/bin/sh\nexit 7\n', 'program')
+        program.chmod(0o755)
+        subprocess.run(['make', '-s', 'install', f'DESTDIR={self.folder}/package', 'PREFIX=/usr', f'PROGRAM={program}', f'ORDER={program}'], cwd=TOP, stdout=subprocess.DEVNULL, check=True)
+        service = (self.folder / 'package' / 'usr' / 'lib' / 'systemd' / 'system' / 'autrail-keep.service').read_text()
+        self.assertIn('ExecStart=/usr/bin/autrail keep ', service)
+        self.assertEqual([it.name for it in (self.folder / 'package').iterdir()], ['usr'])
+
+    def test_systemd_takes_the_units(self) -> None:
+        if not shutil.which('systemd-analyze'):
+            self.skipTest('systemd-analyze is not on this machine')
+        for name in ('autrail-keep.service', 'autrail-keep.timer'):
+            (self.folder / name).write_text((HERE.parent / name).read_text().replace('@PREFIX@/bin/autrail', str(AUTRAIL)))
+        done = subprocess.run(['systemd-analyze', '--man=no', 'verify', self.folder / 'autrail-keep.service', self.folder / 'autrail-keep.timer'], capture_output=True, text=True, check=False)
+        self.assertEqual([it for it in done.stderr.splitlines() if 'autrail-keep' in it], [])
 
     def test_the_man_page_is_built_of_its_source(self) -> None:
         if not shutil.which('scdoc'):
@@ -977,28 +1593,30 @@ class Installed(Scratch):
         self.assertEqual(strip(built), strip((HERE.parent / 'man' / 'autrail.1').read_bytes()))
 
     def test_the_man_page_and_completions_name_each_command_and_option(self) -> None:
-        helps = ''.join(run(*it, '--help').stdout.decode() for it in ([], ['back'], ['fore'], ['why']))
-        options = set(re.findall(r'--[a-z]+', helps)) - {'--input', '--help', '--version', '--mode', '--quiet', '--all'}
+        helps = ''.join(run(*it, '--help').stdout.decode() for it in ([], ['back'], ['fore'], ['why'], ['keep']))
+        options = set(re.findall(r'--[a-z-]+', helps)) - {'--input', '--help', '--version', '--mode', '--quiet', '--all'}
         for name in ('autrail.1.scd', 'autrail.bash', '_autrail'):
             text = (HERE.parent / name).read_text().replace('\\-', '-')
-            for word in sorted(options) + ['back', 'fore', 'why', 'find', 'show', 'stat', 'ask', 'rules']:
+            for word in sorted(options) + ['back', 'fore', 'why', 'find', 'show', 'stat', 'ask', 'keep', 'rules']:
                 self.assertIn(word, text, name)
 
     def test_bash_completes(self) -> None:
         if not shutil.which('bash'):
             self.skipTest('bash is not on this machine')
         script = 'source companion/autrail.bash; COMP_WORDS=(autrail "$@"); COMP_CWORD=$#; _autrail; printf "%s\\n" "${COMPREPLY[@]}"'
-        for words, want in ((['ba'], ['back']), (['back', 'x', '--tr'], ['--tree']), (['-m', 'con'], ['continuous']), (['back', 'x', '--at', 'yes'], ['yesterday']), (['--or'], ['--order'])):
+        for words, want in ((['ba'], ['back']), (['back', 'x', '--tr'], ['--tree']), (['-m', 'con'], ['continuous']), (['back', 'x', '--at', 'yes'], ['yesterday']), (['--or'], ['--order']), (['--sto'], ['--store']), (['ke'], ['keep']), (['keep', 'x', '--ov'], ['--over-gap'])):
             done = subprocess.run(['bash', '-c', script, 'bash', *words], capture_output=True, text=True, cwd=TOP, check=False)
             self.assertEqual(done.stdout.split(), want, words)
 
 
 def main() -> int:
-    global PROGRAM
+    global KILLS, PROGRAM
     words = argparse.ArgumentParser(description=__doc__.splitlines()[0])
     words.add_argument('--program', default=PROGRAM)
+    words.add_argument('--long', action='store_true', help='kill a hundred runs of keep, and not ten')
     words.add_argument('names', nargs='*')
     options = words.parse_args()
+    KILLS = 100 if options.long else KILLS
     PROGRAM = options.program
     subprocess.run([*shlex.split(PROGRAM), 'back', '0'], stdin=subprocess.DEVNULL, stdout=subprocess.DEVNULL, check=True)
     if PROGRAM == str(SCRIPT):
