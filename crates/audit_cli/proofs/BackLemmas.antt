@@ -104,6 +104,8 @@ quiet_halt limits (halt.Full full) from to questions passes due stops = stops fu
 quiet_halt limits halt.NoMemory from to questions passes due stops = inl refl
 quiet_halt limits halt.ReadFault from to questions passes due stops = inl refl
 quiet_halt limits halt.WriteFault from to questions passes due stops = inl refl
+quiet_halt limits halt.StoreFault from to questions passes due stops = inl refl
+quiet_halt limits (halt.Unwritten other) from to questions passes due stops = inl refl
 
 -- a halt within the last reply
 pub cut_halt : (limits : Limits) (why : Halt) (from to : Moment) (questions : List (Option Ask)) (bytes : List ℕ) → IsDue never why → IsLastFront limits from questions bytes → LastCourse limits (Err why) from questions bytes to
@@ -111,6 +113,8 @@ cut_halt limits (halt.Full full) from to questions bytes none x = absurd none
 cut_halt limits halt.NoMemory from to questions bytes none x = inr x
 cut_halt limits halt.ReadFault from to questions bytes none x = inr x
 cut_halt limits halt.WriteFault from to questions bytes none x = inr x
+cut_halt limits halt.StoreFault from to questions bytes none x = inr x
+cut_halt limits (halt.Unwritten other) from to questions bytes none x = inr x
 
 -- all three were answered
 pub last_said : (mode : Mode) (limits : Limits) (of : ℕ) (bytes : List ℕ) (a b r : Reply) (text : List ℕ) → limits.input < most → Fits limits (taken mode bytes).history → Answers limits (Some (ask.Take most)) (begin mode bytes) a

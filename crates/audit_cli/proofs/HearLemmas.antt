@@ -13,8 +13,8 @@ use Rattle.audit_cli.specs.declared.halt.Halt.{Halt}
 use Rattle.audit_cli.specs.declared.halt.Halt.TheVariants as halt
 use Rattle.audit_cli.specs.declared.halt.Turn.{Turn}
 use Rattle.audit_cli.specs.declared.halt.Turn.TheVariants as turn
-use Rattle.audit_cli.specs.Dialogue.{Kind, Moment, Beyond, Leads, asked, asks, QuestionsStop, ReadsNoFurther, input_full, nothing_beyond}
-use Rattle.audit_cli.specs.Course.{At, Course, Halted, Talked, IsDue, never}
+use Rattle.audit_cli.specs.Dialogue.{Moment, Beyond, Leads, asked, asks, QuestionsStop, ReadsNoFurther, input_full, nothing_beyond}
+use Rattle.audit_cli.specs.Course.{Kind, At, Course, Halted, Talked, IsDue, never}
 use Rattle.audit_cli.specs.Hearing.{Holds, Heard, WhenMore}
 use Rattle.audit_cli.specs.Listening.{PassesRoom, EndsWithin}
 use Rattle.audit_cli.proofs.TalkLemmas.{appends_none, appends_both, leads_none, leads_closes, course_after, nothing_said, other_halt, Carries}
@@ -28,13 +28,13 @@ pub pieces : (h : History) (p q : List ℕ) → with_bytes (with_bytes h p) q �
 pieces h p q = rw (map-append, append_assoc) refl
 
 -- the lines of a piece that was heard whole
-pub whole_lines : {K : Type 0} → (kind : Kind) (limits : Limits) (beyond : Beyond) (c : Cutter) (e : Engine K) (l old new : Option (List ℕ)) (m : Moment) (h : History) (p : List ℕ)
+pub whole_lines : {K : Type 0} → (kind : Kind K) (limits : Limits) (beyond : Beyond) (c : Cutter) (e : Engine K) (l old new : Option (List ℕ)) (m : Moment) (h : History) (p : List ℕ)
     → (x : Heard kind limits beyond c e l old new (Ok turn.More) m h p) → lines_of (with_bytes h p) ≡ lines_of h ++ x.answered
 whole_lines kind limits beyond c e l old new m h p x =
     x.lines ∙ ap (λ (ls : List (List ℕ)). lines_of h ++ (x.answered ++ ls)) x.whole ∙ ap (λ (ls : List (List ℕ)). lines_of h ++ ls) (append-nil x.answered)
 
 -- a part of a run after another one that goes on
-pub talked_after : {K : Type 0} → (kind : Kind) (limits : Limits) (P Q : Beyond) (e1 e2 : Engine K) (l1 l2 old mid new : Option (List ℕ)) (r : Result Turn Halt) (from : Moment) (f g : List (Option Ask))
+pub talked_after : {K : Type 0} → (kind : Kind K) (limits : Limits) (P Q : Beyond) (e1 e2 : Engine K) (l1 l2 old mid new : Option (List ℕ)) (r : Result Turn Halt) (from : Moment) (f g : List (Option Ask))
     → Carries f P Q → (first : Talked kind limits nothing_beyond e1 l1 old mid (Ok turn.More) from f) → Talked kind limits P e2 l2 mid new r first.to g → Talked kind limits Q e2 l2 old new r from (f ++ g)
 talked_after kind limits P Q e1 e2 l1 l2 old mid new r from f g carries first second = record {
   to = second.to;
@@ -46,11 +46,11 @@ talked_after kind limits P Q e1 e2 l1 l2 old mid new r from f g carries first se
 }
 
 -- nothing asked yet
-pub talked_none : {K : Type 0} → (kind : Kind) (limits : Limits) (beyond : Beyond) (e : Engine K) (l old : Option (List ℕ)) (m : Moment) → At kind limits e l m → Talked kind limits beyond e l old old (Ok turn.More) m []
+pub talked_none : {K : Type 0} → (kind : Kind K) (limits : Limits) (beyond : Beyond) (e : Engine K) (l old : Option (List ℕ)) (m : Moment) → At kind limits e l m → Talked kind limits beyond e l old old (Ok turn.More) m []
 talked_none kind limits beyond e l old m at = record { to = m; bytes = []; wrote = appends_none old; course = ([], refl, leads_none limits m); at = at }
 
 -- nothing heard yet
-pub heard_none : {K : Type 0} → (kind : Kind) (limits : Limits) (beyond : Beyond) (c : Cutter) (e : Engine K) (l old : Option (List ℕ)) (m : Moment) (h : History) → At kind limits e l m → Holds limits c h → Heard kind limits beyond c e l old old (Ok turn.More) m h []
+pub heard_none : {K : Type 0} → (kind : Kind K) (limits : Limits) (beyond : Beyond) (c : Cutter) (e : Engine K) (l old : Option (List ℕ)) (m : Moment) (h : History) → At kind limits e l m → Holds limits c h → Heard kind limits beyond c e l old old (Ok turn.More) m h []
 heard_none kind limits beyond c e l old m h at holds = record {
   answered = [];
   unheard = [];
@@ -61,7 +61,7 @@ heard_none kind limits beyond c e l old m h at holds = record {
 }
 
 -- one piece after another that was heard whole
-pub heard_both : {K : Type 0} → (kind : Kind) (limits : Limits) (P Q : Beyond) (c1 c2 : Cutter) (e1 e2 : Engine K) (l1 l2 old mid new : Option (List ℕ)) (r : Result Turn Halt) (from : Moment) (h : History) (p q : List ℕ)
+pub heard_both : {K : Type 0} → (kind : Kind K) (limits : Limits) (P Q : Beyond) (c1 c2 : Cutter) (e1 e2 : Engine K) (l1 l2 old mid new : Option (List ℕ)) (r : Result Turn Halt) (from : Moment) (h : History) (p q : List ℕ)
     → (first : Heard kind limits nothing_beyond c1 e1 l1 old mid (Ok turn.More) from h p) → Carries (asks limits first.answered) P Q → Heard kind limits P c2 e2 l2 mid new r first.talked.to (with_bytes h p) q → Heard kind limits Q c2 e2 l2 old new r from h (p ++ q)
 heard_both kind limits P Q c1 c2 e1 e2 l1 l2 old mid new r from h p q first carries second =
     let whole = whole_lines kind limits nothing_beyond c1 e1 l1 old mid from h p first in
@@ -87,7 +87,7 @@ when_more (Ok turn.Ended) P p = tt
 when_more (Err why) P p = tt
 
 -- a longer piece, of which no more is heard
-pub heard_longer : {K : Type 0} → LinesStay → (kind : Kind) (limits : Limits) (beyond : Beyond) (c : Cutter) (e : Engine K) (l old new : Option (List ℕ)) (r : Result Turn Halt) (from : Moment) (h : History) (p q : List ℕ)
+pub heard_longer : {K : Type 0} → LinesStay → (kind : Kind K) (limits : Limits) (beyond : Beyond) (c : Cutter) (e : Engine K) (l old new : Option (List ℕ)) (r : Result Turn Halt) (from : Moment) (h : History) (p q : List ℕ)
     → WhenMore r ⊥ → Heard kind limits beyond c e l old new r from h p → Heard kind limits beyond c e l old new r from h (p ++ q)
 heard_longer stay kind limits beyond c e l old new r from h p q none x =
     let more = stay (with_bytes h p) (map Byte q) in
@@ -103,7 +103,7 @@ heard_longer stay kind limits beyond c e l old new r from h p q none x =
     }
 
 -- a part that ends a line, which was answered
-pub heard_line : {K : Type 0} → (kind : Kind) (limits : Limits) (beyond : Beyond) (c : Cutter) (e : Engine K) (l old new : Option (List ℕ)) (r : Result Turn Halt) (m : Moment) (h : History) (part text : List ℕ) (q : Option Ask)
+pub heard_line : {K : Type 0} → (kind : Kind K) (limits : Limits) (beyond : Beyond) (c : Cutter) (e : Engine K) (l old new : Option (List ℕ)) (r : Result Turn Halt) (m : Moment) (h : History) (part text : List ℕ) (q : Option Ask)
     → q ≡ asked limits.question text → Holds limits c (with_bytes h part) → lines_of (with_bytes h part) ≡ lines_of h ++ text ∷ [] → Talked kind limits beyond e l old new r m (q ∷ []) → Heard kind limits beyond c e l old new r m h part
 heard_line kind limits beyond c e l old new r m h part text q asks holds lines talked = record {
   answered = text ∷ [];
@@ -115,7 +115,7 @@ heard_line kind limits beyond c e l old new r m h part text q asks holds lines t
 }
 
 -- a part that ends no line
-pub heard_no_line : {K : Type 0} → (kind : Kind) (limits : Limits) (beyond : Beyond) (c : Cutter) (e : Engine K) (l old : Option (List ℕ)) (m : Moment) (h : History) (part : List ℕ)
+pub heard_no_line : {K : Type 0} → (kind : Kind K) (limits : Limits) (beyond : Beyond) (c : Cutter) (e : Engine K) (l old : Option (List ℕ)) (m : Moment) (h : History) (part : List ℕ)
     → At kind limits e l m → Holds limits c (with_bytes h part) → lines_of (with_bytes h part) ≡ lines_of h → Heard kind limits beyond c e l old old (Ok turn.More) m h part
 heard_no_line kind limits beyond c e l old m h part at holds lines = record {
   answered = [];
@@ -127,7 +127,7 @@ heard_no_line kind limits beyond c e l old m h part at holds lines = record {
 }
 
 -- nothing heard before a halt
-pub heard_nothing : {K : Type 0} → LinesStay → (kind : Kind) (limits : Limits) (beyond : Beyond) (c : Cutter) (e : Engine K) (l old : Option (List ℕ)) (why : Halt) (m : Moment) (h : History) (piece : List ℕ)
+pub heard_nothing : {K : Type 0} → LinesStay → (kind : Kind K) (limits : Limits) (beyond : Beyond) (c : Cutter) (e : Engine K) (l old : Option (List ℕ)) (why : Halt) (m : Moment) (h : History) (piece : List ℕ)
     → IsDue never why → Heard kind limits beyond c e l old old (Err why) m h piece
 heard_nothing stay kind limits beyond c e l old why m h piece due =
     let more = stay h (map Byte piece) in
@@ -159,13 +159,15 @@ halted_weaker limits P Q a f bytes (halt.Full full) more x = record {
 halted_weaker limits P Q a f bytes halt.NoMemory more x = x
 halted_weaker limits P Q a f bytes halt.ReadFault more x = x
 halted_weaker limits P Q a f bytes halt.WriteFault more x = x
+halted_weaker limits P Q a f bytes halt.StoreFault more x = x
+halted_weaker limits P Q a f bytes (halt.Unwritten other) more x = x
 
 course_weaker : (limits : Limits) (P Q : Beyond) (r : Result Turn Halt) (a b : Moment) (f : List (Option Ask)) (bytes : List ℕ) → Weaker P Q → Course limits P r a f bytes b → Course limits Q r a f bytes b
 course_weaker limits P Q (Ok turn.More) a b f bytes more h = h
 course_weaker limits P Q (Ok turn.Ended) a b f bytes more h = h
 course_weaker limits P Q (Err why) a b f bytes more h = halted_weaker limits P Q a f bytes why more h
 
-pub heard_weaker : {K : Type 0} → (kind : Kind) (limits : Limits) (P Q : Beyond) (c : Cutter) (e : Engine K) (l old new : Option (List ℕ)) (r : Result Turn Halt) (from : Moment) (h : History) (p : List ℕ)
+pub heard_weaker : {K : Type 0} → (kind : Kind K) (limits : Limits) (P Q : Beyond) (c : Cutter) (e : Engine K) (l old new : Option (List ℕ)) (r : Result Turn Halt) (from : Moment) (h : History) (p : List ℕ)
     → Weaker P Q → Heard kind limits P c e l old new r from h p → Heard kind limits Q c e l old new r from h p
 heard_weaker kind limits P Q c e l old new r from h p more x = record {
   answered = x.answered;
@@ -183,7 +185,7 @@ heard_weaker kind limits P Q c e l old new r from h p more x = record {
 }
 
 -- a longer piece, of which the rest may not be heard
-pub heard_full : {K : Type 0} → LinesStay → (kind : Kind) (limits : Limits) (beyond : Beyond) (c : Cutter) (e : Engine K) (l old new : Option (List ℕ)) (from : Moment) (h : History) (p q : List ℕ)
+pub heard_full : {K : Type 0} → LinesStay → (kind : Kind K) (limits : Limits) (beyond : Beyond) (c : Cutter) (e : Engine K) (l old new : Option (List ℕ)) (from : Moment) (h : History) (p q : List ℕ)
     → (x : Heard kind limits nothing_beyond c e l old new (Ok turn.More) from h p) → beyond (asks limits x.answered) (input_full limits) → Heard kind limits beyond c e l old new (Err (halt.Full (input_full limits))) from h (p ++ q)
 heard_full stay kind limits beyond c e l old new from h p q x over =
     let more = stay (with_bytes h p) (map Byte q) in
@@ -201,7 +203,7 @@ heard_full stay kind limits beyond c e l old new from h p q x over =
           said = x.talked.course.0;
           to = x.talked.to;
           stops = record { answered = asks limits x.answered; later = []; parts = sym (append-nil (asks limits x.answered)); leads = x.talked.course.2; cause = inr over };
-          fits = x.talked.at.stands.fits;
+          fits = x.talked.at.stands_at.stands.fits;
           bytes_are = x.talked.course.1;
         };
         at = tt;
@@ -211,7 +213,7 @@ heard_full stay kind limits beyond c e l old new from h p q x over =
     }
 
 -- a part that goes on had no cause to halt
-pub heard_more : {K : Type 0} → (kind : Kind) (limits : Limits) (P Q : Beyond) (c : Cutter) (e : Engine K) (l old new : Option (List ℕ)) (from : Moment) (h : History) (p : List ℕ)
+pub heard_more : {K : Type 0} → (kind : Kind K) (limits : Limits) (P Q : Beyond) (c : Cutter) (e : Engine K) (l old new : Option (List ℕ)) (from : Moment) (h : History) (p : List ℕ)
     → Heard kind limits P c e l old new (Ok turn.More) from h p → Heard kind limits Q c e l old new (Ok turn.More) from h p
 heard_more kind limits P Q c e l old new from h p x = record {
   answered = x.answered;
@@ -223,7 +225,7 @@ heard_more kind limits P Q c e l old new from h p x = record {
 }
 
 -- what was heard within the room leaves more to hear
-pub questions_pass : {K : Type 0} → (kind : Kind) (limits : Limits) (c : Cutter) (e : Engine K) (l old new : Option (List ℕ)) (from : Moment) (h : History) (p q : List ℕ) (room : ℕ)
+pub questions_pass : {K : Type 0} → (kind : Kind K) (limits : Limits) (c : Cutter) (e : Engine K) (l old new : Option (List ℕ)) (from : Moment) (h : History) (p q : List ℕ) (room : ℕ)
     → p ≡ take room q → room < length q → (x : Heard kind limits nothing_beyond c e l old new (Ok turn.More) from h p) → PassesRoom limits room h q (asks limits x.answered) (input_full limits)
 questions_pass kind limits c e l old new from h p q room is over x = record {
   ended = x.answered;
@@ -234,7 +236,7 @@ questions_pass kind limits c e l old new from h p q room is over x = record {
 }
 
 -- `end` was heard within the room
-pub questions_closed : {K : Type 0} → LinesStay → (kind : Kind) (limits : Limits) (c : Cutter) (e : Engine K) (l old new : Option (List ℕ)) (from : Moment) (h : History) (p q : List ℕ) (n room : ℕ)
+pub questions_closed : {K : Type 0} → LinesStay → (kind : Kind K) (limits : Limits) (c : Cutter) (e : Engine K) (l old new : Option (List ℕ)) (from : Moment) (h : History) (p q : List ℕ) (n room : ℕ)
     → p ≡ take n q → n ≤ room → Heard kind limits nothing_beyond c e l old new (Ok turn.Ended) from h p → EndsWithin limits room from h q
 questions_closed stay kind limits c e l old new from h p q n room is within x =
     let sum : n + (room - n) ≡ room = omega arith in
@@ -259,7 +261,7 @@ front_of limits n q within =
     sym (take-add n (limits.input - n) q) ∙ ap (λ (k : ℕ). take k q) sum
 
 -- the same, after all that was heard before
-pub questions_pass_after : {K : Type 0} → (kind : Kind) (limits : Limits) (n : ℕ) (c : Cutter) (e : Engine K) (l old new : Option (List ℕ)) (from : Moment) (q : List ℕ)
+pub questions_pass_after : {K : Type 0} → (kind : Kind K) (limits : Limits) (n : ℕ) (c : Cutter) (e : Engine K) (l old new : Option (List ℕ)) (from : Moment) (q : List ℕ)
     → n ≤ limits.input → n ≤ length q → (first : Heard kind limits nothing_beyond c e l old new (Ok turn.More) from [] (take n q))
     → Carries (asks limits first.answered) (PassesRoom limits (limits.input - n) (with_bytes [] (take n q)) (drop n q)) (QuestionsStop limits q)
 questions_pass_after kind limits n c e l old new from q within part first = λ answered full x.
@@ -275,7 +277,7 @@ questions_pass_after kind limits n c e l old new from q within part first = λ a
     }
 
 -- the same, after all that was heard before
-pub questions_closed_after : {K : Type 0} → (kind : Kind) (limits : Limits) (n : ℕ) (c : Cutter) (e : Engine K) (l old new : Option (List ℕ)) (from : Moment) (q : List ℕ)
+pub questions_closed_after : {K : Type 0} → (kind : Kind K) (limits : Limits) (n : ℕ) (c : Cutter) (e : Engine K) (l old new : Option (List ℕ)) (from : Moment) (q : List ℕ)
     → n ≤ limits.input → (first : Heard kind limits nothing_beyond c e l old new (Ok turn.More) from [] (take n q)) → EndsWithin limits (limits.input - n) first.talked.to (with_bytes [] (take n q)) (drop n q) → EndsWithin limits limits.input from [] q
 questions_closed_after kind limits n c e l old new from q within first x =
     let whole = whole_lines kind limits nothing_beyond c e l old new from [] (take n q) first in
@@ -294,7 +296,7 @@ on_ok (Ok t) P p = p
 on_ok (Err e) P p = tt
 
 -- one read more than what was heard whole
-pub no_further : {K : Type 0} → (kind : Kind) (limits : Limits) (c : Cutter) (e : Engine K) (l old new : Option (List ℕ)) (from : Moment) (q : List ℕ) (n count : ℕ) (left : Option (List ℕ))
+pub no_further : {K : Type 0} → (kind : Kind K) (limits : Limits) (c : Cutter) (e : Engine K) (l old new : Option (List ℕ)) (from : Moment) (q : List ℕ) (n count : ℕ) (left : Option (List ℕ))
     → Heard kind limits nothing_beyond c e l old new (Ok turn.More) from [] (take n q) → count ≤ 65536 → left ≡ Some (drop count (drop n q)) → ReadsNoFurther limits from q left
 no_further kind limits c e l old new from q n count left first short told = record {
   before = n;

@@ -10,14 +10,14 @@ use Rattle.report_json.specs.declared.ask.Ask.{Ask}
 use Rattle.audit_cli.specs.declared.halt.Halt.{Halt}
 use Rattle.audit_cli.specs.declared.halt.Turn.{Turn}
 use Rattle.audit_cli.specs.declared.halt.Turn.TheVariants as turn
-use Rattle.audit_cli.specs.Dialogue.{Kind, Moment, Beyond, asked, asks, lines_in, nothing_beyond}
-use Rattle.audit_cli.specs.Course.{At, EndCourse, EndTalked, IsDue, Talked, ended, never}
+use Rattle.audit_cli.specs.Dialogue.{Moment, Beyond, asked, asks, lines_in, nothing_beyond}
+use Rattle.audit_cli.specs.Course.{Kind, At, EndCourse, EndTalked, IsDue, Talked, ended, never}
 use Rattle.audit_cli.specs.Hearing.{Heard, HeardLast, WhenMore}
 use Rattle.audit_cli.proofs.TalkLemmas.{appends_none, appends_both, nothing_said, other_halt, end_course, end_whole, end_after}
 use Rattle.audit_cli.proofs.HearLemmas.{LinesStay, whole_lines}
 
 -- no line was left
-pub last_none : {K : Type 0} → (kind : Kind) (limits : Limits) (e : Engine K) (l old : Option (List ℕ)) (m : Moment) (h : History) → At kind limits e l m → lines_of (h ++ Settle ∷ []) ≡ lines_of h → HeardLast kind limits nothing_beyond e l old old (Ok tt) m h
+pub last_none : {K : Type 0} → (kind : Kind K) (limits : Limits) (e : Engine K) (l old : Option (List ℕ)) (m : Moment) (h : History) → At kind limits e l m → lines_of (h ++ Settle ∷ []) ≡ lines_of h → HeardLast kind limits nothing_beyond e l old old (Ok tt) m h
 last_none kind limits e l old m h at lines = record {
   last = [];
   lines = lines ∙ sym (append-nil (lines_of h));
@@ -29,7 +29,7 @@ at_end (Ok t) P at = at
 at_end (Err why) P at = tt
 
 -- one line was left, and was answered
-pub last_line : {K : Type 0} → (kind : Kind) (limits : Limits) (e : Engine K) (l old new : Option (List ℕ)) (r : Result Turn Halt) (m : Moment) (h : History) (text : List ℕ) (q : Option Ask)
+pub last_line : {K : Type 0} → (kind : Kind K) (limits : Limits) (e : Engine K) (l old new : Option (List ℕ)) (r : Result Turn Halt) (m : Moment) (h : History) (text : List ℕ) (q : Option Ask)
     → q ≡ asked limits.question text → lines_of (h ++ Settle ∷ []) ≡ lines_of h ++ text ∷ [] → Talked kind limits nothing_beyond e l old new r m (q ∷ []) → HeardLast kind limits nothing_beyond e l old new (ended r) m h
 last_line kind limits e l old new r m h text q asks lines x = record {
   last = text ∷ [];
@@ -44,7 +44,7 @@ last_line kind limits e l old new r m h text q asks lines x = record {
 }
 
 -- the dialogue ended, or halted, within the questions
-pub end_heard : {K : Type 0} → LinesStay → (kind : Kind) (limits : Limits) (beyond : Beyond) (c : Cutter) (e : Engine K) (l old new : Option (List ℕ)) (r : Result Turn Halt) (m : Moment) (q : List ℕ)
+pub end_heard : {K : Type 0} → LinesStay → (kind : Kind K) (limits : Limits) (beyond : Beyond) (c : Cutter) (e : Engine K) (l old new : Option (List ℕ)) (r : Result Turn Halt) (m : Moment) (q : List ℕ)
     → WhenMore r ⊥ → Heard kind limits beyond c e l old new r m [] q → EndTalked kind limits beyond e l old new (ended r) m (asks limits (lines_in q))
 end_heard stay kind limits beyond c e l old new r m q none x =
     let more = stay (with_bytes [] q) (Settle ∷ []) in
@@ -60,7 +60,7 @@ end_heard stay kind limits beyond c e l old new r m q none x =
     }
 
 -- all was heard, and then came the end
-pub end_both : {K : Type 0} → (kind : Kind) (limits : Limits) (beyond : Beyond) (c : Cutter) (e e2 : Engine K) (l l2 old mid new : Option (List ℕ)) (r : Result Unit Halt) (m : Moment) (q : List ℕ)
+pub end_both : {K : Type 0} → (kind : Kind K) (limits : Limits) (beyond : Beyond) (c : Cutter) (e e2 : Engine K) (l l2 old mid new : Option (List ℕ)) (r : Result Unit Halt) (m : Moment) (q : List ℕ)
     → (first : Heard kind limits nothing_beyond c e l old mid (Ok turn.More) m [] q) → HeardLast kind limits nothing_beyond e2 l2 mid new r first.talked.to (with_bytes [] q) → EndTalked kind limits beyond e2 l2 old new r m (asks limits (lines_in q))
 end_both kind limits beyond c e e2 l l2 old mid new r m q first last =
     let lines : lines_in q ≡ first.answered ++ last.last = last.lines ∙ ap (λ (ls : List (List ℕ)). ls ++ last.last) (whole_lines kind limits nothing_beyond c e l old mid m [] q first) in
@@ -76,7 +76,7 @@ end_both kind limits beyond c e e2 l l2 old mid new r m q first last =
     }
 
 -- a run that halted before its first question, for another cause than a limit
-pub ended_early : {K : Type 0} → (kind : Kind) (limits : Limits) (beyond : Beyond) (e : Engine K) (l old : Option (List ℕ)) (why : Halt) (m : Moment) (questions : List (Option Ask)) → IsDue never why → EndTalked kind limits beyond e l old old (Err why) m questions
+pub ended_early : {K : Type 0} → (kind : Kind K) (limits : Limits) (beyond : Beyond) (e : Engine K) (l old : Option (List ℕ)) (why : Halt) (m : Moment) (questions : List (Option Ask)) → IsDue never why → EndTalked kind limits beyond e l old old (Err why) m questions
 ended_early kind limits beyond e l old why m questions due = record {
   to = m;
   bytes = [];

@@ -23,8 +23,8 @@ use Rattle.ingest.specs.declared.stop.StopWhy.{StopWhy}
 use Rattle.ingest.specs.declared.stop.StopWhy.TheVariants as why
 use Rattle.audit_cli.specs.declared.halt.Halt.{Halt}
 use Rattle.audit_cli.specs.declared.halt.Halt.TheVariants as halt
-use Rattle.audit_cli.specs.Dialogue.{Kind, Moment, after, settled_on, taken_on, Answers}
-use Rattle.audit_cli.specs.Course.{At, CountsOn, IsDue, halt_for}
+use Rattle.audit_cli.specs.Dialogue.{Moment, after, settled_on, taken_on, Answers}
+use Rattle.audit_cli.specs.Course.{Kind, At, CountsOn, IsDue, halt_for}
 
 -- what has stopped stays stopped
 abbrev pub Stay : Type 0
@@ -99,6 +99,8 @@ pub due_weaker : (reason : Halt) (P Q : Full → Type 0) → ((full : Full) → 
 due_weaker halt.NoMemory P Q weaker h = tt
 due_weaker halt.ReadFault P Q weaker h = tt
 due_weaker halt.WriteFault P Q weaker h = tt
+due_weaker halt.StoreFault P Q weaker h = tt
+due_weaker (halt.Unwritten other) P Q weaker h = tt
 due_weaker (halt.Full full) P Q weaker h = weaker full h
 
 -- where nothing is left all were taken
@@ -106,10 +108,11 @@ pub left_none : (m : Moment) (n : ℕ) → (taken_on n m).log ≡ [] → length 
 left_none m n none = let short = ap length none in omega (arith, short, length-drop n m.log)
 
 -- a settle moves on, and leaves the log
-pub settled_at : {K : Type 0} → (kind : Kind) (limits : Limits) (result : Result Reply Halt) (old engine : Engine K) (left : Option (List ℕ)) (m : Moment) → At kind limits old left m
-    → OnOk result (StandsFor limits engine (m.history ++ Settle ∷ [])) → OnOk result (At kind limits engine left (settled_on m))
-settled_at kind limits (Ok r) old engine left m at stands = record { in_mode = at.in_mode; may_take = at.may_take; stands = stands; told = at.told }
-settled_at kind limits (Err e) old engine left m at stands = tt
+pub settled_at : {K : Type 0} → (kind : Kind K) (limits : Limits) (result : Result Reply Halt) (old engine : Engine K) (left : Option (List ℕ)) (m : Moment) → At kind limits old left m
+    → OnOk result (StandsFor limits engine (m.history ++ Settle ∷ [])) → kind.holds engine (settled_on m) → OnOk result (At kind limits engine left (settled_on m))
+settled_at kind limits (Ok r) old engine left m at stands holds =
+    record { in_mode = at.in_mode; may_take = at.may_take; stands_at = record { stands = stands; told = at.stands_at.told }; holds = holds }
+settled_at kind limits (Err e) old engine left m at stands holds = tt
 
 -- want of memory is due whatever limit is passed
 pub memory_due : (result : Result Reply Halt) (passes : Full → Type 0) → IfErr result (λ why. why ≡ halt.NoMemory) → IfErr result (IsDue passes)
@@ -138,10 +141,10 @@ answered limits ask.Stat m r asks a = a
 answered limits ask.End m r asks a = absurd asks
 
 -- the engine's replies are those of the moment's mode
-pub engine_reply : {K : Type 0} → (kind : Kind) (limits : Limits) (result : Result Reply Halt) (engine : Engine K) (left : Option (List ℕ)) (m : Moment) (asked : Ask) → IsQuestion asked
+pub engine_reply : {K : Type 0} → (kind : Kind K) (limits : Limits) (result : Result Reply Halt) (engine : Engine K) (left : Option (List ℕ)) (m : Moment) (asked : Ask) → IsQuestion asked
     → IfOk result (λ r. (limits : Limits) (h : History) → StandsFor limits engine h → IsReply kind.mode limits h asked r) → At kind limits engine left m → IfOk result (Answers limits (Some asked) m)
 engine_reply kind limits (Ok r) engine left m asked asks replies at =
-    answered limits asked m r asks (subst (λ (x : Mode). IsReply x limits m.history asked r) (sym at.in_mode) (replies limits m.history at.stands))
+    answered limits asked m r asks (subst (λ (x : Mode). IsReply x limits m.history asked r) (sym at.in_mode) (replies limits m.history at.stands_at.stands))
 engine_reply kind limits (Err e) engine left m asked asks replies at = tt
 
 -- where a run takes a log, `take` and `settle` move on

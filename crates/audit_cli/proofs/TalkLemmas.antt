@@ -86,6 +86,8 @@ leads_halted limits P Q a b f g s bytes (halt.Full full) carries first x = recor
 leads_halted limits P Q a b f g s bytes halt.NoMemory carries first x = leads_front limits a b f g s bytes first x
 leads_halted limits P Q a b f g s bytes halt.ReadFault carries first x = leads_front limits a b f g s bytes first x
 leads_halted limits P Q a b f g s bytes halt.WriteFault carries first x = leads_front limits a b f g s bytes first x
+leads_halted limits P Q a b f g s bytes halt.StoreFault carries first x = leads_front limits a b f g s bytes first x
+leads_halted limits P Q a b f g s bytes (halt.Unwritten other) carries first x = leads_front limits a b f g s bytes first x
 
 -- a part that goes on from where another led
 pub course_after : (limits : Limits) (P Q : Beyond) (r : Result Turn Halt) (a b c : Moment) (f g : List (Option Ask)) (s : List Reply) (bytes : List ℕ)
@@ -108,6 +110,8 @@ no_reply limits m q (halt.Full full) fits over = record { said = []; to = m; sto
 no_reply limits m q halt.NoMemory fits over = nothing_said limits m _
 no_reply limits m q halt.ReadFault fits over = nothing_said limits m _
 no_reply limits m q halt.WriteFault fits over = nothing_said limits m _
+no_reply limits m q halt.StoreFault fits over = nothing_said limits m _
+no_reply limits m q (halt.Unwritten other) fits over = nothing_said limits m _
 
 -- a halt that no limit made
 pub other_halt : (limits : Limits) (beyond : Beyond) (m : Moment) (questions : List (Option Ask)) (bytes : List ℕ) (why : Halt) → IsDue never why → IsFront limits m questions bytes → Halted limits beyond m questions bytes why
@@ -115,6 +119,8 @@ other_halt limits beyond m questions bytes (halt.Full full) none x = absurd none
 other_halt limits beyond m questions bytes halt.NoMemory none x = x
 other_halt limits beyond m questions bytes halt.ReadFault none x = x
 other_halt limits beyond m questions bytes halt.WriteFault none x = x
+other_halt limits beyond m questions bytes halt.StoreFault none x = x
+other_halt limits beyond m questions bytes (halt.Unwritten other) none x = x
 
 after_turn : (t : Turn) (A B : Type 0) → A → B → AfterTurn t A B
 after_turn turn.More A B a b = b
@@ -179,6 +185,8 @@ halted_more limits beyond a f g bytes (halt.Full full) x = record { said = x.sai
 halted_more limits beyond a f g bytes halt.NoMemory x = front_more limits a f g bytes x
 halted_more limits beyond a f g bytes halt.ReadFault x = front_more limits a f g bytes x
 halted_more limits beyond a f g bytes halt.WriteFault x = front_more limits a f g bytes x
+halted_more limits beyond a f g bytes halt.StoreFault x = front_more limits a f g bytes x
+halted_more limits beyond a f g bytes (halt.Unwritten other) x = front_more limits a f g bytes x
 
 -- what ended goes no further
 pub end_course : (limits : Limits) (beyond : Beyond) (r : Result Turn Halt) (a b : Moment) (f g : List (Option Ask)) (bytes : List ℕ) → WhenMore r ⊥ → Course limits beyond r a f bytes b → EndCourse limits beyond (ended r) a (f ++ g) bytes b

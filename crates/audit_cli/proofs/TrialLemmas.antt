@@ -73,6 +73,8 @@ tried_then fitting limits h first second old mid new (Err (halt.Full full)) x y 
 tried_then fitting limits h first second old mid new (Err halt.NoMemory) x y = record { bytes = x.bytes ++ y.bytes; wrote = appends_both old mid new x.bytes y.bytes x.wrote y.wrote; course = cut_both limits h first second x.bytes y.bytes x.course.0 y.course }
 tried_then fitting limits h first second old mid new (Err halt.ReadFault) x y = record { bytes = x.bytes ++ y.bytes; wrote = appends_both old mid new x.bytes y.bytes x.wrote y.wrote; course = cut_both limits h first second x.bytes y.bytes x.course.0 y.course }
 tried_then fitting limits h first second old mid new (Err halt.WriteFault) x y = record { bytes = x.bytes ++ y.bytes; wrote = appends_both old mid new x.bytes y.bytes x.wrote y.wrote; course = cut_both limits h first second x.bytes y.bytes x.course.0 y.course }
+tried_then fitting limits h first second old mid new (Err halt.StoreFault) x y = record { bytes = x.bytes ++ y.bytes; wrote = appends_both old mid new x.bytes y.bytes x.wrote y.wrote; course = cut_both limits h first second x.bytes y.bytes x.course.0 y.course }
+tried_then fitting limits h first second old mid new (Err (halt.Unwritten other)) x y = record { bytes = x.bytes ++ y.bytes; wrote = appends_both old mid new x.bytes y.bytes x.wrote y.wrote; course = cut_both limits h first second x.bytes y.bytes x.course.0 y.course }
 
 -- no further mode after a halt
 pub tried_short : (limits : Limits) (h : History) (first second : List Mode) (old new : Option (List ℕ)) (why : Halt) → Tried limits h first old new (Err why) → Tried limits h (first ++ second) old new (Err why)
@@ -80,6 +82,8 @@ tried_short limits h first second old new (halt.Full full) x = record { bytes = 
 tried_short limits h first second old new halt.NoMemory x = record { bytes = x.bytes; wrote = x.wrote; course = cut_more limits h first second x.bytes x.course }
 tried_short limits h first second old new halt.ReadFault x = record { bytes = x.bytes; wrote = x.wrote; course = cut_more limits h first second x.bytes x.course }
 tried_short limits h first second old new halt.WriteFault x = record { bytes = x.bytes; wrote = x.wrote; course = cut_more limits h first second x.bytes x.course }
+tried_short limits h first second old new halt.StoreFault x = record { bytes = x.bytes; wrote = x.wrote; course = cut_more limits h first second x.bytes x.course }
+tried_short limits h first second old new (halt.Unwritten other) x = record { bytes = x.bytes; wrote = x.wrote; course = cut_more limits h first second x.bytes x.course }
 
 -- a halt before anything is written
 pub not_tried : (limits : Limits) (h : History) (modes : List Mode) (old : Option (List ℕ)) (why : Halt) → IsDue (Stops limits h) why → Tried limits h modes old old (Err why)
@@ -87,6 +91,8 @@ not_tried limits h modes old (halt.Full full) over = record { bytes = []; wrote 
 not_tried limits h modes old halt.NoMemory over = record { bytes = []; wrote = appends_none old; course = no_lines limits h modes }
 not_tried limits h modes old halt.ReadFault over = record { bytes = []; wrote = appends_none old; course = no_lines limits h modes }
 not_tried limits h modes old halt.WriteFault over = record { bytes = []; wrote = appends_none old; course = no_lines limits h modes }
+not_tried limits h modes old halt.StoreFault over = record { bytes = []; wrote = appends_none old; course = no_lines limits h modes }
+not_tried limits h modes old (halt.Unwritten other) over = record { bytes = []; wrote = appends_none old; course = no_lines limits h modes }
 
 -- the line of a mode, and a part of it
 pub tried_one : (kind : Mode) (limits : Limits) (h : History) (old new : Option (List ℕ)) (line : List ℕ) → IsModeLine kind limits h line → Fits limits h → Appends old new line → Tried limits h (kind ∷ []) old new (Ok tt)

@@ -1,8 +1,9 @@
 -- How a part of a run ended, and what it wrote.
-use Rattle.std.specs.Prelude.{◌≡◌, ⊤, ℕ, ◌≤◌, ◌+◌, ◌-◌, ◌^◌, List, length, Option, Some, Result, Ok, Err, OnOk, []}
+use Rattle.std.specs.Prelude.{Bool, ◌≡◌, ⊤, ℕ, ◌≤◌, ◌+◌, ◌-◌, ◌^◌, List, length, Option, Some, Result, Ok, Err, OnOk, []}
 use Rattle.std.specs.Io.KnownBytes.{Appends}
 use Rattle.flow_base.specs.declared.limits.Limits.{Limits}
 use Rattle.flow_base.specs.declared.limits.Full.{Full}
+use Rattle.reach_model.specs.declared.modes.Mode.{Mode}
 use Rattle.report_json.specs.declared.ask.Ask.{Ask}
 use Rattle.report_json.specs.declared.reply.Reply.{Reply}
 use Rattle.ingest.specs.Parts.{Engine}
@@ -14,26 +15,30 @@ use Rattle.audit_cli.specs.declared.halt.Halt.{Halt}
 use Rattle.audit_cli.specs.declared.halt.Halt.TheVariants as halt
 use Rattle.audit_cli.specs.declared.halt.Turn.{Turn}
 use Rattle.audit_cli.specs.declared.halt.Turn.TheVariants as turn
-use Rattle.audit_cli.specs.Dialogue.{Kind, Moment, Dialogue, Beyond, Leads, Closes, IsFront, StopsAfter, texts}
+use Rattle.audit_cli.specs.Dialogue.{Moment, Dialogue, Beyond, Leads, Closes, IsFront, StopsAfter, texts}
 
 -- a count of faults doesn't fall, and a spent object stays spent
 pub record GoesUp (before now : ℕ) (was_spent spent : Type 0) : Type 0 where
   pub later : before ≤ now
   pub stays : was_spent → spent
 
--- each fault of a device has its cause
-abbrev pub HasCauses : (read write : Type 0) → Halt → Type 0
-HasCauses read write halt.NoMemory = ⊤
-HasCauses read write halt.ReadFault = read
-HasCauses read write halt.WriteFault = write
-HasCauses read write (halt.Full full) = ⊤
+-- each fault of a device has its cause, and so has a limit on a store
+abbrev pub HasCauses : (read write store limit : Type 0) → Halt → Type 0
+HasCauses read write store limit halt.NoMemory = ⊤
+HasCauses read write store limit halt.ReadFault = read
+HasCauses read write store limit halt.WriteFault = write
+HasCauses read write store limit halt.StoreFault = store
+HasCauses read write store limit (halt.Full full) = ⊤
+HasCauses read write store limit (halt.Unwritten full) = limit
 
 -- a limit that is named would be passed
 abbrev pub IsDue : (Full → Type 0) → Halt → Type 0
 IsDue passes halt.NoMemory = ⊤
 IsDue passes halt.ReadFault = ⊤
 IsDue passes halt.WriteFault = ⊤
+IsDue passes halt.StoreFault = ⊤
 IsDue passes (halt.Full full) = passes full
+IsDue passes (halt.Unwritten full) = ⊤
 
 -- no limit at all
 abbrev pub never : Full → Type 0
@@ -44,12 +49,27 @@ abbrev pub halt_for : StopWhy → Halt
 halt_for why.NoMemory = halt.NoMemory
 halt_for (why.Full full) = halt.Full full
 
--- the engine of a run and the log, which tells its bytes, are at this moment of such a run
-pub record At {K : Type 0} (kind : Kind) (limits : Limits) (engine : Engine K) (left : Option (List ℕ)) (m : Moment) : Type 0 where
-  pub in_mode : m.mode ≡ kind.mode
-  pub may_take : m.takes ≡ kind.takes
+-- the mode of a run, whether it takes a log, and what else holds of its engine at each moment
+pub record Kind (K : Type 0) : Type 1 where
+  pub mode : Mode
+  pub takes : Bool
+  pub holds : Engine K → Moment → Type 0
+
+-- a run of this mode
+abbrev pub kind_of : {K : Type 0} → Mode → Bool → (Engine K → Moment → Type 0) → Kind K
+kind_of mode takes holds = record { mode = mode; takes = takes; holds = holds }
+
+-- the engine and the log, which tells its bytes, are at this moment
+pub record StandsAt {K : Type 0} (limits : Limits) (engine : Engine K) (left : Option (List ℕ)) (m : Moment) : Type 0 where
   pub stands : StandsFor limits engine m.history
   pub told : left ≡ Some m.log
+
+-- the engine of a run and the log, which tells its bytes, are at this moment of such a run
+pub record At {K : Type 0} (kind : Kind K) (limits : Limits) (engine : Engine K) (left : Option (List ℕ)) (m : Moment) : Type 0 where
+  pub in_mode : m.mode ≡ kind.mode
+  pub may_take : m.takes ≡ kind.takes
+  pub stands_at : StandsAt limits engine left m
+  pub holds : kind.holds engine m
 
 -- at most what is left, and nothing only where nothing is left
 pub record IsPart (n : ℕ) (left : List ℕ) : Type 0 where
@@ -83,7 +103,7 @@ Course limits beyond (Ok turn.Ended) from questions bytes to = (said : List Repl
 Course limits beyond (Err why) from questions bytes to = Halted limits beyond from questions bytes why
 
 -- a part of a run from one moment on
-pub record Talked {K : Type 0} (kind : Kind) (limits : Limits) (beyond : Beyond) (engine : Engine K) (left old new : Option (List ℕ)) (result : Result Turn Halt) (from : Moment) (questions : List (Option Ask)) : Type 0 where
+pub record Talked {K : Type 0} (kind : Kind K) (limits : Limits) (beyond : Beyond) (engine : Engine K) (left old new : Option (List ℕ)) (result : Result Turn Halt) (from : Moment) (questions : List (Option Ask)) : Type 0 where
   pub to : Moment
   pub bytes : List ℕ
   pub wrote : Appends old new bytes
@@ -96,7 +116,7 @@ EndCourse limits beyond (Ok done) from questions bytes to = (said : List Reply) 
 EndCourse limits beyond (Err why) from questions bytes to = Halted limits beyond from questions bytes why
 
 -- a run from one moment to its end
-pub record EndTalked {K : Type 0} (kind : Kind) (limits : Limits) (beyond : Beyond) (engine : Engine K) (left old new : Option (List ℕ)) (result : Result Unit Halt) (from : Moment) (questions : List (Option Ask)) : Type 0 where
+pub record EndTalked {K : Type 0} (kind : Kind K) (limits : Limits) (beyond : Beyond) (engine : Engine K) (left old new : Option (List ℕ)) (result : Result Unit Halt) (from : Moment) (questions : List (Option Ask)) : Type 0 where
   pub to : Moment
   pub bytes : List ℕ
   pub wrote : Appends old new bytes

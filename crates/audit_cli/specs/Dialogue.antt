@@ -17,15 +17,6 @@ use Rattle.ingest.specs.Stops.{Stops}
 use Rattle.audit_cli.specs.declared.halt.Turn.{Turn}
 use Rattle.audit_cli.specs.declared.halt.Turn.TheVariants as turn
 
--- the mode of a run, and whether it takes a log
-pub record Kind : Type 0 where
-  pub mode : Mode
-  pub takes : Bool
-
--- a run of this mode
-abbrev pub kind_of : Mode → Bool → Kind
-kind_of mode takes = record { mode = mode; takes = takes }
-
 -- the mode of a run, whether it takes a log, what it has taken of it so far, and the bytes that are left of it
 pub record Moment : Type 0 where
   pub mode : Mode

@@ -27,6 +27,7 @@ questions_of limits (job.Back of) log asked = back_questions of log
 questions_of limits (job.Watch mode name) log asked = asks limits (lines_in asked)
 questions_of limits (job.Trial seed events) log asked = []
 questions_of limits (job.Reduce kept name store resume) log asked = []
+questions_of limits (job.WatchStore kept name store) log asked = []
 questions_of limits (job.Query store) log asked = []
 
 -- the source of the questions tells them, where the job has questions
@@ -35,6 +36,7 @@ Tells (job.Back of) left asked = ⊤
 Tells (job.Watch mode name) left asked = left ≡ Some asked
 Tells (job.Trial seed events) left asked = ⊤
 Tells (job.Reduce kept name store resume) left asked = ⊤
+Tells (job.WatchStore kept name store) left asked = ⊤
 Tells (job.Query store) left asked = ⊤
 
 -- The source of the log tells it, where the job has a log. A job over a store has claims of its own
@@ -43,6 +45,7 @@ TellsLog (job.Back of) left log = left ≡ Some log
 TellsLog (job.Watch mode name) left log = left ≡ Some log
 TellsLog (job.Trial seed events) left log = ⊤
 TellsLog (job.Reduce kept name store resume) left log = ⊥
+TellsLog (job.WatchStore kept name store) left log = ⊥
 TellsLog (job.Query store) left log = ⊥
 
 -- the bytes are the text of the last reply alone
@@ -76,6 +79,7 @@ Writes limits (job.Back of) log asked bytes to = IsLast limits (begin Plain log)
 Writes limits (job.Watch mode name) log asked bytes to = AreAll limits (begin mode log) (questions_of limits (job.Watch mode name) log asked) bytes to
 Writes limits (job.Trial seed events) log asked bytes to = AreTrialLines limits seed events bytes to
 Writes limits (job.Reduce kept name store resume) log asked bytes to = ⊥
+Writes limits (job.WatchStore kept name store) log asked bytes to = ⊥
 Writes limits (job.Query store) log asked bytes to = ⊥
 
 -- the bytes are a front of what the job would write
@@ -84,6 +88,7 @@ WritesFront limits (job.Back of) log asked bytes = (bytes ≡ []) ⊎ IsLastFron
 WritesFront limits (job.Watch mode name) log asked bytes = IsFront limits (begin mode log) (questions_of limits (job.Watch mode name) log asked) bytes
 WritesFront limits (job.Trial seed events) log asked bytes = AreCutLines limits (trial_history seed events) all_modes bytes
 WritesFront limits (job.Reduce kept name store resume) log asked bytes = bytes ≡ []
+WritesFront limits (job.WatchStore kept name store) log asked bytes = bytes ≡ []
 WritesFront limits (job.Query store) log asked bytes = bytes ≡ []
 
 -- the questions of `watch` may have bytes past the limit on input
@@ -92,6 +97,7 @@ beyond_questions limits (job.Back of) asked = nothing_beyond
 beyond_questions limits (job.Watch mode name) asked = QuestionsStop limits asked
 beyond_questions limits (job.Trial seed events) asked = nothing_beyond
 beyond_questions limits (job.Reduce kept name store resume) asked = nothing_beyond
+beyond_questions limits (job.WatchStore kept name store) asked = nothing_beyond
 beyond_questions limits (job.Query store) asked = nothing_beyond
 
 -- the same over a log in one mode
@@ -113,6 +119,7 @@ JobStops limits (job.Back of) log asked said to full = StopsIn limits Plain (job
 JobStops limits (job.Watch mode name) log asked said to full = StopsIn limits mode (job.Watch mode name) log asked said to full
 JobStops limits (job.Trial seed events) log asked said to full = TrialStops limits seed events said to full
 JobStops limits (job.Reduce kept name store resume) log asked said to full = ⊥
+JobStops limits (job.WatchStore kept name store) log asked said to full = ⊥
 JobStops limits (job.Query store) log asked said to full = ⊥
 
 -- the limit would stop the job, after some replies
@@ -154,6 +161,7 @@ written_by (job.Back of) = unsaid
 written_by (job.Watch mode name) = texts
 written_by (job.Trial seed events) = unsaid
 written_by (job.Reduce kept name store resume) = unsaid
+written_by (job.WatchStore kept name store) = unsaid
 written_by (job.Query store) = unsaid
 
 -- The limit stopped the job at one moment, and no limit was passed before. What was written is exactly
@@ -172,4 +180,5 @@ LeavesQuestions limits (job.Back of) log asked left = ⊤
 LeavesQuestions limits (job.Watch mode name) log asked left = ReadsNoFurther limits (begin mode log) asked left
 LeavesQuestions limits (job.Trial seed events) log asked left = ⊤
 LeavesQuestions limits (job.Reduce kept name store resume) log asked left = ⊤
+LeavesQuestions limits (job.WatchStore kept name store) log asked left = ⊤
 LeavesQuestions limits (job.Query store) log asked left = ⊤

@@ -7,8 +7,8 @@ use Rattle.ingest.specs.Parts.{Engine}
 use Rattle.audit_cli.specs.declared.halt.Halt.{Halt}
 use Rattle.audit_cli.specs.declared.halt.Turn.{Turn}
 use Rattle.audit_cli.specs.declared.halt.Turn.TheVariants as turn
-use Rattle.audit_cli.specs.Dialogue.{Kind, Moment, Beyond, asks}
-use Rattle.audit_cli.specs.Course.{Talked, EndTalked}
+use Rattle.audit_cli.specs.Dialogue.{Moment, Beyond, asks}
+use Rattle.audit_cli.specs.Course.{Kind, Talked, EndTalked}
 
 -- the cutter of the questions has taken these bytes of them
 pub record Holds (limits : Limits) (cut : Cutter) (history : History) : Type 0 where
@@ -22,7 +22,7 @@ WhenMore (Ok turn.Ended) claim = ⊤
 WhenMore (Err why) claim = ⊤
 
 -- of the lines that end in a piece some were answered, and all where the dialogue goes on
-pub record Heard {K : Type 0} (kind : Kind) (limits : Limits) (beyond : Beyond) (cut : Cutter) (engine : Engine K) (left old new : Option (List ℕ)) (result : Result Turn Halt) (from : Moment) (history : History) (piece : List ℕ) : Type 0 where
+pub record Heard {K : Type 0} (kind : Kind K) (limits : Limits) (beyond : Beyond) (cut : Cutter) (engine : Engine K) (left old new : Option (List ℕ)) (result : Result Turn Halt) (from : Moment) (history : History) (piece : List ℕ) : Type 0 where
   pub answered : List (List ℕ)
   pub unheard : List (List ℕ)
   pub lines : lines_of (with_bytes history piece) ≡ lines_of history ++ (answered ++ unheard)
@@ -31,7 +31,7 @@ pub record Heard {K : Type 0} (kind : Kind) (limits : Limits) (beyond : Beyond) 
   pub whole : WhenMore result (unheard ≡ [])
 
 -- the last line was answered, where the end of the questions ends one
-pub record HeardLast {K : Type 0} (kind : Kind) (limits : Limits) (beyond : Beyond) (engine : Engine K) (left old new : Option (List ℕ)) (result : Result Unit Halt) (from : Moment) (history : History) : Type 0 where
+pub record HeardLast {K : Type 0} (kind : Kind K) (limits : Limits) (beyond : Beyond) (engine : Engine K) (left old new : Option (List ℕ)) (result : Result Unit Halt) (from : Moment) (history : History) : Type 0 where
   pub last : List (List ℕ)
   pub lines : lines_of (history ++ Settle ∷ []) ≡ lines_of history ++ last
   pub talked : EndTalked kind limits beyond engine left old new result from (asks limits last)

@@ -11,8 +11,8 @@ use Rattle.audit_cli.specs.declared.words.Job.{Job}
 use Rattle.audit_cli.specs.declared.words.Job.TheVariants as job
 use Rattle.reach_model.specs.declared.modes.Mode.TheVariants.{Plain}
 use Rattle.ingest.specs.Stops.{Stops}
-use Rattle.audit_cli.specs.Dialogue.{Kind, Moment, QuestionsStop, nothing_beyond, begin, asks, lines_in, texts}
-use Rattle.audit_cli.specs.Course.{At, Stopped}
+use Rattle.audit_cli.specs.Dialogue.{Moment, QuestionsStop, nothing_beyond, begin, asks, lines_in, texts}
+use Rattle.audit_cli.specs.Course.{Kind, At, Stopped}
 use Rattle.audit_cli.specs.Trials.{trial_history}
 use Rattle.audit_cli.specs.Headline.{IsLast, IsLastFront, Writes, WritesFront, Ends, back_questions, unsaid}
 use Rattle.audit_cli.specs.Listening.{KeepsWithin}
@@ -26,7 +26,7 @@ LastCourse limits (Err (halt.Full full)) from questions bytes to =
 LastCourse limits (Err _) from questions bytes to = (bytes ≡ []) ⊎ IsLastFront limits from questions bytes
 
 -- a run of which the last reply alone is written
-pub record LastTalked {K : Type 0} (kind : Kind) (limits : Limits) (engine : Engine K) (left old new : Option (List ℕ)) (result : Result Unit Halt) (from : Moment) (questions : List (Option Ask)) : Type 0 where
+pub record LastTalked {K : Type 0} (kind : Kind K) (limits : Limits) (engine : Engine K) (left old new : Option (List ℕ)) (result : Result Unit Halt) (from : Moment) (questions : List (Option Ask)) : Type 0 where
   pub to : Moment
   pub bytes : List ℕ
   pub wrote : Appends old new bytes
@@ -39,6 +39,7 @@ KeepsLimit limits (job.Back of) log asked = ⊤
 KeepsLimit limits (job.Watch mode name) log asked = KeepsWithin limits (begin mode log) asked
 KeepsLimit limits (job.Trial seed events) log asked = ⊤
 KeepsLimit limits (job.Reduce kept name store resume) log asked = ⊤
+KeepsLimit limits (job.WatchStore kept name store) log asked = ⊤
 KeepsLimit limits (job.Query store) log asked = ⊤
 
 -- a limit stopped the job, after which these bytes were written
@@ -50,6 +51,7 @@ JobStopped limits (job.Watch mode name) log asked bytes full =
 JobStopped limits (job.Trial seed events) log asked bytes full =
     (bytes ≡ []) × Stops limits (trial_history seed events) full
 JobStopped limits (job.Reduce kept name store resume) log asked bytes full = ⊥
+JobStopped limits (job.WatchStore kept name store) log asked bytes full = ⊥
 JobStopped limits (job.Query store) log asked bytes full = ⊥
 
 -- what a job wrote, by how it ended

@@ -6,6 +6,7 @@ pub mod Headline
 pub mod Hearing
 pub mod Jobs
 pub mod Listening
+pub mod Saves
 pub mod Sessions
 pub mod Standard
 pub mod StoreHalts

@@ -72,17 +72,17 @@ status_for (Ok done) = status.Done
 status_for (Err halt.NoMemory) = status.NoMemory
 status_for (Err halt.ReadFault) = status.ReadFault
 status_for (Err halt.WriteFault) = status.WriteFault
+status_for (Err halt.StoreFault) = status.StoreFault
 status_for (Err (halt.Full full)) = status.Full full
+status_for (Err (halt.Unwritten full)) = status.Full full
 
 -- the status of a run over a store
 abbrev pub store_status : Result Unit StoreHalt → Status
 store_status (Ok done) = status.Done
 store_status (Err (over.Run why)) = status_for (Err why)
-store_status (Err over.StoreFault) = status.StoreFault
 store_status (Err (over.BadStore place)) = status.BadStore place
 store_status (Err (over.WrongMode kept asked)) = status.WrongMode kept asked
 store_status (Err (over.ShortLog taken had)) = status.ShortLog taken had
-store_status (Err (over.Unwritten full)) = status.Full full
 
 -- each fault of a device in a status has its cause
 abbrev pub StatusCause : (read write store : Type 0) → Status → Type 0

@@ -1,5 +1,5 @@
 -- Why a run over a store stops, by what stopped it.
-use Rattle.std.specs.Prelude.{⊤, ℕ, ◌<◌, Result, Ok, Err}
+use Rattle.std.specs.Prelude.{◌≡◌, ⊤, ℕ, ◌<◌, Result, Ok, Err}
 use Rattle.flow_base.specs.declared.limits.Full.{Full}
 use Rattle.reach_model.specs.declared.modes.Mode.{Mode}
 use Rattle.batch_log.specs.declared.log.CommitFault.{CommitFault}
@@ -15,14 +15,14 @@ use Rattle.audit_cli.specs.declared.halt.StoreHalt.{StoreHalt}
 use Rattle.audit_cli.specs.declared.halt.StoreHalt.TheVariants as over
 
 -- a commit that failed
-abbrev pub commit_halt : CommitFault → StoreHalt
-commit_halt commit.StoreFault = over.StoreFault
-commit_halt (commit.Full full) = over.Unwritten full
-commit_halt commit.NoMemory = over.Run halt.NoMemory
+abbrev pub commit_halt : CommitFault → Halt
+commit_halt commit.StoreFault = halt.StoreFault
+commit_halt (commit.Full full) = halt.Unwritten full
+commit_halt commit.NoMemory = halt.NoMemory
 
 -- a disk that wasn't opened
 abbrev pub open_halt : OpenFault → StoreHalt
-open_halt opening.StoreFault = over.StoreFault
+open_halt opening.StoreFault = over.Run halt.StoreFault
 open_halt (opening.BadStore place) = over.BadStore place
 open_halt (opening.WrongMode kept asked) = over.WrongMode kept asked
 open_halt opening.NoMemory = over.Run halt.NoMemory
@@ -49,12 +49,10 @@ is_shorter taken had = had < taken
 
 -- each fault of a device, and each refusal of a store, has its cause
 abbrev pub HasStoreCauses : (read write store : Type 0) (bad : ℕ → Type 0) (wrong : Mode → Mode → Type 0) (short : ℕ → ℕ → Type 0) → StoreHalt → Type 0
-HasStoreCauses read write store bad wrong short (over.Run why) = HasCauses read write why
-HasStoreCauses read write store bad wrong short over.StoreFault = store
+HasStoreCauses read write store bad wrong short (over.Run why) = HasCauses read write store ⊤ why
 HasStoreCauses read write store bad wrong short (over.BadStore place) = bad place
 HasStoreCauses read write store bad wrong short (over.WrongMode kept asked) = wrong kept asked
 HasStoreCauses read write store bad wrong short (over.ShortLog taken had) = short taken had
-HasStoreCauses read write store bad wrong short (over.Unwritten full) = ⊤
 
 -- a limit that is named would be passed
 abbrev pub IsRunDue : (passes : Full → Type 0) → StoreHalt → Type 0
@@ -65,3 +63,7 @@ IsRunDue passes _ = ⊤
 abbrev pub over_run : Result Unit Halt → Result Unit StoreHalt
 over_run (Ok done) = Ok done
 over_run (Err why) = Err (over.Run why)
+
+-- no limit on a store is named
+abbrev pub NamesNoBatch : StoreHalt → Type 0
+NamesNoBatch why = (full : Full) → why ≡ over.Run (halt.Unwritten full) → ⊥

@@ -1,9 +1,9 @@
 -- A run over a store: what is on its disk at each moment, and what it writes.
-use Rattle.std.specs.Prelude.{◌≡◌, ◌⊎◌, ◌≤◌, ◌<◌, Bool, true, false, if◌then◌else◌, ⊤, ℕ, ◌+◌, List, [], ◌++◌, length, take, drop, unwrap_or, Option, None, Some, Result, Ok, Err, OnOk, OnErr, IfErr}
+use Rattle.std.specs.Prelude.{◌≡◌, ◌⊎◌, ◌≤◌, ◌<◌, Bool, true, false, if◌then◌else◌, ⊤, ℕ, ◌+◌, List, [], ◌∷◌, ◌++◌, map, length, drop, unwrap_or, Option, None, Some, Result, Ok, Err, OnOk, OnErr, IfErr}
 use Rattle.std.specs.Io.KnownBytes.{Appends}
 use Rattle.flow_base.specs.declared.limits.Limits.{Limits}
 use Rattle.outside.specs.Disk.{DiskState, IsDurable, LeavesOnly}
-use Rattle.audit_lex.specs.History.{History}
+use Rattle.audit_lex.specs.History.{History, Byte, Settle}
 use Rattle.batch_log.specs.Log.{Log}
 use Rattle.reach_model.specs.declared.modes.Mode.{Mode}
 use Rattle.reduced_store.specs.OnDisk.{OnDisk}
@@ -17,7 +17,8 @@ use Rattle.report_json.specs.declared.ask.Ask.TheVariants as ask
 use Rattle.report_json.specs.declared.reply.Reply.{Reply}
 use Rattle.report_json.specs.Replies.{text_of}
 use Rattle.ingest.specs.Parts.{Engine}
-use Rattle.ingest.specs.PartTaken.{HasPart, StandsWith}
+use Rattle.ingest.specs.Counting.{bytes_in}
+use Rattle.ingest.specs.PartTaken.{StandsWith}
 use Rattle.ingest.specs.Replies.{IsReply}
 use Rattle.ingest.specs.Restoring.{IsOpen, OfState}
 use Rattle.ingest.specs.Saving.{IsSaved}
@@ -27,27 +28,38 @@ use Rattle.ingest.specs.Storing.{StoresHistory}
 use Rattle.ingest.specs.Waiting.{AreSoundWaiting}
 use Rattle.audit_cli.specs.declared.halt.StoreHalt.{StoreHalt}
 use Rattle.audit_cli.specs.declared.halt.StoreHalt.TheVariants as over
-use Rattle.audit_cli.specs.Dialogue.{Moment, QuestionsStop, asks, kind_of, lines_in, settled_on, taken_on}
-use Rattle.audit_cli.specs.Course.{At, EndCourse}
+use Rattle.audit_cli.specs.declared.halt.Halt.TheVariants as halt
+use Rattle.audit_cli.specs.Dialogue.{Moment, QuestionsStop, asks, lines_in, settled_on, taken_on}
+use Rattle.audit_cli.specs.Course.{At, EndCourse, kind_of}
+use Rattle.audit_cli.specs.Saves.{Begun, IsOf, IsPutAway, IsReached, PassesStore, since}
 use Rattle.audit_cli.specs.StoreHalts.{IsRunDue}
 use Rattle.audit_cli.specs.Statuses.{store_status}
 use Rattle.audit_cli.specs.declared.status.Status.{Status}
 
+-- what a run over a log began from: at the log's first byte, or behind those of it that the store has taken
+abbrev pub begun_of : (resume : Bool) → History → (before : ℕ) → List ℕ → Begun
+begun_of resume h before log = record {
+  history = h;
+  before = before;
+  part = if resume then before else 0;
+  log = if resume then drop before log else log;
+}
+
+-- the moment at which it began
+abbrev pub first_of : Mode → Begun → Moment
+first_of mode begun = record { mode = mode; takes = true; history = begun.history; log = begun.log }
+
+-- what `reduce` takes: all of the log, and a settle
+abbrev pub steps_of : Begun → History
+steps_of begun = map Byte begun.log ++ Settle ∷ []
+
+-- the history after it
+abbrev pub whole_of : Begun → History
+whole_of begun = begun.history ++ steps_of begun
+
 -- the moment at which all of the log is taken, and settled
 abbrev pub settled_all : Moment → Moment
 settled_all m = settled_on (taken_on (length m.log) m)
-
--- the run of `reduce`, which takes this log after a history
-abbrev pub reducing : Mode → History → List ℕ → Moment
-reducing mode h log = record { mode = mode; takes = true; history = h; log = log }
-
--- where a run begins over a log: at its first byte, or behind those of it that the store has taken
-abbrev pub begun_at : (resume : Bool) → Mode → History → (before : ℕ) → List ℕ → Moment
-begun_at resume mode h before log = reducing mode h (if resume then drop before log else log)
-
--- and so many bytes of the log were taken before
-abbrev pub part_at : (resume : Bool) → (before : ℕ) → ℕ
-part_at resume before = if resume then before else 0
 
 -- the log has the bytes that were taken before
 abbrev pub HasTaken : (resume : Bool) → (before : ℕ) → List ℕ → Type 0
@@ -65,15 +77,6 @@ pub record IsShort (resume : Bool) (before : ℕ) (log : List ℕ) (taken had : 
 abbrev pub querying : Mode → History → Moment
 querying mode h = record { mode = mode; takes = false; history = h; log = [] }
 
--- The engine and the log are at this moment of a run that takes a log into a store, and so many bytes of this part of the log were
--- taken. All of the history is saved, with some number of bytes in its part, and a crash leaves nothing else.
-pub record IsAtCommit {D : Type 0} (state : D → DiskState) (mode : Mode) (limits : Limits) (engine : Engine (OnDisk D)) (left : Option (List ℕ)) (m : Moment) (part before : ℕ) : Type 0 where
-  pub at : At (kind_of mode true) limits engine left m
-  pub has_part : HasPart engine m.history part
-  pub told : (state engine.joined.keep.disk).told
-  pub saved : IsSaved state limits mode engine m.history before
-  pub images : (bytes : List ℕ) → (state engine.joined.keep.disk).image bytes → StoresHistory limits mode bytes m.history before
-
 -- The engine of a store that was opened stands for this history, all of which is saved, with so many bytes in its part of a log, and
 -- a crash leaves nothing else.
 pub record IsReopened {D : Type 0} (state : D → DiskState) (mode : Mode) (limits : Limits) (engine : Engine (OnDisk D)) (h : History) (before : ℕ) : Type 0 where
@@ -82,43 +85,14 @@ pub record IsReopened {D : Type 0} (state : D → DiskState) (mode : Mode) (limi
   pub told : (state engine.joined.keep.disk).told
   pub images : (bytes : List ℕ) → (state engine.joined.keep.disk).image bytes → StoresHistory limits mode bytes h before
 
--- the bytes store what was stored at this moment, or that and some bytes more of the log, of which so many were taken before
-abbrev pub IsReached : Limits → Mode → Moment → (part before : ℕ) → List ℕ → Type 0
-IsReached limits mode m part before bytes =
-    StoresHistory limits mode bytes m.history before
-    ⊎ ((n : ℕ) × StoresHistory limits mode bytes (taken_on n m).history (part + length (take n m.log)))
+-- the engine of a reopened store and its log are at the begin of a run over it
+pub record HasBegun {D : Type 0} (state : D → DiskState) (mode : Mode) (limits : Limits) (old new : Engine (OnDisk D)) (left : Option (List ℕ)) (begun : Begun) : Type 0 where
+  pub at : At (kind_of mode true (IsPutAway state (record { begun = begun; rows = old.joined.keep }) limits)) limits new left (first_of mode begun)
 
--- the bytes store all of the log, settled
-abbrev pub IsSettled : Limits → Mode → Moment → (part : ℕ) → List ℕ → Type 0
-IsSettled limits mode m part bytes = StoresHistory limits mode bytes (settled_all m).history (part + length m.log)
-
--- So many bytes of the log were taken. A first part of the history is saved, and what stores that part is one of those that the run
--- may have reached.
-pub record IsTakenTo {D : Type 0} (state : D → DiskState) (mode : Mode) (limits : Limits) (engine : Engine (OnDisk D)) (left : Option (List ℕ)) (m : Moment) (part before n : ℕ) : Type 0 where
-  pub at : At (kind_of mode true) limits engine left (taken_on n m)
-  pub has_part : HasPart engine (taken_on n m).history (part + n)
-  pub within : n ≤ length m.log
-  pub told : (state engine.joined.keep.disk).told
-  pub first : History
-  pub more : History
-  pub saved_part : ℕ
-  pub parts : (taken_on n m).history ≡ first ++ more
-  pub saved : IsSaved state limits mode engine first saved_part
-  pub reached : (bytes : List ℕ) → StoresHistory limits mode bytes first saved_part → IsReached limits mode m part before bytes
-  pub images : (bytes : List ℕ) → (state engine.joined.keep.disk).image bytes → IsReached limits mode m part before bytes
-
--- all of the log was taken
-abbrev pub IsTaken : {D : Type 0} → (D → DiskState) → Mode → Limits → Engine (OnDisk D) → Option (List ℕ) → Moment → (part before : ℕ) → Type 0
-IsTaken state mode limits engine left m part before = IsTakenTo state mode limits engine left m part before (length m.log)
-
--- the engine stands for all of the log, settled, and all of it is on the disk
-pub record IsAllSaved {D : Type 0} (state : D → DiskState) (mode : Mode) (limits : Limits) (engine : Engine (OnDisk D)) (m : Moment) (part : ℕ) : Type 0 where
-  pub stands : StandsFor limits engine (settled_all m).history
-  pub stores : IsSettled limits mode m part (state engine.joined.keep.disk).reads
-
--- the bytes store what a run may have reached, or all of the log, settled
-abbrev pub IsOnTheWay : Limits → Mode → Moment → (part before : ℕ) → List ℕ → Type 0
-IsOnTheWay limits mode m part before bytes = IsReached limits mode m part before bytes ⊎ IsSettled limits mode m part bytes
+-- if a limit on a store is named, a batch of what came up to these steps would pass it
+abbrev pub PassesIn : Limits → Mode → Begun → (steps : History) → StoreHalt → Type 0
+PassesIn limits mode begun steps (over.Run (halt.Unwritten full)) = PassesStore limits mode begun steps full
+PassesIn limits mode begun steps _ = ⊤
 
 -- the reply to `stat` over this history was written
 pub record WroteStat (limits : Limits) (mode : Mode) (h : History) (old new : Option (List ℕ)) : Type 0 where
@@ -133,26 +107,26 @@ pub record WroteFront (limits : Limits) (mode : Mode) (h : History) (old new : O
   pub front : (bytes ≡ []) ⊎ ((stat : Reply) × (more : List ℕ) × IsReply mode limits h ask.Stat stat × (bytes ++ more ≡ text_of stat))
 
 -- the log was taken to its end and settled, all of which is on the disk, and the reply to `stat` was written
-pub record IsReduced (limits : Limits) (mode : Mode) (disk : DiskState) (left old new : Option (List ℕ)) (m : Moment) (part : ℕ) : Type 0 where
-  pub stores : IsSettled limits mode m part disk.reads
+pub record IsReduced (limits : Limits) (mode : Mode) (disk : DiskState) (left old new : Option (List ℕ)) (begun : Begun) : Type 0 where
+  pub stores : StoresHistory limits mode disk.reads (whole_of begun) (begun.part + length begun.log)
   pub durable : IsDurable disk
   pub whole : left ≡ Some []
-  pub wrote : WroteStat limits mode (settled_all m).history old new
+  pub wrote : WroteStat limits mode (whole_of begun) old new
 
--- what was answered to questions over a store, or nothing if it wasn't opened
-abbrev pub QueryCourse : Limits → Mode → History → (asked bytes : List ℕ) → Result Unit StoreHalt → Moment → Type 0
-QueryCourse limits mode h asked bytes (Ok done) to =
-    EndCourse limits (QuestionsStop limits asked) (Ok done) (querying mode h) (asks limits (lines_in asked)) bytes to
-QueryCourse limits mode h asked bytes (Err (over.Run why)) to =
-    EndCourse limits (QuestionsStop limits asked) (Err why) (querying mode h) (asks limits (lines_in asked)) bytes to
-QueryCourse limits mode h asked bytes (Err why) to = bytes ≡ []
+-- what was answered to questions from a moment on, or nothing if the store wasn't opened
+abbrev pub AnswerCourse : Limits → Moment → (asked bytes : List ℕ) → Result Unit StoreHalt → Moment → Type 0
+AnswerCourse limits from asked bytes (Ok done) to =
+    EndCourse limits (QuestionsStop limits asked) (Ok done) from (asks limits (lines_in asked)) bytes to
+AnswerCourse limits from asked bytes (Err (over.Run why)) to =
+    EndCourse limits (QuestionsStop limits asked) (Err why) from (asks limits (lines_in asked)) bytes to
+AnswerCourse limits from asked bytes (Err why) to = bytes ≡ []
 
 -- a run of `query` over a store of this history
 pub record IsQueried (limits : Limits) (mode : Mode) (h : History) (asked : List ℕ) (old new : Option (List ℕ)) (result : Result Unit StoreHalt) : Type 0 where
   pub to : Moment
   pub bytes : List ℕ
   pub wrote : Appends old new bytes
-  pub course : QueryCourse limits mode h asked bytes result to
+  pub course : AnswerCourse limits (querying mode h) asked bytes result to
 
 -- ---- a run from the opening of a disk on
 
@@ -194,14 +168,51 @@ IsBadIn limits disk place = disk.told → IsBadAt limits place disk.reads ⊎ St
 abbrev pub IsWrongIn : Limits → DiskState → Option Mode → Mode → Mode → Type 0
 IsWrongIn limits disk asked kept want = disk.told → IsOfWrongMode limits disk.reads asked kept want
 
+-- A run of `reduce` over a disk that stores a history. A crash at any moment leaves what was there, or a front of what the run takes,
+-- and if a limit on a store is named, a batch would have passed it.
+pub record Reduces (resume : Bool) (limits : Limits) (mode : Mode) (disk after : DiskState) (left old new : Option (List ℕ)) (outcome : Result Unit StoreHalt)
+    (h : History) (before : ℕ) (bytes : List ℕ) : Type 0 where
+  pub reduced : OnOk outcome (IsReduced limits mode after left old new (begun_of resume h before bytes))
+  pub leaves : LeavesOnly disk after (IsReached limits mode (begun_of resume h before bytes) (steps_of (begun_of resume h before bytes)))
+  pub front : OnErr outcome (WroteFront limits mode (whole_of (begun_of resume h before bytes)) old new)
+  pub due : IfErr outcome (IsRunDue (Stops limits (whole_of (begun_of resume h before bytes))))
+  pub passes : IfErr outcome (PassesIn limits mode (begun_of resume h before bytes) (steps_of (begun_of resume h before bytes)))
+  pub enough : OnOk outcome (HasTaken resume before bytes)
+  pub short : (taken had : ℕ) → outcome ≡ Err (over.ShortLog taken had) → IsShort resume before bytes taken had
+
 -- what a run of `reduce` does with a log that tells its bytes, over a disk that has a history so
-pub record IsReduceRun (resume : Bool) (Stood : History → ℕ → Type 0) (limits : Limits) (mode : Mode) (disk after : DiskState) (log left old new : Option (List ℕ)) (outcome : Result Unit StoreHalt) : Type 0 where
-  pub reduced : (h : History) (before : ℕ) (bytes : List ℕ) → Stood h before → log ≡ Some bytes → OnOk outcome (IsReduced limits mode after left old new (begun_at resume mode h before bytes) (part_at resume before))
-  pub leaves : (h : History) (before : ℕ) (bytes : List ℕ) → Stood h before → log ≡ Some bytes → LeavesOnly disk after (IsOnTheWay limits mode (begun_at resume mode h before bytes) (part_at resume before) before)
-  pub front : (h : History) (before : ℕ) (bytes : List ℕ) → Stood h before → log ≡ Some bytes → OnErr outcome (WroteFront limits mode (settled_all (begun_at resume mode h before bytes)).history old new)
-  pub due : (h : History) (before : ℕ) (bytes : List ℕ) → Stood h before → log ≡ Some bytes → IfErr outcome (IsRunDue (Stops limits (settled_all (begun_at resume mode h before bytes)).history))
-  pub enough : (h : History) (before : ℕ) (bytes : List ℕ) → Stood h before → log ≡ Some bytes → OnOk outcome (HasTaken resume before bytes)
-  pub short : (h : History) (before : ℕ) (bytes : List ℕ) → Stood h before → log ≡ Some bytes → (taken had : ℕ) → outcome ≡ Err (over.ShortLog taken had) → IsShort resume before bytes taken had
+abbrev pub IsReduceRun : (resume : Bool) → (Stood : History → ℕ → Type 0) → Limits → Mode → (disk after : DiskState) → (log left old new : Option (List ℕ)) → Result Unit StoreHalt → Type 0
+IsReduceRun resume Stood limits mode disk after log left old new outcome =
+    (h : History) (before : ℕ) (bytes : List ℕ) → Stood h before → log ≡ Some bytes → Reduces resume limits mode disk after left old new outcome h before bytes
+
+-- all that was taken up to this moment is on the disk
+pub record IsStored (limits : Limits) (mode : Mode) (disk : DiskState) (left : Option (List ℕ)) (begun : Begun) (to : Moment) : Type 0 where
+  pub along : IsOf begun to
+  pub stores : StoresHistory limits mode disk.reads to.history (begun.part + bytes_in (since begun to))
+  pub durable : IsDurable disk
+  pub told : left ≡ Some to.log
+
+-- A run of `watch` over a disk that stores a history. A crash at any moment leaves what was there, or a front of what the run has
+-- taken at the last moment to which it came.
+pub record Watches (limits : Limits) (mode : Mode) (disk after : DiskState) (left old new : Option (List ℕ)) (outcome : Result Unit StoreHalt)
+    (begun : Begun) (asked : List ℕ) : Type 0 where
+  pub to : Moment
+  pub bytes : List ℕ
+  pub wrote : Appends old new bytes
+  pub course : AnswerCourse limits (first_of mode begun) asked bytes outcome to
+  pub stored : OnOk outcome (IsStored limits mode after left begun to)
+  pub last : Moment
+  pub along : IsOf begun last
+  pub leaves : LeavesOnly disk after (IsReached limits mode begun (since begun last))
+  pub no_further : OnOk outcome (last ≡ to)
+  pub passes : IfErr outcome (PassesIn limits mode begun (since begun last))
+  pub whole : (taken had : ℕ) → outcome ≡ Err (over.ShortLog taken had) → ⊥
+
+-- what a run of `watch` does with a log and questions that tell their bytes, over a disk that has a history so
+abbrev pub IsWatchRun : (Stood : History → ℕ → Type 0) → Limits → Mode → (disk after : DiskState) → (log left asked old new : Option (List ℕ)) → Result Unit StoreHalt → Type 0
+IsWatchRun Stood limits mode disk after log left asked old new outcome =
+    (h : History) (before : ℕ) (bytes questions : List ℕ) → Stood h before → log ≡ Some bytes → asked ≡ Some questions
+    → Watches limits mode disk after left old new outcome (begun_of false h before bytes) questions
 
 -- an opened store has no batch, and its first place is named
 pub record HasNoBatch {D : Type 0} (opened : Opened D) (place : ℕ) : Type 0 where

@@ -62,6 +62,7 @@ mode_for (job.Back of) = Some mode.Plain
 mode_for (job.Watch kept log) = Some kept
 mode_for (job.Trial seed events) = None
 mode_for (job.Reduce kept log store resume) = None
+mode_for (job.WatchStore kept log store) = None
 mode_for (job.Query store) = None
 
 -- a log has a name of at least one byte
@@ -79,9 +80,19 @@ reduce_of None log store = None
 reduce_of (Some kept) log store =
     if nat_lt 0 (length log) then (if nat_lt 0 (length store) then Some (job.Reduce kept log store false) else None) else None
 
--- `reduce MODE LOG STORE`
-abbrev pub reduce_job : List ℕ → List ℕ → List ℕ → List ℕ → Option Job
-reduce_job word kept log store = if bytes_eq word (codes "reduce") then reduce_of (mode_of kept) log store else None
+abbrev pub watch_store_of : Option Mode → List ℕ → List ℕ → Option Job
+watch_store_of None log store = None
+watch_store_of (Some kept) log store =
+    if nat_lt 0 (length log) then (if nat_lt 0 (length store) then Some (job.WatchStore kept log store) else None) else None
+
+-- `watch MODE LOG STORE`
+abbrev pub watch_store_job : List ℕ → List ℕ → List ℕ → List ℕ → Option Job
+watch_store_job word kept log store = if bytes_eq word (codes "watch") then watch_store_of (mode_of kept) log store else None
+
+-- `reduce MODE LOG STORE`, or else `watch MODE LOG STORE`
+abbrev pub three_word_job : List ℕ → List ℕ → List ℕ → List ℕ → Option Job
+three_word_job word kept log store =
+    if bytes_eq word (codes "reduce") then reduce_of (mode_of kept) log store else watch_store_job word kept log store
 
 -- a trial needs both of its numbers
 abbrev pub trial_of : Option ℕ → Option ℕ → Option Job
@@ -100,7 +111,7 @@ abbrev pub row_of : List ℕ → List (List ℕ) → Option Job
 row_of name [] = None
 row_of name (a ∷ []) = one_word_job name a
 row_of name (a ∷ b ∷ []) = two_word_job name a b
-row_of name (a ∷ b ∷ c ∷ []) = reduce_job name a b c
+row_of name (a ∷ b ∷ c ∷ []) = three_word_job name a b c
 row_of name (a ∷ b ∷ c ∷ d ∷ more) = None
 
 -- the same job with `--resume`, which `reduce` alone may have
@@ -108,6 +119,7 @@ abbrev pub resumed : Option Job → Option Job
 resumed None = None
 resumed (Some (job.Back of)) = None
 resumed (Some (job.Watch kept log)) = None
+resumed (Some (job.WatchStore kept log store)) = None
 resumed (Some (job.Trial seed events)) = None
 resumed (Some (job.Reduce kept log store resume)) = Some (job.Reduce kept log store true)
 resumed (Some (job.Query store)) = None
@@ -140,4 +152,5 @@ IsInMemory (job.Back of) = ⊤
 IsInMemory (job.Watch kept log) = ⊤
 IsInMemory (job.Trial seed events) = ⊤
 IsInMemory (job.Reduce kept log store resume) = ⊥
+IsInMemory (job.WatchStore kept log store) = ⊥
 IsInMemory (job.Query store) = ⊥

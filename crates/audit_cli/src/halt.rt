@@ -17,7 +17,11 @@ pub enum Halt {
     NoMemory,
     ReadFault,
     WriteFault,
+    /// A call on the disk of a store failed.
+    StoreFault,
     Full(Full),
+    /// A batch would pass a limit of a store.
+    Unwritten(Full),
 }
 
 impl From<NoMemory> for Halt {
@@ -28,20 +32,28 @@ impl From<NoMemory> for Halt {
     }
 }
 
+impl From<CommitFault> for Halt {
+    ghost from_gives = { λ fault e. e ≡ commit_halt fault };
+
+    fn from(fault: CommitFault) -> Halt {
+        match fault {
+            CommitFault::StoreFault => Halt::StoreFault,
+            CommitFault::Full(full) => Halt::Unwritten(full),
+            CommitFault::NoMemory => Halt::NoMemory,
+        }
+    }
+}
+
 /// Why a run over a store stops before its end: for a cause that any run has, or for its store.
 #[derive(Clone, Copy, Debug, PartialEq, Eq)]
 pub enum StoreHalt {
     Run(Halt),
-    /// A call on the disk failed.
-    StoreFault,
     /// The disk isn't a store. The place is that of the batch from which on it isn't one.
     BadStore(u64),
     /// The store is of another mode.
     WrongMode { kept: Mode, asked: Mode },
     /// The log has fewer bytes than the store has taken of it.
     ShortLog { taken: u64, had: u64 },
-    /// A batch would pass a limit of the store.
-    Unwritten(Full),
 }
 
 impl From<NoMemory> for StoreHalt {
@@ -60,24 +72,12 @@ impl From<Halt> for StoreHalt {
     }
 }
 
-impl From<CommitFault> for StoreHalt {
-    ghost from_gives = { λ fault e. e ≡ commit_halt fault };
-
-    fn from(fault: CommitFault) -> StoreHalt {
-        match fault {
-            CommitFault::StoreFault => StoreHalt::StoreFault,
-            CommitFault::Full(full) => StoreHalt::Unwritten(full),
-            CommitFault::NoMemory => StoreHalt::Run(Halt::NoMemory),
-        }
-    }
-}
-
 /// Why a disk wasn't opened as a store, as a halt.
 pub fn halt_of_open(fault: OpenFault) -> StoreHalt
     ensures { result ≡ open_halt fault }
 {
     match fault {
-        OpenFault::StoreFault => StoreHalt::StoreFault,
+        OpenFault::StoreFault => StoreHalt::Run(Halt::StoreFault),
         OpenFault::BadStore(place) => StoreHalt::BadStore(place),
         OpenFault::WrongMode { kept, asked } => StoreHalt::WrongMode { kept, asked },
         OpenFault::NoMemory => StoreHalt::Run(Halt::NoMemory),

@@ -4,8 +4,8 @@ ghost use Rattle.audit_cli.specs.declared.halt.Halt.TheVariants as halt;
 ghost use Rattle.flow_base.specs.declared.limits.Limits.{Limits};
 ghost use Rattle.outside.specs.Cause.{Rose};
 ghost use Rattle.ingest.specs.Stops.{Stops};
-ghost use Rattle.audit_cli.specs.Dialogue.{Kind, Moment, taken_on};
-ghost use Rattle.audit_cli.specs.Course.{At, CountsOn, GoesUp, HasCauses, IsDue, IsPart};
+ghost use Rattle.audit_cli.specs.Dialogue.{Moment, taken_on};
+ghost use Rattle.audit_cli.specs.Course.{CountsOn, GoesUp, HasCauses, IsDue, IsPart, StandsAt};
 
 use crate::halt::{Halt, halt_of};
 use ingest::{Ingest, stops_stay};
@@ -21,18 +21,18 @@ fn take_piece<R: Reducer, K: Keep, L: Source>(
 ) -> Result<usize, Halt>
     requires { 0 < length buf.old }
     ensures within { IfOk result (λ n. n ≤ length buf.old) }
-    ensures took { (kind : Kind) (limits : Limits) (m : Moment)
-        → At kind limits engine.old (L.left log.old) m
+    ensures took { (limits : Limits) (m : Moment)
+        → StandsAt limits engine.old (L.left log.old) m
         → IfOk result
-        (λ n. At kind limits engine.new (L.left log.new) (taken_on n m)) }
-    ensures some { (kind : Kind) (limits : Limits) (m : Moment)
-        → At kind limits engine.old (L.left log.old) m
+        (λ n. StandsAt limits engine.new (L.left log.new) (taken_on n m)) }
+    ensures some { (limits : Limits) (m : Moment)
+        → StandsAt limits engine.old (L.left log.old) m
         → IfOk result (λ n. IsPart n m.log) }
-    ensures due { (kind : Kind) (limits : Limits) (m : Moment)
-        → At kind limits engine.old (L.left log.old) m
+    ensures due { (limits : Limits) (m : Moment)
+        → StandsAt limits engine.old (L.left log.old) m
         → IfErr result (IsDue (Stops limits (taken_on (length buf.old) m).history)) }
     ensures causes { IfErr result
-        (HasCauses (Rose (L.faults log.old) (L.faults log.new) (L.spent log.new)) ⊥) }
+        (HasCauses (Rose (L.faults log.old) (L.faults log.new) (L.spent log.new)) ⊥ ⊥ ⊥) }
     ensures part { IfOk result (CountsOn engine.old.part engine.new.part) }
     ensures alike { K.alike engine.old.joined.keep engine.new.joined.keep }
     ensures marked { engine.new.joined.tables.marked ≡ engine.old.joined.tables.marked }
@@ -59,18 +59,19 @@ pub fn take_log<R: Reducer, K: Keep, L: Source>(
     most: u64,
 ) -> Result<u64, Halt>
     requires { 0 < length buf.old }
-    ensures took { (kind : Kind) (limits : Limits) (m : Moment)
-        → At kind limits engine.old (L.left log.old) m
+    ensures within { IfOk result (λ n. n ≤ most) }
+    ensures took { (limits : Limits) (m : Moment)
+        → StandsAt limits engine.old (L.left log.old) m
         → IfOk result
-        (λ _. At kind limits engine.new (L.left log.new) (taken_on most m)) }
-    ensures count { (kind : Kind) (limits : Limits) (m : Moment)
-        → At kind limits engine.old (L.left log.old) m
+        (λ _. StandsAt limits engine.new (L.left log.new) (taken_on most m)) }
+    ensures count { (limits : Limits) (m : Moment)
+        → StandsAt limits engine.old (L.left log.old) m
         → IfOk result (λ n. n ≡ length (take most m.log)) }
-    ensures due { (kind : Kind) (limits : Limits) (m : Moment)
-        → At kind limits engine.old (L.left log.old) m
+    ensures due { (limits : Limits) (m : Moment)
+        → StandsAt limits engine.old (L.left log.old) m
         → IfErr result (IsDue (Stops limits (taken_on most m).history)) }
     ensures causes { IfErr result
-        (HasCauses (Rose (L.faults log.old) (L.faults log.new) (L.spent log.new)) ⊥) }
+        (HasCauses (Rose (L.faults log.old) (L.faults log.new) (L.spent log.new)) ⊥ ⊥ ⊥) }
     ensures part { IfOk result (CountsOn engine.old.part engine.new.part) }
     ensures alike { K.alike engine.old.joined.keep engine.new.joined.keep }
     ensures marked { engine.new.joined.tables.marked ≡ engine.old.joined.tables.marked }
@@ -99,7 +100,7 @@ pub fn pass_over<L: Source>(log: &mut L, buf: &mut [u8], most: u64) -> Result<u6
         → OnOk result (L.left log.new ≡ Some (drop most bytes)) }
     ensures due { IfErr result (λ why. why ≡ halt.ReadFault) }
     ensures causes { IfErr result
-        (HasCauses (Rose (L.faults log.old) (L.faults log.new) (L.spent log.new)) ⊥) }
+        (HasCauses (Rose (L.faults log.old) (L.faults log.new) (L.spent log.new)) ⊥ ⊥ ⊥) }
     ensures counts { GoesUp
         (L.faults log.old) (L.faults log.new) (L.spent log.old) (L.spent log.new) }
 {

@@ -1,7 +1,7 @@
 //! The program: which objects an object's contents can have come from, over the audit log of a host.
 //!
 //!     audit_cli back ID < LOG
-//!     audit_cli watch MODE LOG < QUESTIONS
+//!     audit_cli watch MODE LOG [STORE] < QUESTIONS
 //!     audit_cli reduce MODE LOG STORE [--resume]
 //!     audit_cli query STORE < QUESTIONS
 //!     audit_cli trial SEED EVENTS
@@ -21,6 +21,7 @@ mod hear;
 mod listen;
 mod log;
 mod run;
+mod saving;
 mod session;
 mod status;
 #[cfg(test)]
@@ -94,6 +95,18 @@ fn audited(rt: &HostRuntime, words: &[String]) -> Status
         ) => {
             let mut log = log_named(rt, &name);
             let mut questions: Reading<File> = Reading::unopened();
+            let disk = store_made(rt, &store);
+            audit_main(alloc, words, &mut log, &mut questions, &mut out, disk).status
+        }
+        Ok(
+            Job::WatchStore {
+                mode: _,
+                log: name,
+                store,
+            },
+        ) => {
+            let mut log = log_named(rt, &name);
+            let mut questions = Reading::new(rt.stdin());
             let disk = store_made(rt, &store);
             audit_main(alloc, words, &mut log, &mut questions, &mut out, disk).status
         }

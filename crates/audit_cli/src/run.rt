@@ -12,14 +12,14 @@ ghost use Rattle.audit_cli.specs.Headline.{Tells, TellsLog, LeavesQuestions};
 ghost use Rattle.audit_cli.specs.Standard.{IsStandard, WithStandard};
 ghost use Rattle.audit_cli.specs.Statuses.{RefusesStore, StatusCause, store_status};
 ghost use Rattle.audit_cli.specs.StoreHalts.{no_modes, no_place};
-ghost use Rattle.audit_cli.specs.Stores.{EndsAs, IsBadIn, IsBadOrNone, IsQueryRun, IsReduceRun, IsWrongIn, StoodAt};
+ghost use Rattle.audit_cli.specs.Stores.{EndsAs, IsBadIn, IsBadOrNone, IsQueryRun, IsReduceRun, IsWatchRun, IsWrongIn, StoodAt};
 
 use crate::back::back;
 use crate::halt::Halt;
 use crate::listen::watch;
 use crate::session::{Session, room_for_a_read};
 use crate::status::{Status, status_of, status_over_store};
-use crate::stores::{Ran, query, reduce};
+use crate::stores::{Ran, Taking, extend, query};
 use crate::trial::trial;
 use crate::words::{Job, WordsFault, read_words};
 use flow_base::{EntityId, Limits};
@@ -64,7 +64,7 @@ fn run<L: Source, Q: Source, O: Sink>(
     ensures causes { IfErr result (HasCauses
         (Rose (L.faults log.old) (L.faults log.new) (L.spent log.new)
         ⊎ Rose (Q.faults questions.old) (Q.faults questions.new) (Q.spent questions.new))
-        (Rose (O.faults out.old) (O.faults out.new) (O.spent out.new))) }
+        (Rose (O.faults out.old) (O.faults out.new) (O.spent out.new)) ⊥ ⊥) }
     ensures other { (of : ℕ) → job.now ≡ Job.Back of → questions.new ≡ questions.old }
     ensures alone { (seed events : ℕ) → job.now ≡ Job.Trial seed events
         → (log.new ≡ log.old) × (questions.new ≡ questions.old) }
@@ -73,6 +73,11 @@ fn run<L: Source, Q: Source, O: Sink>(
         Job::Back(_) => run_in_mode(alloc, limits, Mode::Plain, job, log, questions, out),
         Job::Watch { mode, log: _ } => run_in_mode(alloc, limits, *mode, job, log, questions, out),
         Job::Trial { seed, events } => trial(alloc, limits, *seed, *events, out),
+        Job::WatchStore {
+            mode: _,
+            log: _,
+            store: _,
+        } => unreachable!(),
         Job::Reduce {
             mode: _,
             log: _,
@@ -109,7 +114,7 @@ fn run_in_mode<L: Source, Q: Source, O: Sink>(
     ensures causes { IfErr result (HasCauses
         (Rose (L.faults log.old) (L.faults log.new) (L.spent log.new)
         ⊎ Rose (Q.faults questions.old) (Q.faults questions.new) (Q.spent questions.new))
-        (Rose (O.faults out.old) (O.faults out.new) (O.spent out.new))) }
+        (Rose (O.faults out.old) (O.faults out.new) (O.spent out.new)) ⊥ ⊥) }
     ensures other { (of : ℕ) → job.now ≡ Job.Back of → questions.new ≡ questions.old }
 {
     match mode {
@@ -164,7 +169,7 @@ fn run_with<R: Reducer + Drop, L: Source, Q: Source, O: Sink>(
     ensures causes { IfErr result (HasCauses
         (Rose (L.faults log.old) (L.faults log.new) (L.spent log.new)
         ⊎ Rose (Q.faults questions.old) (Q.faults questions.new) (Q.spent questions.new))
-        (Rose (O.faults out.old) (O.faults out.new) (O.spent out.new))) }
+        (Rose (O.faults out.old) (O.faults out.new) (O.spent out.new)) ⊥ ⊥) }
     ensures other { (of : ℕ) → job.now ≡ Job.Back of → questions.new ≡ questions.old }
 {
     let piece = room_for_a_read(alloc)?;
@@ -173,11 +178,18 @@ fn run_with<R: Reducer + Drop, L: Source, Q: Source, O: Sink>(
         alloc,
         engine,
         piece,
+        batch: u64::MAX,
+        unsaved: 0,
     };
     match job {
         Job::Back(of) => back(&mut session, log, out, EntityId(*of)),
         Job::Watch { mode: _, log: _ } => watch(&mut session, true, limits, log, questions, out),
         Job::Trial { seed: _, events: _ } => unreachable!(),
+        Job::WatchStore {
+            mode: _,
+            log: _,
+            store: _,
+        } => unreachable!(),
         Job::Reduce {
             mode: _,
             log: _,
@@ -252,6 +264,13 @@ pub fn audit_run<L: Source, Q: Source, O: Sink, D: Disk>(
         → EndsAs result.status (IsReduceRun resume (StoodAt D.state limits.now kept disk) limits.now kept
         (D.state disk) (D.state result.disk) (L.left log.old) (L.left log.new)
         (O.written out.old) (O.written out.new)) }
+    // Over such a disk `watch` answers each question at its moment. It leaves at each moment a store of
+    // that history and of a front of what it took, and at Done one of all of it.
+    ensures watched { (kept : Mode) (name store : List ℕ)
+        → job_of (map string_bytes words.now) ≡ Some (Job.WatchStore kept name store)
+        → EndsAs result.status (IsWatchRun (StoodAt D.state limits.now kept disk) limits.now kept
+        (D.state disk) (D.state result.disk) (L.left log.old) (L.left log.new)
+        (Q.left questions.old) (O.written out.old) (O.written out.new)) }
     // Over such a disk `query` answers from its history, and leaves the disk as it is.
     ensures queried { (store : List ℕ)
         → job_of (map string_bytes words.now) ≡ Some (Job.Query store)
@@ -261,6 +280,10 @@ pub fn audit_run<L: Source, Q: Source, O: Sink, D: Disk>(
     // A store is refused for a cause, and no other job ends so.
     ensures refused { (kept : Mode) (name store : List ℕ) (resume : Bool)
         → job_of (map string_bytes words.now) ≡ Some (Job.Reduce kept name store resume)
+        → RefusesStore result.status (IsBadIn limits.now (D.state disk))
+        (IsWrongIn limits.now (D.state disk) (Some kept)) }
+    ensures unwatched { (kept : Mode) (name store : List ℕ)
+        → job_of (map string_bytes words.now) ≡ Some (Job.WatchStore kept name store)
         → RefusesStore result.status (IsBadIn limits.now (D.state disk))
         (IsWrongIn limits.now (D.state disk) (Some kept)) }
     ensures unanswered { (store : List ℕ)
@@ -296,7 +319,26 @@ pub fn audit_run<L: Source, Q: Source, O: Sink, D: Disk>(
                 store: _,
                 resume,
             },
-        ) => told_of(reduce(alloc, limits, mode, resume, log, out, disk)),
+        ) => {
+            let taking = Taking::Whole { resume };
+            told_of(extend(alloc, limits, mode, taking, log, questions, out, disk))
+        }
+        Ok(
+            Job::WatchStore {
+                mode,
+                log: _,
+                store: _,
+            },
+        ) => told_of(extend(
+            alloc,
+            limits,
+            mode,
+            Taking::Asked,
+            log,
+            questions,
+            out,
+            disk,
+        )),
         Ok(Job::Query { store: _ }) => told_of(query(alloc, limits, questions, out, disk)),
         Ok(job) => Ended {
             status: status_of(run(alloc, limits, &job, log, questions, out)),
@@ -377,6 +419,11 @@ pub fn audit_main<L: Source, Q: Source, O: Sink, D: Disk>(
         → EndsAs result.status (IsReduceRun resume (StoodAt D.state limits kept disk) limits kept
         (D.state disk) (D.state result.disk) (L.left log.old) (L.left log.new)
         (O.written out.old) (O.written out.new))) }
+    ensures watched { WithStandard (λ limits. (kept : Mode) (name store : List ℕ)
+        → job_of (map string_bytes words.now) ≡ Some (Job.WatchStore kept name store)
+        → EndsAs result.status (IsWatchRun (StoodAt D.state limits kept disk) limits kept
+        (D.state disk) (D.state result.disk) (L.left log.old) (L.left log.new)
+        (Q.left questions.old) (O.written out.old) (O.written out.new))) }
     ensures queried { WithStandard (λ limits. (store : List ℕ)
         → job_of (map string_bytes words.now) ≡ Some (Job.Query store)
         → EndsAs result.status (IsQueryRun
@@ -385,6 +432,10 @@ pub fn audit_main<L: Source, Q: Source, O: Sink, D: Disk>(
     // A store is refused for a cause, and no other job ends so.
     ensures refused { WithStandard (λ limits. (kept : Mode) (name store : List ℕ) (resume : Bool)
         → job_of (map string_bytes words.now) ≡ Some (Job.Reduce kept name store resume)
+        → RefusesStore result.status (IsBadIn limits (D.state disk))
+        (IsWrongIn limits (D.state disk) (Some kept))) }
+    ensures unwatched { WithStandard (λ limits. (kept : Mode) (name store : List ℕ)
+        → job_of (map string_bytes words.now) ≡ Some (Job.WatchStore kept name store)
         → RefusesStore result.status (IsBadIn limits (D.state disk))
         (IsWrongIn limits (D.state disk) (Some kept))) }
     ensures unanswered { WithStandard (λ limits. (store : List ℕ)

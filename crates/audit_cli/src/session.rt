@@ -1,5 +1,5 @@
 //! What a dialogue works with: an engine, and the memory through which the log comes to it.
-ghost use Rattle.std.specs.Prelude.{◌≡◌, IfOk, length};
+ghost use Rattle.std.specs.Prelude.{◌≡◌, ◌<◌, IfOk, length};
 ghost use Rattle.kept_flows.specs.Answering.{AlwaysTold, NeverFail};
 ghost use Rattle.audit_cli.specs.Sessions.{told_once};
 
@@ -21,6 +21,11 @@ pub struct Session<R: Reducer, K: Keep> {
     pub alloc: Global,
     pub engine: Ingest<R, K>,
     pub piece: Vec<u8>,
+    /// How many bytes of the log are a batch, after which all is saved.
+    pub batch: u64,
+    /// How many were taken since the last save.
+    pub unsaved: u64,
+    pub ghost few: { unsaved < batch },
     pub ghost room: { length piece.items ≡ 65536 },
     pub ghost never: { NeverFail K.faults K.spent },
     pub ghost told: { AlwaysTold K.rows } by { told_once K.rows },

@@ -176,7 +176,9 @@ pub fn status_of(outcome: Result<(), Halt>) -> Status
         Err(Halt::NoMemory) => Status::NoMemory,
         Err(Halt::ReadFault) => Status::ReadFault,
         Err(Halt::WriteFault) => Status::WriteFault,
+        Err(Halt::StoreFault) => Status::StoreFault,
         Err(Halt::Full(full)) => Status::Full(full),
+        Err(Halt::Unwritten(full)) => Status::Full(full),
     }
 }
 
@@ -187,10 +189,8 @@ pub fn status_over_store(outcome: Result<(), StoreHalt>) -> Status
     match outcome {
         Ok(()) => Status::Done,
         Err(StoreHalt::Run(why)) => status_of(Err(why)),
-        Err(StoreHalt::StoreFault) => Status::StoreFault,
         Err(StoreHalt::BadStore(place)) => Status::BadStore(place),
         Err(StoreHalt::WrongMode { kept, asked }) => Status::WrongMode { kept, asked },
         Err(StoreHalt::ShortLog { taken, had }) => Status::ShortLog { taken, had },
-        Err(StoreHalt::Unwritten(full)) => Status::Full(full),
     }
 }

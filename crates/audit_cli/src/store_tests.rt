@@ -221,3 +221,76 @@ fn a_log_that_was_taken_in_part_goes_on(rt: HostRuntime) -> Result<(), Fail> {
     assert_eq!(rt; after.as_slice(), first.as_slice());
     Ok(())
 }
+
+// The first line is taken and settled, and then the second; what comes after `end` isn't answered.
+const ASKED: &[u8] = b"take 140\nsettle\nstat\ntake 500\nsettle\nback 2\nend\nstat\n";
+
+const TAKEN: &[u8] = b"{\"take\":140}\n{\"settle\":1}\n";
+
+const THEN: &[u8] =
+    b"{\"take\":138}\n{\"settle\":2}\n{\"back\":2,\"ids\":[0,1,2]}\n{\"end\":true}\n";
+
+#[test]
+fn a_watch_over_a_store_saves_what_it_takes(rt: HostRuntime) -> Result<(), Fail> {
+    let empty = Bytes::new(rt.alloc());
+    let (ended, written, disk) = run_over(
+        &rt,
+        "watch plain log store",
+        joined(&rt, &[FORK, WRITE])?,
+        ASKED,
+        empty,
+        &[],
+    )?;
+    assert_eq!(rt; ended, Status::Done);
+    let mut wanted = Bytes::from_slice(rt.alloc(), TAKEN)?;
+    wanted.append(FIRST)?;
+    wanted.append(THEN)?;
+    assert_eq!(rt; written.as_slice(), wanted.as_slice());
+    let (ended, written, _) = run_over(
+        &rt,
+        "query store",
+        Bytes::new(rt.alloc()),
+        b"stat\n",
+        disk,
+        &[],
+    )?;
+    assert_eq!(rt; ended, Status::Done);
+    assert_eq!(rt; written.as_slice(), BOTH);
+    Ok(())
+}
+
+#[test]
+fn a_watch_that_its_disk_stops_leaves_what_it_had_saved(rt: HostRuntime) -> Result<(), Fail> {
+    let mut stopped = false;
+    for call in 0..24u64 {
+        let empty = Bytes::new(rt.alloc());
+        let (ended, _, disk) = run_over(
+            &rt,
+            "watch plain log store",
+            joined(&rt, &[FORK, WRITE])?,
+            ASKED,
+            empty,
+            &[call],
+        )?;
+        if ended != Status::Done {
+            assert_eq!(rt; ended, Status::StoreFault, "{call}");
+            stopped = true;
+        }
+        // the store has nothing, the first line, settled, or all
+        let (ended, written, _) = run_over(
+            &rt,
+            "query store",
+            Bytes::new(rt.alloc()),
+            b"stat\n",
+            disk,
+            &[],
+        )?;
+        assert_eq!(rt; ended, Status::Done, "{call}");
+        assert!(rt;
+            written.as_slice() == FIRST || written.as_slice() == BOTH,
+            "{call}"
+        );
+    }
+    assert!(rt; stopped);
+    Ok(())
+}

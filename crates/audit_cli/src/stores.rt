@@ -1,24 +1,29 @@
-//! Runs over a store: a log is taken into it, or questions are answered over what it has.
-ghost use Rattle.std.specs.Prelude.{◌≡◌, ◌⊎◌, ◌≤◌, ◌<◌, length, drop, ℕ, List, [], None, Some, Option, Err, IfErr, IsErrOf, OnOk, OnErr};
+//! Runs over a store: a log is taken into it, as a whole or as questions ask for it, or questions are answered over what it
+//! has.
+ghost use Rattle.std.specs.Prelude.{Bool, true, false, ◌≡◌, ◌⊎◌, ◌≤◌, ◌<◌, length, drop, ⊤, ℕ, List, [], None, Some, Option, Err, IfErr, IsErrOf, OnOk, OnErr};
+ghost use Rattle.flow_base.specs.declared.limits.Full.{Full};
 ghost use Rattle.flow_base.specs.declared.limits.Limits.{Limits};
 ghost use Rattle.outside.specs.Cause.{Rose};
-ghost use Rattle.outside.specs.Disk.{IsDurable, LeavesOnly, OnlyLooks, UsesDisk};
+ghost use Rattle.outside.specs.Disk.{LeavesOnly, OnlyLooks, UsesDisk};
 ghost use Rattle.audit_lex.specs.History.{History};
 ghost use Rattle.ingest.specs.StandsFor.{StandsFor};
-ghost use Rattle.reduced_store.specs.OnDisk.{SameBut};
+ghost use Rattle.reduced_store.specs.OnDisk.{OnDisk, SameBut};
 ghost use Rattle.kept_flows.specs.Committing.{CanCommit};
 ghost use Rattle.ingest.specs.Stops.{Stops};
+ghost use Rattle.audit_cli.specs.declared.halt.Halt.TheVariants as halt;
 ghost use Rattle.audit_cli.specs.declared.halt.StoreHalt.TheVariants as over;
-ghost use Rattle.audit_cli.specs.Course.{GoesUp, HasCauses, IsDue, never};
+ghost use Rattle.audit_cli.specs.Course.{At, GoesUp, HasCauses, IsDue, kind_of, never};
 ghost use Rattle.audit_cli.specs.Dialogue.{Moment};
-ghost use Rattle.audit_cli.specs.StoreHalts.{HasStoreCauses, IsRunDue, is_shorter, no_lengths, no_modes, no_place, over_run};
-ghost use Rattle.audit_cli.specs.Stores.{HasNoBatch, HasTaken, IsAllSaved, IsAtCommit, IsBadIn, IsBadOrNone, IsOnTheWay, IsOpenAt, IsQueried, IsQueryRun, IsReached, IsReduceRun, IsReduced, IsReopened, IsShort, IsTaken, IsWrongIn, StoodAt, WaitsUnsoundly, WasFound, WroteFront, WroteStat, begun_at, part_at, settled_all};
+ghost use Rattle.audit_cli.specs.Saves.{IsAllPutAway, IsPutAway, IsReached, PassesStore, RoseIn, Start, UsesStore, since};
+ghost use Rattle.audit_cli.specs.StoreHalts.{HasStoreCauses, IsRunDue, NamesNoBatch, is_shorter, no_lengths, no_modes, no_place, over_run};
+ghost use Rattle.audit_cli.specs.Stores.{HasBegun, HasNoBatch, HasTaken, IsBadIn, IsBadOrNone, IsOpenAt, IsQueried, IsQueryRun, IsReduceRun, IsReopened, IsShort, IsWatchRun, IsWrongIn, StoodAt, WaitsUnsoundly, WasFound, WroteFront, WroteStat, begun_of, settled_all};
 
 use crate::halt::{Halt, StoreHalt, halt_of_open, halt_of_restore};
 use crate::listen::watch;
-use crate::log::{pass_over, take_log};
+use crate::log::pass_over;
+use crate::saving::{Saves, settle_all, take};
 use crate::session::{Session, room_for_a_read};
-use crate::turn::{reply_of, say, settle};
+use crate::turn::{reply_of, say};
 use flow_base::{Bytes, Limits, NoMemory};
 use ingest::{Ingest, stops_stay, what_can_commit_still_can, what_is_saved_stays_saved};
 use outside::{CleanSource, Disk, Sink, Source};
@@ -37,170 +42,324 @@ pub struct Ran<D> {
     pub disk: D,
 }
 
-/// Opens a disk as a store of a mode, takes a log into it to its end, and writes the reply to `stat`.
+/// How a log is taken into a store.
+#[derive(Clone, Copy, Debug, PartialEq, Eq)]
+pub enum Taking {
+    /// To its end. If it goes on, the bytes of this log that the store has taken are passed over.
+    Whole { resume: bool },
+    /// As questions ask for it.
+    Asked,
+}
+
+/// Opens a disk as a store of a mode, and takes a log into it: to its end, after which the reply to
+/// `stat` is written, or as questions ask for it, each of which is answered.
 ///
-/// Whenever as many bytes were taken as the limit on a batch says, all that came is put on the disk,
-/// and at the end once more. If it resumes, the bytes of this log that the store has taken are passed
-/// over; a log that has fewer of them is a short one.
-pub fn reduce<D: Disk, L: Source, O: Sink>(
+/// Whenever as many bytes were taken as the limit on a batch says, after each settle and at the end, all
+/// that came is put on the disk. If a log's bytes that were taken before are passed over, a log that has
+/// fewer of them is a short one.
+pub fn extend<D: Disk, L: Source, Q: Source, O: Sink>(
     alloc: Global,
     limits: &Limits,
     mode: Mode,
-    resume: bool,
+    taking: Taking,
     log: &mut L,
+    questions: &mut Q,
     out: &mut O,
     disk: D,
 ) -> Ran<D>
-    ensures run { IsReduceRun resume (StoodAt D.state limits.now mode disk) limits.now mode
+    ensures reduced { (resume : Bool) → taking ≡ Taking.Whole resume
+        → IsReduceRun resume (StoodAt D.state limits.now mode disk) limits.now mode
         (D.state disk) (D.state result.disk) (L.left log.old) (L.left log.new)
         (O.written out.old) (O.written out.new) result.outcome }
+    ensures watched { taking ≡ Taking.Asked
+        → IsWatchRun (StoodAt D.state limits.now mode disk) limits.now mode
+        (D.state disk) (D.state result.disk) (L.left log.old) (L.left log.new)
+        (Q.left questions.old) (O.written out.old) (O.written out.new) result.outcome }
+    ensures silent { (resume : Bool) → taking ≡ Taking.Whole resume
+        → questions.new ≡ questions.old }
     ensures causes { IfErr result.outcome (HasStoreCauses
-        (Rose (L.faults log.old) (L.faults log.new) (L.spent log.new))
+        (Rose (L.faults log.old) (L.faults log.new) (L.spent log.new)
+        ⊎ Rose (Q.faults questions.old) (Q.faults questions.new) (Q.spent questions.new))
         (Rose (O.faults out.old) (O.faults out.new) (O.spent out.new))
         (Rose (D.faults disk) (D.faults result.disk) (D.spent result.disk))
         (IsBadIn limits.now (D.state disk)) (IsWrongIn limits.now (D.state disk) (Some mode))
         is_shorter) }
     ensures uses { UsesDisk D.state D.faults D.spent disk result.disk
-        (IsErrOf result.outcome over.StoreFault) }
+        (IsErrOf result.outcome (over.Run halt.StoreFault)) }
 {
     match Store::open_on(alloc, limits, Some(mode), disk) {
         Err(back) => Ran {
             outcome: Err(halt_of_open(back.fault)),
             disk: back.disk,
         },
-        Ok(opened) => reduce_opened(alloc, limits, mode, resume, opened, log, out),
+        Ok(opened) => extend_opened(alloc, limits, mode, taking, opened, log, questions, out),
     }
 }
 
 // Takes a log into an opened store.
-fn reduce_opened<D: Disk, L: Source, O: Sink>(
+fn extend_opened<D: Disk, L: Source, Q: Source, O: Sink>(
     alloc: Global,
     limits: &Limits,
     mode: Mode,
-    resume: bool,
+    taking: Taking,
     opened: Opened<D>,
     log: &mut L,
+    questions: &mut Q,
     out: &mut O,
 ) -> Ran<D>
     requires found { WasFound limits.now opened }
     requires mode { (m : Mode) → opened.mode ≡ Some m → m ≡ mode }
     requires can { CanCommit D.state opened.store }
-    ensures run { IsReduceRun resume (IsOpenAt D.state limits.now mode opened) limits.now mode
+    ensures reduced { (resume : Bool) → taking ≡ Taking.Whole resume
+        → IsReduceRun resume (IsOpenAt D.state limits.now mode opened) limits.now mode
         (D.state opened.store.disk) (D.state result.disk) (L.left log.old) (L.left log.new)
         (O.written out.old) (O.written out.new) result.outcome }
+    ensures watched { taking ≡ Taking.Asked
+        → IsWatchRun (IsOpenAt D.state limits.now mode opened) limits.now mode
+        (D.state opened.store.disk) (D.state result.disk) (L.left log.old) (L.left log.new)
+        (Q.left questions.old) (O.written out.old) (O.written out.new) result.outcome }
+    ensures silent { (resume : Bool) → taking ≡ Taking.Whole resume
+        → questions.new ≡ questions.old }
     ensures causes { IfErr result.outcome (HasStoreCauses
-        (Rose (L.faults log.old) (L.faults log.new) (L.spent log.new))
+        (Rose (L.faults log.old) (L.faults log.new) (L.spent log.new)
+        ⊎ Rose (Q.faults questions.old) (Q.faults questions.new) (Q.spent questions.new))
         (Rose (O.faults out.old) (O.faults out.new) (O.spent out.new))
         (Rose (D.faults opened.store.disk) (D.faults result.disk) (D.spent result.disk))
         (WaitsUnsoundly limits.now opened) no_modes is_shorter) }
     ensures uses { UsesDisk D.state D.faults D.spent opened.store.disk result.disk
-        (IsErrOf result.outcome over.StoreFault) }
+        (IsErrOf result.outcome (over.Run halt.StoreFault)) }
 {
     match mode {
-        Mode::Plain => reduce_with(alloc, limits, Plain::new(), resume, opened, log, out),
-        Mode::Continuous => reduce_with(
-            alloc,
-            limits,
-            Continuous::new(alloc),
-            resume,
-            opened,
-            log,
-            out,
-        ),
-        Mode::Full => reduce_with(
-            alloc,
-            limits,
-            reduce_full::Full::new(alloc),
-            resume,
-            opened,
-            log,
-            out,
-        ),
-        Mode::Source => reduce_with(alloc, limits, Sources::new(alloc), resume, opened, log, out),
-    }
-}
-
-// Takes a log into an opened store, by new tables of its mode.
-fn reduce_with<R: Reducer + Drop, D: Disk, L: Source, O: Sink>(
-    alloc: Global,
-    limits: &Limits,
-    reducer: R,
-    resume: bool,
-    opened: Opened<D>,
-    log: &mut L,
-    out: &mut O,
-) -> Ran<D>
-    requires stands { R.stands_for reducer [] }
-    requires holds { R.holds reducer [] }
-    requires found { WasFound limits.now opened }
-    requires mode { (m : Mode) → opened.mode ≡ Some m → m ≡ R.mode }
-    requires can { CanCommit D.state opened.store }
-    ensures run { IsReduceRun resume (IsOpenAt D.state limits.now R.mode opened) limits.now R.mode
-        (D.state opened.store.disk) (D.state result.disk) (L.left log.old) (L.left log.new)
-        (O.written out.old) (O.written out.new) result.outcome }
-    ensures causes { IfErr result.outcome (HasStoreCauses
-        (Rose (L.faults log.old) (L.faults log.new) (L.spent log.new))
-        (Rose (O.faults out.old) (O.faults out.new) (O.spent out.new))
-        (Rose (D.faults opened.store.disk) (D.faults result.disk) (D.spent result.disk))
-        (WaitsUnsoundly limits.now opened) no_modes is_shorter) }
-    ensures uses { UsesDisk D.state D.faults D.spent opened.store.disk result.disk
-        (IsErrOf result.outcome over.StoreFault) }
-{
-    what_can_commit_still_can::<D>();
-    what_is_saved_stays_saved::<D>();
-    what_is_found_was_stored();
-    match Ingest::restore(alloc, limits, reducer, opened) {
-        Err(back) => Ran {
-            outcome: Err(halt_of_restore(back.why)),
-            disk: back.keep.into_disk(),
-        },
-        Ok(engine) => {
-            let mut engine = engine;
-            let outcome = reduce_from(alloc, &mut engine, limits.batch, resume, log, out);
-            Ran {
-                outcome,
-                disk: engine.into_keep().into_disk(),
-            }
+        Mode::Plain => {
+            extend_with(
+                alloc,
+                limits,
+                Plain::new(),
+                taking,
+                opened,
+                log,
+                questions,
+                out,
+            )
+        }
+        Mode::Continuous => {
+            let tables = Continuous::new(alloc);
+            extend_with(alloc, limits, tables, taking, opened, log, questions, out)
+        }
+        Mode::Full => {
+            let tables = reduce_full::Full::new(alloc);
+            extend_with(alloc, limits, tables, taking, opened, log, questions, out)
+        }
+        Mode::Source => {
+            let tables = Sources::new(alloc);
+            extend_with(alloc, limits, tables, taking, opened, log, questions, out)
         }
     }
 }
 
+// Takes a log into an opened store, by new tables of its mode.
+fn extend_with<R: Reducer + Drop, D: Disk, L: Source, Q: Source, O: Sink>(
+    alloc: Global,
+    limits: &Limits,
+    tables: R,
+    taking: Taking,
+    opened: Opened<D>,
+    log: &mut L,
+    questions: &mut Q,
+    out: &mut O,
+) -> Ran<D>
+    requires stands { R.stands_for tables [] }
+    requires holds { R.holds tables [] }
+    requires found { WasFound limits.now opened }
+    requires mode { (m : Mode) → opened.mode ≡ Some m → m ≡ R.mode }
+    requires can { CanCommit D.state opened.store }
+    ensures reduced { (resume : Bool) → taking ≡ Taking.Whole resume
+        → IsReduceRun resume (IsOpenAt D.state limits.now R.mode opened) limits.now R.mode
+        (D.state opened.store.disk) (D.state result.disk) (L.left log.old) (L.left log.new)
+        (O.written out.old) (O.written out.new) result.outcome }
+    ensures watched { taking ≡ Taking.Asked
+        → IsWatchRun (IsOpenAt D.state limits.now R.mode opened) limits.now R.mode
+        (D.state opened.store.disk) (D.state result.disk) (L.left log.old) (L.left log.new)
+        (Q.left questions.old) (O.written out.old) (O.written out.new) result.outcome }
+    ensures silent { (resume : Bool) → taking ≡ Taking.Whole resume
+        → questions.new ≡ questions.old }
+    ensures causes { IfErr result.outcome (HasStoreCauses
+        (Rose (L.faults log.old) (L.faults log.new) (L.spent log.new)
+        ⊎ Rose (Q.faults questions.old) (Q.faults questions.new) (Q.spent questions.new))
+        (Rose (O.faults out.old) (O.faults out.new) (O.spent out.new))
+        (Rose (D.faults opened.store.disk) (D.faults result.disk) (D.spent result.disk))
+        (WaitsUnsoundly limits.now opened) no_modes is_shorter) }
+    ensures uses { UsesDisk D.state D.faults D.spent opened.store.disk result.disk
+        (IsErrOf result.outcome (over.Run halt.StoreFault)) }
+{
+    what_can_commit_still_can::<D>();
+    what_is_found_was_stored();
+    match Ingest::restore(alloc, limits, tables, opened) {
+        Err(back) => Ran {
+            outcome: Err(halt_of_restore(back.why)),
+            disk: back.keep.into_disk(),
+        },
+        Ok(engine) => extend_engine(alloc, limits, engine, taking, log, questions, out),
+    }
+}
+
+// Takes a log into the store of an engine.
+fn extend_engine<R: Reducer + Drop, D: Disk, L: Source, Q: Source, O: Sink>(
+    alloc: Global,
+    limits: &Limits,
+    engine: Ingest<R, Store<D>>,
+    taking: Taking,
+    log: &mut L,
+    questions: &mut Q,
+    out: &mut O,
+) -> Ran<D>
+    requires can { CanCommit D.state engine.joined.keep }
+    ensures reduced { (resume : Bool) → taking ≡ Taking.Whole resume
+        → IsReduceRun resume (IsReopened D.state R.mode limits.now engine) limits.now R.mode
+        (D.state engine.joined.keep.disk) (D.state result.disk) (L.left log.old) (L.left log.new)
+        (O.written out.old) (O.written out.new) result.outcome }
+    ensures watched { taking ≡ Taking.Asked
+        → IsWatchRun (IsReopened D.state R.mode limits.now engine) limits.now R.mode
+        (D.state engine.joined.keep.disk) (D.state result.disk) (L.left log.old) (L.left log.new)
+        (Q.left questions.old) (O.written out.old) (O.written out.new) result.outcome }
+    ensures silent { (resume : Bool) → taking ≡ Taking.Whole resume
+        → questions.new ≡ questions.old }
+    ensures causes { IfErr result.outcome (HasStoreCauses
+        (Rose (L.faults log.old) (L.faults log.new) (L.spent log.new)
+        ⊎ Rose (Q.faults questions.old) (Q.faults questions.new) (Q.spent questions.new))
+        (Rose (O.faults out.old) (O.faults out.new) (O.spent out.new))
+        (Rose (D.faults engine.joined.keep.disk) (D.faults result.disk) (D.spent result.disk))
+        no_place no_modes is_shorter) }
+    ensures uses { UsesDisk D.state D.faults D.spent engine.joined.keep.disk result.disk
+        (IsErrOf result.outcome (over.Run halt.StoreFault)) }
+{
+    let piece = match room_for_a_read(alloc) {
+        Ok(piece) => piece,
+        Err(NoMemory) => {
+            return Ran {
+                outcome: Err(StoreHalt::Run(Halt::NoMemory)),
+                disk: engine.into_keep().into_disk(),
+            };
+        }
+    };
+    let mut session = Session {
+        alloc,
+        engine,
+        piece,
+        batch: limits.batch,
+        unsaved: 0,
+    };
+    let outcome = take_in(&mut session, limits, taking, log, questions, out);
+    Ran {
+        outcome,
+        disk: session.engine.into_keep().into_disk(),
+    }
+}
+
+// Takes a log into the store of a session's engine.
+fn take_in<R: Reducer, D: Disk, L: Source, Q: Source, O: Sink>(
+    session: &mut Session<R, Store<D>>,
+    limits: &Limits,
+    taking: Taking,
+    log: &mut L,
+    questions: &mut Q,
+    out: &mut O,
+) -> Result<(), StoreHalt>
+    requires can { CanCommit D.state session.old.engine.joined.keep }
+    ensures reduced { (resume : Bool) → taking ≡ Taking.Whole resume
+        → IsReduceRun resume (IsReopened D.state R.mode limits.now session.old.engine)
+        limits.now R.mode (D.state session.old.engine.joined.keep.disk)
+        (D.state session.new.engine.joined.keep.disk) (L.left log.old) (L.left log.new)
+        (O.written out.old) (O.written out.new) result }
+    ensures watched { taking ≡ Taking.Asked
+        → IsWatchRun (IsReopened D.state R.mode limits.now session.old.engine)
+        limits.now R.mode (D.state session.old.engine.joined.keep.disk)
+        (D.state session.new.engine.joined.keep.disk) (L.left log.old) (L.left log.new)
+        (Q.left questions.old) (O.written out.old) (O.written out.new) result }
+    ensures silent { (resume : Bool) → taking ≡ Taking.Whole resume
+        → questions.new ≡ questions.old }
+    ensures causes { IfErr result (HasStoreCauses
+        (Rose (L.faults log.old) (L.faults log.new) (L.spent log.new)
+        ⊎ Rose (Q.faults questions.old) (Q.faults questions.new) (Q.spent questions.new))
+        (Rose (O.faults out.old) (O.faults out.new) (O.spent out.new))
+        (RoseIn D.faults D.spent session.old.engine.joined.keep session.new.engine.joined.keep)
+        no_place no_modes is_shorter) }
+    ensures uses { UsesStore D.state D.faults D.spent
+        session.old.engine.joined.keep session.new.engine.joined.keep }
+{
+    match taking {
+        Taking::Whole { resume } => reduce(session, resume, log, out),
+        Taking::Asked => halted(watch_on(session, limits, log, questions, out)),
+    }
+}
+
+// Takes a log to its end, from its first byte on or behind those that were taken.
+fn reduce<R: Reducer, D: Disk, L: Source, O: Sink>(
+    session: &mut Session<R, Store<D>>,
+    resume: bool,
+    log: &mut L,
+    out: &mut O,
+) -> Result<(), StoreHalt>
+    requires can { CanCommit D.state session.old.engine.joined.keep }
+    ensures run { (limits : Limits)
+        → IsReduceRun resume (IsReopened D.state R.mode limits session.old.engine) limits R.mode
+        (D.state session.old.engine.joined.keep.disk) (D.state session.new.engine.joined.keep.disk)
+        (L.left log.old) (L.left log.new) (O.written out.old) (O.written out.new) result }
+    ensures causes { IfErr result (HasStoreCauses
+        (Rose (L.faults log.old) (L.faults log.new) (L.spent log.new))
+        (Rose (O.faults out.old) (O.faults out.new) (O.spent out.new))
+        (RoseIn D.faults D.spent session.old.engine.joined.keep session.new.engine.joined.keep)
+        no_place no_modes is_shorter) }
+    ensures uses { UsesStore D.state D.faults D.spent
+        session.old.engine.joined.keep session.new.engine.joined.keep }
+{
+    Store::<D>::saves_lawfully();
+    begin_part(session, resume, log)?;
+    reduce_all(session, log, out)?;
+    Ok(())
+}
+
 // Begins another part of the log, or passes over what the store has taken of this one.
 fn begin_part<R: Reducer, D: Disk, L: Source>(
-    alloc: Global,
-    engine: &mut Ingest<R, Store<D>>,
+    session: &mut Session<R, Store<D>>,
     resume: bool,
     log: &mut L,
 ) -> Result<(), StoreHalt>
     ensures begun { (limits : Limits) (h : History) (before : ℕ) (bytes : List ℕ)
-        → IsReopened D.state R.mode limits engine.old h before → L.left log.old ≡ Some bytes
-        → OnOk result (IsAtCommit D.state R.mode limits engine.new (L.left log.new)
-        (begun_at resume R.mode h before bytes) (part_at resume before) before) }
+        → IsReopened D.state R.mode limits session.old.engine h before
+        → L.left log.old ≡ Some bytes
+        → OnOk result (HasBegun D.state R.mode limits session.old.engine session.new.engine
+        (L.left log.new) (begun_of resume h before bytes)) }
     ensures enough { (limits : Limits) (h : History) (before : ℕ) (bytes : List ℕ)
-        → IsReopened D.state R.mode limits engine.old h before → L.left log.old ≡ Some bytes
+        → IsReopened D.state R.mode limits session.old.engine h before
+        → L.left log.old ≡ Some bytes
         → OnOk result (HasTaken resume before bytes) }
     ensures short { (limits : Limits) (h : History) (before : ℕ) (bytes : List ℕ)
-        → IsReopened D.state R.mode limits engine.old h before → L.left log.old ≡ Some bytes
+        → IsReopened D.state R.mode limits session.old.engine h before
+        → L.left log.old ≡ Some bytes
         → (taken had : ℕ) → result ≡ Err (over.ShortLog taken had)
         → IsShort resume before bytes taken had }
     ensures due { IfErr result (IsRunDue never) }
     ensures causes { IfErr result (HasStoreCauses
         (Rose (L.faults log.old) (L.faults log.new) (L.spent log.new)) ⊥ ⊥
         no_place no_modes is_shorter) }
-    ensures alike { SameBut engine.old.joined.keep engine.new.joined.keep }
+    ensures written { IfErr result NamesNoBatch }
+    ensures alike { SameBut session.old.engine.joined.keep session.new.engine.joined.keep }
     ensures counts { GoesUp
         (L.faults log.old) (L.faults log.new) (L.spent log.old) (L.spent log.new) }
 {
     what_is_saved_stays_saved::<D>();
     if resume {
-        return go_on(alloc, engine.part_taken(), log);
+        let taken = session.engine.part_taken();
+        return go_on(session.piece.as_mut_slice(), taken, log);
     }
-    engine.new_part();
+    session.engine.new_part();
     Ok(())
 }
 
 // Passes over the bytes of a log that were taken before.
-fn go_on<L: Source>(alloc: Global, taken: u64, log: &mut L) -> Result<(), StoreHalt>
+fn go_on<L: Source>(buf: &mut [u8], taken: u64, log: &mut L) -> Result<(), StoreHalt>
+    requires { 0 < length buf.old }
     ensures enough { (bytes : List ℕ) → L.left log.old ≡ Some bytes
         → OnOk result (taken ≤ length bytes) }
     ensures passed { (bytes : List ℕ) → L.left log.old ≡ Some bytes
@@ -212,116 +371,70 @@ fn go_on<L: Source>(alloc: Global, taken: u64, log: &mut L) -> Result<(), StoreH
     ensures causes { IfErr result (HasStoreCauses
         (Rose (L.faults log.old) (L.faults log.new) (L.spent log.new)) ⊥ ⊥
         no_place no_modes is_shorter) }
+    ensures written { IfErr result NamesNoBatch }
     ensures counts { GoesUp
         (L.faults log.old) (L.faults log.new) (L.spent log.old) (L.spent log.new) }
 {
-    let mut piece = room_for_a_read(alloc)?;
-    let had = pass_over(log, piece.as_mut_slice(), taken)?;
+    let had = pass_over(log, buf, taken)?;
     if had < taken {
         return Err(StoreHalt::ShortLog { taken, had });
     }
     Ok(())
 }
 
-// Takes a log into the store of an engine, from its first byte on or behind those that were taken.
-fn reduce_from<R: Reducer, D: Disk, L: Source, O: Sink>(
-    alloc: Global,
-    engine: &mut Ingest<R, Store<D>>,
-    batch: u64,
-    resume: bool,
+// Takes the log to its end into the store, settles, and writes the reply to `stat`.
+fn reduce_all<R: Reducer, D: Disk, L: Source, O: Sink>(
+    session: &mut Session<R, Store<D>>,
     log: &mut L,
     out: &mut O,
-) -> Result<(), StoreHalt>
-    requires can { CanCommit D.state engine.old.joined.keep }
-    ensures run { (limits : Limits)
-        → IsReduceRun resume (IsReopened D.state R.mode limits engine.old) limits R.mode
-        (D.state engine.old.joined.keep.disk) (D.state engine.new.joined.keep.disk)
-        (L.left log.old) (L.left log.new) (O.written out.old) (O.written out.new) result }
-    ensures causes { IfErr result (HasStoreCauses
+) -> Result<(), Halt>
+    requires can { CanCommit D.state session.old.engine.joined.keep }
+    ensures stored { (start : Start (OnDisk D)) (limits : Limits) (m : Moment)
+        → At (kind_of R.mode true (IsPutAway D.state start limits)) limits session.old.engine
+        (L.left log.old) m
+        → OnOk result (IsAllPutAway D.state start limits session.new.engine.joined.keep
+        (settled_all m)) }
+    ensures leaves { (start : Start (OnDisk D)) (limits : Limits) (m : Moment)
+        → At (kind_of R.mode true (IsPutAway D.state start limits)) limits session.old.engine
+        (L.left log.old) m
+        → LeavesOnly (D.state start.rows.disk) (D.state session.new.engine.joined.keep.disk)
+        (IsReached limits R.mode start.begun (since start.begun (settled_all m))) }
+    ensures passes { (start : Start (OnDisk D)) (limits : Limits) (m : Moment)
+        → At (kind_of R.mode true (IsPutAway D.state start limits)) limits session.old.engine
+        (L.left log.old) m
+        → (full : Full) → result ≡ Err (halt.Unwritten full)
+        → PassesStore limits R.mode start.begun (since start.begun (settled_all m)) full }
+    ensures whole { (start : Start (OnDisk D)) (limits : Limits) (m : Moment)
+        → At (kind_of R.mode true (IsPutAway D.state start limits)) limits session.old.engine
+        (L.left log.old) m
+        → OnOk result (L.left log.new ≡ Some []) }
+    ensures wrote { (start : Start (OnDisk D)) (limits : Limits) (m : Moment)
+        → At (kind_of R.mode true (IsPutAway D.state start limits)) limits session.old.engine
+        (L.left log.old) m
+        → OnOk result (WroteStat limits R.mode (settled_all m).history
+        (O.written out.old) (O.written out.new)) }
+    ensures front { (start : Start (OnDisk D)) (limits : Limits) (m : Moment)
+        → At (kind_of R.mode true (IsPutAway D.state start limits)) limits session.old.engine
+        (L.left log.old) m
+        → OnErr result (WroteFront limits R.mode (settled_all m).history
+        (O.written out.old) (O.written out.new)) }
+    ensures due { (start : Start (OnDisk D)) (limits : Limits) (m : Moment)
+        → At (kind_of R.mode true (IsPutAway D.state start limits)) limits session.old.engine
+        (L.left log.old) m
+        → IfErr result (IsDue (Stops limits (settled_all m).history)) }
+    ensures causes { IfErr result (HasCauses
         (Rose (L.faults log.old) (L.faults log.new) (L.spent log.new))
         (Rose (O.faults out.old) (O.faults out.new) (O.spent out.new))
-        (Rose (D.faults engine.old.joined.keep.disk) (D.faults engine.new.joined.keep.disk)
-        (D.spent engine.new.joined.keep.disk)) no_place no_modes is_shorter) }
-    ensures uses { UsesDisk D.state D.faults D.spent
-        engine.old.joined.keep.disk engine.new.joined.keep.disk (IsErrOf result over.StoreFault) }
-{
-    what_can_commit_still_can::<D>();
-    begin_part(alloc, engine, resume, log)?;
-    reduce_into(alloc, engine, batch, log, out)
-}
-
-// Takes the log to its end, and puts what came on the disk whenever `batch` bytes were taken.
-fn take_in<R: Reducer, D: Disk, L: Source>(
-    alloc: Global,
-    engine: &mut Ingest<R, Store<D>>,
-    batch: u64,
-    log: &mut L,
-) -> Result<(), StoreHalt>
-    requires can { CanCommit D.state engine.old.joined.keep }
-    ensures can { OnOk result (CanCommit D.state engine.new.joined.keep) }
-    ensures taken { (limits : Limits) (m : Moment) (part before : ℕ)
-        → IsAtCommit D.state R.mode limits engine.old (L.left log.old) m part before
-        → OnOk result
-        (IsTaken D.state R.mode limits engine.new (L.left log.new) m part before) }
-    ensures leaves { (limits : Limits) (m : Moment) (part before : ℕ)
-        → IsAtCommit D.state R.mode limits engine.old (L.left log.old) m part before
-        → LeavesOnly (D.state engine.old.joined.keep.disk) (D.state engine.new.joined.keep.disk)
-        (IsReached limits R.mode m part before) }
-    ensures due { (limits : Limits) (m : Moment) (part before : ℕ)
-        → IsAtCommit D.state R.mode limits engine.old (L.left log.old) m part before
-        → IfErr result (IsRunDue (Stops limits (settled_all m).history)) }
-    ensures causes { IfErr result (HasStoreCauses
-        (Rose (L.faults log.old) (L.faults log.new) (L.spent log.new)) ⊥
-        (Rose (D.faults engine.old.joined.keep.disk) (D.faults engine.new.joined.keep.disk)
-        (D.spent engine.new.joined.keep.disk)) no_place no_modes no_lengths) }
-    ensures uses { UsesDisk D.state D.faults D.spent
-        engine.old.joined.keep.disk engine.new.joined.keep.disk (IsErrOf result over.StoreFault) }
-    ensures counts { GoesUp
-        (L.faults log.old) (L.faults log.new) (L.spent log.old) (L.spent log.new) }
+        (RoseIn D.faults D.spent session.old.engine.joined.keep session.new.engine.joined.keep)
+        ⊤) }
+    ensures uses { UsesStore D.state D.faults D.spent
+        session.old.engine.joined.keep session.new.engine.joined.keep }
 {
     stops_stay();
-    what_can_commit_still_can::<D>();
-    what_is_saved_stays_saved::<D>();
-    let mut piece = room_for_a_read(alloc)?;
-    let step = batch.max(1);
-    let mut taken: u64 = 0;
-    while taken < u64::MAX {
-        let most = step.min(u64::MAX - taken);
-        let count = take_log(engine, log, piece.as_mut_slice(), most)?;
-        if count < most {
-            return Ok(());
-        }
-        taken += most;
-        engine.commit()?;
-    }
-    Ok(())
-}
-
-// Settles, and puts all that came on the disk.
-fn settle_in<R: Reducer, D: Disk>(engine: &mut Ingest<R, Store<D>>) -> Result<(), StoreHalt>
-    requires can { CanCommit D.state engine.old.joined.keep }
-    ensures settled { (limits : Limits) (left : Option (List ℕ)) (m : Moment) (part before : ℕ)
-        → IsTaken D.state R.mode limits engine.old left m part before
-        → OnOk result (IsAllSaved D.state R.mode limits engine.new m part) }
-    ensures durable { OnOk result (IsDurable (D.state engine.new.joined.keep.disk)) }
-    ensures leaves { (limits : Limits) (left : Option (List ℕ)) (m : Moment) (part before : ℕ)
-        → IsTaken D.state R.mode limits engine.old left m part before
-        → LeavesOnly (D.state engine.old.joined.keep.disk) (D.state engine.new.joined.keep.disk)
-        (IsOnTheWay limits R.mode m part before) }
-    ensures due { (limits : Limits) (left : Option (List ℕ)) (m : Moment) (part before : ℕ)
-        → IsTaken D.state R.mode limits engine.old left m part before
-        → IfErr result (IsRunDue (Stops limits (settled_all m).history)) }
-    ensures causes { IfErr result (HasStoreCauses ⊥ ⊥
-        (Rose (D.faults engine.old.joined.keep.disk) (D.faults engine.new.joined.keep.disk)
-        (D.spent engine.new.joined.keep.disk)) no_place no_modes no_lengths) }
-    ensures uses { UsesDisk D.state D.faults D.spent
-        engine.old.joined.keep.disk engine.new.joined.keep.disk (IsErrOf result over.StoreFault) }
-{
-    what_can_commit_still_can::<D>();
-    what_is_saved_stays_saved::<D>();
-    let _settled = settle(engine)?;
-    engine.commit()?;
-    Ok(())
+    Store::<D>::saves_lawfully();
+    let _taken = take(session, log, u64::MAX)?;
+    let _settled = settle_all(session)?;
+    write_stat(session.alloc, &mut session.engine, out)
 }
 
 // Writes the reply to `stat`.
@@ -336,49 +449,40 @@ fn write_stat<R: Reducer, D: Disk, O: Sink>(
         → OnErr result (WroteFront limits R.mode h (O.written out.old) (O.written out.new)) }
     ensures due { IfErr result (IsDue never) }
     ensures causes { IfErr result
-        (HasCauses ⊥ (Rose (O.faults out.old) (O.faults out.new) (O.spent out.new))) }
+        (HasCauses ⊥ (Rose (O.faults out.old) (O.faults out.new) (O.spent out.new)) ⊥ ⊥) }
     ensures alike { SameBut engine.old.joined.keep engine.new.joined.keep }
 {
     let reply = reply_of(engine, &Ask::Stat)?;
     say(alloc, out, &reply)
 }
 
-// Takes the log to its end into the store, settles, and writes the reply to `stat`.
-fn reduce_into<R: Reducer, D: Disk, L: Source, O: Sink>(
-    alloc: Global,
-    engine: &mut Ingest<R, Store<D>>,
-    batch: u64,
+// Answers questions while they take a log into the store as another part, and saves all at the end.
+fn watch_on<R: Reducer, D: Disk, L: Source, Q: Source, O: Sink>(
+    session: &mut Session<R, Store<D>>,
+    limits: &Limits,
     log: &mut L,
+    questions: &mut Q,
     out: &mut O,
-) -> Result<(), StoreHalt>
-    requires can { CanCommit D.state engine.old.joined.keep }
-    ensures reduced { (limits : Limits) (m : Moment) (part before : ℕ)
-        → IsAtCommit D.state R.mode limits engine.old (L.left log.old) m part before
-        → OnOk result (IsReduced limits R.mode (D.state engine.new.joined.keep.disk)
-        (L.left log.new) (O.written out.old) (O.written out.new) m part) }
-    ensures leaves { (limits : Limits) (m : Moment) (part before : ℕ)
-        → IsAtCommit D.state R.mode limits engine.old (L.left log.old) m part before
-        → LeavesOnly (D.state engine.old.joined.keep.disk) (D.state engine.new.joined.keep.disk)
-        (IsOnTheWay limits R.mode m part before) }
-    ensures front { (limits : Limits) (m : Moment) (part before : ℕ)
-        → IsAtCommit D.state R.mode limits engine.old (L.left log.old) m part before
-        → OnErr result (WroteFront limits R.mode (settled_all m).history
-        (O.written out.old) (O.written out.new)) }
-    ensures due { (limits : Limits) (m : Moment) (part before : ℕ)
-        → IsAtCommit D.state R.mode limits engine.old (L.left log.old) m part before
-        → IfErr result (IsRunDue (Stops limits (settled_all m).history)) }
-    ensures causes { IfErr result (HasStoreCauses
-        (Rose (L.faults log.old) (L.faults log.new) (L.spent log.new))
+) -> Result<(), Halt>
+    requires can { CanCommit D.state session.old.engine.joined.keep }
+    ensures watched { IsWatchRun (IsReopened D.state R.mode limits.now session.old.engine)
+        limits.now R.mode (D.state session.old.engine.joined.keep.disk)
+        (D.state session.new.engine.joined.keep.disk) (L.left log.old) (L.left log.new)
+        (Q.left questions.old) (O.written out.old) (O.written out.new) (over_run result) }
+    ensures causes { IfErr result (HasCauses
+        (Rose (L.faults log.old) (L.faults log.new) (L.spent log.new)
+        ⊎ Rose (Q.faults questions.old) (Q.faults questions.new) (Q.spent questions.new))
         (Rose (O.faults out.old) (O.faults out.new) (O.spent out.new))
-        (Rose (D.faults engine.old.joined.keep.disk) (D.faults engine.new.joined.keep.disk)
-        (D.spent engine.new.joined.keep.disk)) no_place no_modes no_lengths) }
-    ensures uses { UsesDisk D.state D.faults D.spent
-        engine.old.joined.keep.disk engine.new.joined.keep.disk (IsErrOf result over.StoreFault) }
+        (RoseIn D.faults D.spent session.old.engine.joined.keep session.new.engine.joined.keep)
+        ⊤) }
+    ensures uses { UsesStore D.state D.faults D.spent
+        session.old.engine.joined.keep session.new.engine.joined.keep }
 {
-    take_in(alloc, engine, batch, log)?;
-    settle_in(engine)?;
-    write_stat(alloc, engine, out)?;
-    Ok(())
+    what_is_saved_stays_saved::<D>();
+    Store::<D>::saves_lawfully();
+    session.engine.new_part();
+    watch(session, true, limits, log, questions, out)?;
+    Store::save(&mut session.engine)
 }
 
 /// Opens a disk as a store, and answers questions over what it has. It takes no log, and leaves the disk
@@ -400,7 +504,7 @@ pub fn query<D: Disk, Q: Source, O: Sink>(
         (IsBadOrNone limits.now (D.state disk)) (IsWrongIn limits.now (D.state disk) None)
         no_lengths) }
     ensures uses { UsesDisk D.state D.faults D.spent disk result.disk
-        (IsErrOf result.outcome over.StoreFault) }
+        (IsErrOf result.outcome (over.Run halt.StoreFault)) }
 {
     match Store::open_on(alloc, limits, None, disk) {
         Err(back) => Ran {
@@ -420,12 +524,14 @@ fn query_opened<D: Disk, Q: Source, O: Sink>(
     out: &mut O,
 ) -> Ran<D>
     requires found { WasFound limits.now opened }
+    requires can { CanCommit D.state opened.store }
     ensures run { IsQueryRun (λ kept h. (part : ℕ) × IsOpenAt D.state limits.now kept opened h part)
         limits.now (Q.left questions.old) (O.written out.old) (O.written out.new) result.outcome }
     ensures same { result.disk ≡ opened.store.disk }
     ensures causes { IfErr result.outcome (HasStoreCauses
         (Rose (Q.faults questions.old) (Q.faults questions.new) (Q.spent questions.new))
-        (Rose (O.faults out.old) (O.faults out.new) (O.spent out.new)) ⊥
+        (Rose (O.faults out.old) (O.faults out.new) (O.spent out.new))
+        (Rose (D.faults result.disk) (D.faults result.disk) (D.spent result.disk))
         (λ place. WaitsUnsoundly limits.now opened place ⊎ HasNoBatch opened place)
         no_modes no_lengths) }
 {
@@ -470,15 +576,18 @@ fn query_with<R: Reducer + Drop, D: Disk, Q: Source, O: Sink>(
     requires holds { R.holds reducer [] }
     requires found { WasFound limits.now opened }
     requires mode { opened.mode ≡ Some R.mode }
+    requires can { CanCommit D.state opened.store }
     ensures run { IsQueryRun (λ kept h. (part : ℕ) × IsOpenAt D.state limits.now kept opened h part)
         limits.now (Q.left questions.old) (O.written out.old) (O.written out.new) result.outcome }
     ensures same { result.disk ≡ opened.store.disk }
     ensures causes { IfErr result.outcome (HasStoreCauses
         (Rose (Q.faults questions.old) (Q.faults questions.new) (Q.spent questions.new))
-        (Rose (O.faults out.old) (O.faults out.new) (O.spent out.new)) ⊥
+        (Rose (O.faults out.old) (O.faults out.new) (O.spent out.new))
+        (Rose (D.faults result.disk) (D.faults result.disk) (D.spent result.disk))
         (λ place. WaitsUnsoundly limits.now opened place ⊎ HasNoBatch opened place)
         no_modes no_lengths) }
 {
+    what_can_commit_still_can::<D>();
     what_is_found_was_stored();
     match Ingest::restore(alloc, limits, reducer, opened) {
         Err(back) => Ran {
@@ -497,14 +606,18 @@ fn query_engine<R: Reducer + Drop, D: Disk, Q: Source, O: Sink>(
     questions: &mut Q,
     out: &mut O,
 ) -> Ran<D>
-    ensures queried { (h : History) (asked : List ℕ) → StandsFor limits.now engine h
+    requires can { CanCommit D.state engine.joined.keep }
+    ensures queried { (h : History) (before : ℕ) (asked : List ℕ)
+        → IsReopened D.state R.mode limits.now engine h before
         → Q.left questions.old ≡ Some asked
         → IsQueried limits.now R.mode h asked (O.written out.old) (O.written out.new)
         result.outcome }
     ensures same { result.disk ≡ engine.joined.keep.disk }
     ensures causes { IfErr result.outcome (HasStoreCauses
         (Rose (Q.faults questions.old) (Q.faults questions.new) (Q.spent questions.new))
-        (Rose (O.faults out.old) (O.faults out.new) (O.spent out.new)) ⊥ no_place no_modes no_lengths) }
+        (Rose (O.faults out.old) (O.faults out.new) (O.spent out.new))
+        (Rose (D.faults result.disk) (D.faults result.disk) (D.spent result.disk))
+        no_place no_modes no_lengths) }
 {
     let piece = match room_for_a_read(alloc) {
         Ok(piece) => piece,
@@ -515,11 +628,14 @@ fn query_engine<R: Reducer + Drop, D: Disk, Q: Source, O: Sink>(
             };
         }
     };
+    what_is_saved_stays_saved::<D>();
     let mut log = CleanSource::new(Bytes::new(alloc));
     let mut session = Session {
         alloc,
         engine,
         piece,
+        batch: limits.batch,
+        unsaved: 0,
     };
     let outcome = watch(&mut session, false, limits, &mut log, questions, out);
     Ran {

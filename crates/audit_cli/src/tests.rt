@@ -224,7 +224,7 @@ fn back_is_answered_over_the_whole_log(rt: HostRuntime) -> Result<(), Fail> {
         ),
         ("watch full", [FORK].as_slice(), Status::BadWords, NOTHING),
         (
-            "watch plain log store",
+            "watch plain log store x",
             [FORK].as_slice(),
             Status::BadWords,
             NOTHING,

@@ -1,5 +1,5 @@
 //! One question and its reply.
-ghost use Rattle.std.specs.Prelude.{Bool, ◌≡◌, ◌∷◌, ◌++◌, [], ℕ, List, length, take, Some, Option, IfOk, IfErr, OnOk, OnErr};
+ghost use Rattle.std.specs.Prelude.{false, Bool, ◌≡◌, ◌∷◌, ◌++◌, [], ℕ, List, length, take, Some, Option, IfOk, IfErr, OnOk, OnErr};
 ghost use Rattle.std.specs.Io.KnownBytes.{Appends};
 ghost use Rattle.flow_base.specs.declared.limits.Limits.{Limits};
 ghost use Rattle.outside.specs.Cause.{Rose};
@@ -8,16 +8,18 @@ ghost use Rattle.audit_lex.specs.History.{History, Settle};
 ghost use Rattle.audit_lex.specs.LineCut.{line_of};
 ghost use Rattle.report_json.specs.declared.reply.Reply.TheVariants as reply;
 ghost use Rattle.report_json.specs.Replies.{text_of};
+ghost use Rattle.ingest.specs.Asking.{SameButRows};
 ghost use Rattle.ingest.specs.Events.{events_of};
 ghost use Rattle.ingest.specs.Replies.{IsQuestion, IsReply};
 ghost use Rattle.ingest.specs.StandsFor.{StandsFor};
 ghost use Rattle.ingest.specs.Stops.{Stops};
 ghost use Rattle.audit_cli.specs.declared.halt.Halt.TheVariants as halt;
-ghost use Rattle.audit_cli.specs.Dialogue.{Moment, kind_of, after, Answers, asked, turn_of, nothing_beyond};
-ghost use Rattle.audit_cli.specs.Course.{At, GoesUp, HasCauses, IsDue, Talked, never};
+ghost use Rattle.audit_cli.specs.Dialogue.{Moment, after, Answers, asked, turn_of, nothing_beyond};
+ghost use Rattle.audit_cli.specs.Saves.{CutShort, Start};
+ghost use Rattle.audit_cli.specs.Course.{At, kind_of, GoesUp, HasCauses, IsDue, Talked, never};
 
 use crate::halt::{Halt, Turn, halt_of};
-use crate::log::take_log;
+use crate::saving::{Saves, settle_all, take};
 use crate::session::Session;
 use audit_lex::Line;
 use ingest::{AskFault, Ingest};
@@ -49,7 +51,7 @@ pub fn settle<R: Reducer, K: Keep>(engine: &mut Ingest<R, K>) -> Result<Reply, H
         → IfOk result (λ r. r ≡ reply.Settle (length (events_of limits (h ++ Settle ∷ [])))) }
     ensures due { (limits : Limits) (h : History) → StandsFor limits engine.old h
         → IfErr result (IsDue (Stops limits (h ++ Settle ∷ []))) }
-    ensures causes { IfErr result (HasCauses ⊥ ⊥) }
+    ensures causes { IfErr result (HasCauses ⊥ ⊥ ⊥ ⊥) }
     ensures part { engine.new.part ≡ engine.old.part }
     ensures alike { K.alike engine.old.joined.keep engine.new.joined.keep }
     ensures marked { engine.new.joined.tables.marked ≡ engine.old.joined.tables.marked }
@@ -72,9 +74,10 @@ pub fn reply_of<R: Reducer, K: Keep>(
     ensures reply { IfOk result (λ reply. (limits : Limits) (h : History)
         → StandsFor limits engine.old h → IsReply R.mode limits h ask.now reply) }
     ensures memory { IfErr result (λ why. why ≡ halt.NoMemory) }
-    ensures causes { IfErr result (HasCauses ⊥ ⊥) }
+    ensures causes { IfErr result (HasCauses ⊥ ⊥ ⊥ ⊥) }
     ensures stands { (limits : Limits) (h : History)
         → StandsFor limits engine.old h → StandsFor limits engine.new h }
+    ensures same { SameButRows engine.old engine.new }
     ensures alike { K.alike engine.old.joined.keep engine.new.joined.keep }
 {
     match engine.ask(ask) {
@@ -86,41 +89,45 @@ pub fn reply_of<R: Reducer, K: Keep>(
 }
 
 /// The reply to a question. A run that takes no log has no answer to `take` and `settle`.
-pub fn answer<R: Reducer, K: Keep, L: Source>(
+pub fn answer<R: Reducer, K: Saves, L: Source>(
     session: &mut Session<R, K>,
     takes: bool,
     log: &mut L,
     question: &Option<Ask<'_>>,
 ) -> Result<Reply, Halt>
-    ensures moves { (limits : Limits) (m : Moment)
-        → At (kind_of R.mode takes) limits session.old.engine (L.left log.old) m
+    requires can { K.can session.old.engine.joined.keep }
+    ensures can { OnOk result (K.can session.new.engine.joined.keep) }
+    ensures moves { (start : Start K) (limits : Limits) (m : Moment)
+        → At (kind_of R.mode takes (K.holds start limits)) limits session.old.engine (L.left log.old) m
         → OnOk result
-        (At (kind_of R.mode takes) limits
+        (At (kind_of R.mode takes (K.holds start limits)) limits
         session.new.engine (L.left log.new) (after question.now m)) }
-    ensures answers { (limits : Limits) (m : Moment)
-        → At (kind_of R.mode takes) limits session.old.engine (L.left log.old) m
+    ensures answers { (start : Start K) (limits : Limits) (m : Moment)
+        → At (kind_of R.mode takes (K.holds start limits)) limits session.old.engine (L.left log.old) m
         → IfOk result (Answers limits question.now m) }
-    ensures due { (limits : Limits) (m : Moment)
-        → At (kind_of R.mode takes) limits session.old.engine (L.left log.old) m
+    ensures due { (start : Start K) (limits : Limits) (m : Moment)
+        → At (kind_of R.mode takes (K.holds start limits)) limits session.old.engine (L.left log.old) m
         → IfErr result (IsDue (Stops limits (after question.now m).history)) }
+    ensures ends { (start : Start K) (limits : Limits) (m : Moment)
+        → At (kind_of R.mode takes (K.holds start limits)) limits session.old.engine (L.left log.old) m
+        → IfErr result (K.ends start limits session.new.engine.joined.keep (after question.now m)) }
     ensures causes { IfErr result
-        (HasCauses (Rose (L.faults log.old) (L.faults log.new) (L.spent log.new)) ⊥) }
+        (HasCauses (Rose (L.faults log.old) (L.faults log.new) (L.spent log.new)) ⊥
+        (K.rose session.old.engine.joined.keep session.new.engine.joined.keep) K.limited) }
     ensures counts { GoesUp
         (L.faults log.old) (L.faults log.new) (L.spent log.old) (L.spent log.new) }
-    ensures alike { K.alike session.old.engine.joined.keep session.new.engine.joined.keep }
+    ensures uses { K.uses session.old.engine.joined.keep session.new.engine.joined.keep }
+    ensures alike { takes ≡ false
+        → K.alike session.old.engine.joined.keep session.new.engine.joined.keep }
 {
+    K::saves_lawfully();
     match question {
         None => Ok(Reply::BadQuestion),
         Some(Ask::Take(most)) if takes => {
-            let count = take_log(
-                &mut session.engine,
-                log,
-                session.piece.as_mut_slice(),
-                *most,
-            )?;
+            let count = take(session, log, *most)?;
             Ok(Reply::Take(count))
         }
-        Some(Ask::Settle) if takes => settle(&mut session.engine),
+        Some(Ask::Settle) if takes => settle_all(session),
         Some(Ask::Take(_)) => Ok(Reply::BadQuestion),
         Some(Ask::Settle) => Ok(Reply::BadQuestion),
         Some(Ask::End) => Ok(Reply::End),
@@ -135,7 +142,7 @@ pub fn say<O: Sink>(alloc: Global, out: &mut O, reply: &Reply) -> Result<(), Hal
     ensures cut { OnErr result ((done : ℕ)
         × Appends (O.written out.old) (O.written out.new) (take done (text_of reply.now))) }
     ensures causes { IfErr result
-        (HasCauses ⊥ (Rose (O.faults out.old) (O.faults out.new) (O.spent out.new))) }
+        (HasCauses ⊥ (Rose (O.faults out.old) (O.faults out.new) (O.spent out.new)) ⊥ ⊥) }
     ensures due { IfErr result (IsDue never) }
     ensures counts { GoesUp
         (O.faults out.old) (O.faults out.new) (O.spent out.old) (O.spent out.new) }
@@ -158,24 +165,33 @@ fn turn_after(question: &Option<Ask<'_>>) -> Turn
 }
 
 /// Answers a question.
-pub fn take_turn<R: Reducer, K: Keep, L: Source, O: Sink>(
+pub fn take_turn<R: Reducer, K: Saves, L: Source, O: Sink>(
     session: &mut Session<R, K>,
     takes: bool,
     log: &mut L,
     out: &mut O,
     question: &Option<Ask<'_>>,
 ) -> Result<Turn, Halt>
-    ensures talk { (limits : Limits) (m : Moment)
-        → At (kind_of R.mode takes) limits session.old.engine (L.left log.old) m
-        → Talked (kind_of R.mode takes) limits nothing_beyond session.new.engine (L.left log.new)
+    requires can { K.can session.old.engine.joined.keep }
+    ensures can { OnOk result (K.can session.new.engine.joined.keep) }
+    ensures talk { (start : Start K) (limits : Limits) (m : Moment)
+        → At (kind_of R.mode takes (K.holds start limits)) limits session.old.engine (L.left log.old) m
+        → Talked (kind_of R.mode takes (K.holds start limits)) limits nothing_beyond session.new.engine (L.left log.new)
         (O.written out.old) (O.written out.new) result m (question.now ∷ []) }
+    ensures ends { (start : Start K) (limits : Limits) (m : Moment)
+        → At (kind_of R.mode takes (K.holds start limits)) limits session.old.engine (L.left log.old) m
+        → IfErr result (CutShort (K.ends start limits) R.mode session.new.engine.joined.keep) }
     ensures causes { IfErr result (HasCauses
         (Rose (L.faults log.old) (L.faults log.new) (L.spent log.new))
-        (Rose (O.faults out.old) (O.faults out.new) (O.spent out.new))) }
+        (Rose (O.faults out.old) (O.faults out.new) (O.spent out.new))
+        (K.rose session.old.engine.joined.keep session.new.engine.joined.keep) K.limited) }
     ensures log { GoesUp (L.faults log.old) (L.faults log.new) (L.spent log.old) (L.spent log.new) }
     ensures out { GoesUp (O.faults out.old) (O.faults out.new) (O.spent out.old) (O.spent out.new) }
-    ensures alike { K.alike session.old.engine.joined.keep session.new.engine.joined.keep }
+    ensures uses { K.uses session.old.engine.joined.keep session.new.engine.joined.keep }
+    ensures alike { takes ≡ false
+        → K.alike session.old.engine.joined.keep session.new.engine.joined.keep }
 {
+    K::saves_lawfully();
     let reply = answer(session, takes, log, question)?;
     say(session.alloc, out, &reply)?;
     Ok(turn_after(question))

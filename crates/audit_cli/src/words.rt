@@ -2,7 +2,8 @@
 //!
 //!     back ID              ID is one or more decimal digits, of value at most 4294967295
 //!     watch MODE LOG       MODE is `plain`, `continuous`, `full` or `source`, LOG any word of at least one byte
-//!     reduce MODE LOG STORE    the same, STORE any word of at least one byte; `--resume` may stand among the words
+//!     watch MODE LOG STORE     the same, STORE any word of at least one byte
+//!     reduce MODE LOG STORE    the same; `--resume` may stand among the words
 //!     query STORE
 //!     trial SEED EVENTS    SEED is one or more decimal digits, of value at most 18446744073709551615, EVENTS one or
 //!                          more, of value 1 to 200000
@@ -12,7 +13,7 @@ ghost use Rattle.std.specs.Char.{is_ascii_digit};
 ghost use Rattle.clap.specs.Words.{found_of, rows_of};
 ghost use Rattle.audit_cli.specs.CommandLine.{own_name};
 ghost use Rattle.audit_cli.specs.Words as table;
-ghost use Rattle.audit_cli.specs.Words.{job_of, back_job, query_of, one_word_job, reduce_job, trial_of, seed_of, count_of, two_word_job, watch_job, mode_of, RefusesWords};
+ghost use Rattle.audit_cli.specs.Words.{job_of, back_job, query_of, one_word_job, reduce_of, three_word_job, watch_store_job, trial_of, seed_of, count_of, two_word_job, watch_job, mode_of, RefusesWords};
 ghost use Rattle.audit_cli.specs.declared.words.WordsFault.TheVariants as fault;
 
 use crate::command_line::{job_name, job_words, parsed, resumes};
@@ -30,6 +31,13 @@ pub enum Job {
     Watch {
         mode: Mode,
         log: Bytes,
+    },
+    /// Answers questions while the log of this name is taken into the store of this name, which keeps
+    /// its rows in a mode.
+    WatchStore {
+        mode: Mode,
+        log: Bytes,
+        store: Bytes,
     },
     /// Takes the log of this name into the store of this name, which keeps its rows in a mode. If it goes
     /// on, the bytes of this log that the store has taken are passed over.
@@ -148,6 +156,11 @@ fn resumed(job: Job) -> Option<Job>
         }),
         Job::Back(_) => None,
         Job::Watch { mode: _, log: _ } => None,
+        Job::WatchStore {
+            mode: _,
+            log: _,
+            store: _,
+        } => None,
         Job::Query { store: _ } => None,
         Job::Trial { seed: _, events: _ } => None,
     }
@@ -163,7 +176,7 @@ fn row_of(alloc: Global, name: &str, words: &[&str]) -> Result<Job, WordsFault>
     match words {
         [only] => one_worded(alloc, name, only),
         [first, second] => two_worded(alloc, name, first, second),
-        [mode, log, store] => reduce_named(alloc, name, mode, log, store),
+        [mode, log, store] => three_worded(alloc, name, mode, log, store),
         _ => Err(WordsFault::BadWords),
     }
 }
@@ -244,8 +257,8 @@ fn watch_named(alloc: Global, job: &str, mode: &str, log: &str) -> Result<Job, W
     }
 }
 
-// A mode, a log and a store.
-fn reduce_named(
+// The job of three words after its name.
+fn three_worded(
     alloc: Global,
     job: &str,
     mode: &str,
@@ -253,13 +266,23 @@ fn reduce_named(
     store: &str,
 ) -> Result<Job, WordsFault>
     ensures found { IfOk result (λ found.
-        reduce_job job.now mode.now log.now store.now ≡ Some found) }
+        three_word_job job.now mode.now log.now store.now ≡ Some found) }
     ensures refused { IfErr result (
-        RefusesWords (reduce_job job.now mode.now log.now store.now)) }
+        RefusesWords (three_word_job job.now mode.now log.now store.now)) }
 {
-    if job.as_bytes() != b"reduce".as_slice() {
-        return Err(WordsFault::BadWords);
+    if job.as_bytes() == b"reduce".as_slice() {
+        return reduce_named(alloc, mode, log, store);
     }
+    watch_store_named(alloc, job, mode, log, store)
+}
+
+// A mode, a log and a store, into which all of the log goes.
+fn reduce_named(alloc: Global, mode: &str, log: &str, store: &str) -> Result<Job, WordsFault>
+    ensures found { IfOk result (λ found.
+        reduce_of (mode_of mode.now) log.now store.now ≡ Some found) }
+    ensures refused { IfErr result (
+        RefusesWords (reduce_of (mode_of mode.now) log.now store.now)) }
+{
     match mode_named(mode) {
         None => Err(WordsFault::BadWords),
         Some(_) if log.is_empty() => Err(WordsFault::BadWords),
@@ -273,6 +296,34 @@ fn reduce_named(
                 store,
                 resume: false,
             })
+        }
+    }
+}
+
+// A mode, a log and a store, over which questions are answered.
+fn watch_store_named(
+    alloc: Global,
+    job: &str,
+    mode: &str,
+    log: &str,
+    store: &str,
+) -> Result<Job, WordsFault>
+    ensures found { IfOk result (λ found.
+        watch_store_job job.now mode.now log.now store.now ≡ Some found) }
+    ensures refused { IfErr result (
+        RefusesWords (watch_store_job job.now mode.now log.now store.now)) }
+{
+    if job.as_bytes() != b"watch".as_slice() {
+        return Err(WordsFault::BadWords);
+    }
+    match mode_named(mode) {
+        None => Err(WordsFault::BadWords),
+        Some(_) if log.is_empty() => Err(WordsFault::BadWords),
+        Some(_) if store.is_empty() => Err(WordsFault::BadWords),
+        Some(mode) => {
+            let log = Bytes::from_slice(alloc, log.as_bytes())?;
+            let store = Bytes::from_slice(alloc, store.as_bytes())?;
+            Ok(Job::WatchStore { mode, log, store })
         }
     }
 }

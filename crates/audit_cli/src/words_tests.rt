@@ -16,6 +16,11 @@ fn read(rt: &HostRuntime, words: &[&str]) -> Result<String, Fail> {
             let log = str::from_utf8(log.as_slice())?;
             format!(in alloc; "watch {mode:?} {log}")?
         }
+        Ok(Job::WatchStore { mode, log, store }) => {
+            let log = str::from_utf8(log.as_slice())?;
+            let store = str::from_utf8(store.as_slice())?;
+            format!(in alloc; "watch {mode:?} {log} {store}")?
+        }
         Ok(
             Job::Reduce {
                 mode,
@@ -57,6 +62,10 @@ fn words_name_jobs(rt: HostRuntime) -> Result<(), Fail> {
         ),
         // a hyphen alone is no option
         (["watch", "plain", "-"].as_slice(), "watch Plain -"),
+        (
+            ["watch", "full", "log", "a store"].as_slice(),
+            "watch Full log a store",
+        ),
         // words after the first `--` are no options, and only that one is dropped
         (["--", "back", "2"].as_slice(), "back 2"),
         (["back", "2", "--"].as_slice(), "back 2"),
@@ -66,6 +75,10 @@ fn words_name_jobs(rt: HostRuntime) -> Result<(), Fail> {
             "watch Plain --help",
         ),
         (["watch", "plain", "--", "--"].as_slice(), "watch Plain --"),
+        (
+            ["watch", "plain", "--", "--", "x"].as_slice(),
+            "watch Plain -- x",
+        ),
         (
             ["watch", "plain", "--", "--resume"].as_slice(),
             "watch Plain --resume",
@@ -136,9 +149,22 @@ fn words_of_another_watch_are_bad(rt: HostRuntime) -> Result<(), Fail> {
         (["watch", "plain", ""].as_slice(), "bad words"),
         (["watch", "Plain", "log"].as_slice(), "bad words"),
         (["watch", "sources", "log"].as_slice(), "bad words"),
-        (["watch", "plain", "log", "store"].as_slice(), "bad words"),
+        (["watch", "plain", "log", ""].as_slice(), "bad words"),
+        (["watch", "plain", "", "store"].as_slice(), "bad words"),
+        (["watch", "sources", "log", "store"].as_slice(), "bad words"),
+        (
+            ["watch", "plain", "log", "store", "x"].as_slice(),
+            "bad words",
+        ),
+        (
+            ["watch", "plain", "log", "store", "--resume"].as_slice(),
+            "bad words",
+        ),
         (["watch", "plain", "-x"].as_slice(), "bad words"),
-        (["watch", "plain", "--", "--", "x"].as_slice(), "bad words"),
+        (
+            ["watch", "plain", "--", "--", "x", "y"].as_slice(),
+            "bad words",
+        ),
     ] {
         let text = read(&rt, words)?;
         assert_eq!(rt; text.as_str(), want);

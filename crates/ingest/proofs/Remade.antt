@@ -249,6 +249,7 @@ module _ {D : Type 0} (state : D → DiskState) (limits : Limits) (mode : Mode) 
       (subst (λ (l : Log). LogHas l opens.read.0 (state engine.joined.keep.disk).reads) (sym same.log) (subst (λ (d : D). LogHas opened.store.log opens.read.0 (state d).reads) (sym disk) log))
       (subst (λ (d : D). IsDurable (state d)) (sym disk) opens.durable)
       (ap (λ (l : Log). l.most) same.log ∙ opens.most)
+      (ap (λ (l : Log). l.end) same.log ∙ opens.end)
       (subst (λ (R : List Row). Keeps mode (flows_in limits (events_of limits h)) R) (sym (same.saved ∙ opens.saved ∙ was.kept)) was.tables.rows_are)
       marked
 

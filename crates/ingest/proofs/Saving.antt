@@ -148,9 +148,9 @@ stores_now limits mode engine h part bytes payload payloads one has store is = r
 -- a store of the history with the log of its batches and no other images is one where the history is saved
 pub saved_so : {D : Type 0} (state : D → DiskState) (limits : Limits) (mode : Mode) (engine : Engine (OnDisk D)) (h : History) (part : ℕ) (payloads : List (List ℕ)) → OneList
     → StoresHistory limits mode (state engine.joined.keep.disk).reads h part → LogHas engine.joined.keep.log payloads (state engine.joined.keep.disk).reads → IsDurable (state engine.joined.keep.disk)
-    → engine.joined.keep.log.most ≡ limits.payload → Keeps mode (flows_in limits (events_of limits h)) engine.joined.keep.saved
+    → engine.joined.keep.log.most ≡ limits.payload → engine.joined.keep.log.end ≡ limits.store → Keeps mode (flows_in limits (events_of limits h)) engine.joined.keep.saved
     → engine.joined.tables.marked ≡ Some (length (taken_in limits (events_of limits h))) → IsSaved state limits mode engine h part
-saved_so state limits mode engine h part payloads one stores has durable most saved marked =
+saved_so state limits mode engine h part payloads one stores has durable most end saved marked =
     let store = stores.store in
     let log = engine.joined.keep.log in
     let reads = (state engine.joined.keep.disk).reads in
@@ -162,6 +162,7 @@ saved_so state limits mode engine h part payloads one stores has durable most sa
       log = whole;
       image = λ c left. subst (λ (b : List ℕ). LogHas log store.payloads b) (sym (durable c left)) whole;
       most = most;
+      end = end;
       saved = saved;
       marked = marked;
     }
@@ -180,12 +181,13 @@ saves_now state faults spent mode old new entities others (Ok done) since admitt
     let payload = payload_between old.joined.keep mode entities others in
     let rows = batch_rows state mode old entities others parts own limits h more before part has saved since admitted by_rows in
     let most : new.joined.keep.log.most ≡ limits.payload = ap (λ (l : Log). l.most) commits.log ∙ saved.most in
+    let end : new.joined.keep.log.end ≡ limits.store = ap (λ (l : Log). l.end) commits.log ∙ saved.end in
     let store = saved.stores.store in
     let adds : LogHas new.joined.keep.log (store.payloads ++ payload ∷ []) (state new.joined.keep.disk).reads = commits.adds told store.payloads saved.log in
     let is : IsStore limits.payload (store.payloads ++ payload ∷ []) (state new.joined.keep.disk).reads =
     subst (λ (n : ℕ). IsStore n (store.payloads ++ payload ∷ []) (state new.joined.keep.disk).reads) most (new.joined.keep.log.last, adds) in
     let later = follow limits mode old h more before part _ _ payload _ has store rows (spelled (Ok done) _ (λ none. cc none) commits.payload) is in
-    saved_so state limits mode new (h ++ more) part (store.payloads ++ payload ∷ []) one (stores_now limits mode old (h ++ more) part _ payload store.payloads one has later is) adds commits.durable most
+    saved_so state limits mode new (h ++ more) part (store.payloads ++ payload ∷ []) one (stores_now limits mode old (h ++ more) part _ payload store.payloads one has later is) adds commits.durable most end
     (subst (λ (R : List Row). Keeps mode (flows_in limits (events_of limits (h ++ more))) R) (sym (commits.saved ∙ ap (λ x. x.rows) commits.rows)) (now_kept state mode old entities others parts own limits h more before part has saved))
     (marked ∙ ap (option_map (λ _. old.joined.tables.acts)) saved.marked ∙ ap (λ (n : ℕ). Some n) has.stands.joined.tables.acts_are)
 saves_now state faults spent mode old new entities others (Err why) since admitted by_rows one follow parts own commits marked told = tt

@@ -38,6 +38,7 @@ module _ {D : Type 0} (state : D → DiskState) where
           log = stores.1;
           image = stores.2;
           most = ap (λ (l : Log). l.most) same.log ∙ saved.most;
+          end = ap (λ (l : Log). l.end) same.log ∙ saved.end;
           saved = subst (λ (R : List Row). Keeps mode (flows_in limits (events_of limits h)) R) (sym same.saved) saved.saved;
           marked = marked ∙ saved.marked;
         }

@@ -61,6 +61,7 @@ pub record IsOpen {D : Type 0} (state : D → DiskState) (limits : Limits) (open
   pub durable : IsDurable (state opened.store.disk)
   pub saved : opened.store.saved ≡ opened.store.rows.rows
   pub most : opened.store.log.most ≡ limits.payload
+  pub end : opened.store.log.end ≡ limits.store
 
 -- whatever history the open store has, the engine stands for it, and it is saved
 abbrev pub StandsForStored : {D : Type 0} → (D → DiskState) → Limits → Mode → Opened D → Engine (OnDisk D) → Type 0

@@ -23,6 +23,7 @@ pub record IsSaved {D : Type 0} (state : D → DiskState) (limits : Limits) (mod
   pub log : LogHas engine.joined.keep.log stores.store.payloads (state engine.joined.keep.disk).reads
   pub image : EachHas engine.joined.keep.log stores.store.payloads (state engine.joined.keep.disk).image
   pub most : engine.joined.keep.log.most ≡ limits.payload
+  pub end : engine.joined.keep.log.end ≡ limits.store
   pub saved : Keeps mode (flows_in limits (events_of limits h)) engine.joined.keep.saved
   pub marked : engine.joined.tables.marked ≡ Some (length (taken_in limits (events_of limits h)))
 

@@ -1,10 +1,11 @@
-use Rattle.std.proofs.Common.{length, take, ◌+◌, ◌-◌, ◌≤◌, Ok}
+use Rattle.std.proofs.Common.{false, ◌≡◌, length, take, ◌+◌, ◌-◌, ◌≤◌, Ok}
 use Rattle.flow_base.specs.declared.limits.Limits.{Limits}
 use Rattle.audit_lex.specs.History.{History}
 use Rattle.audit_cli.specs.declared.halt.Turn.TheVariants as turn
-use Rattle.audit_cli.specs.Dialogue.{kind_of, Moment, nothing_beyond}
-use Rattle.audit_cli.specs.Course.{At, GoesUp}
+use Rattle.audit_cli.specs.Dialogue.{Moment, nothing_beyond}
+use Rattle.audit_cli.specs.Course.{kind_of, At, GoesUp}
 use Rattle.audit_cli.specs.Hearing.{Holds, Heard}
+use Rattle.audit_cli.specs.Saves.{Start}
 use Rattle.audit_cli.proofs.hear.hear.Given as goal
 
 -- the first `at` bytes were heard
@@ -15,9 +16,11 @@ invariant-loop-at g l =
     record {
       within : l.at ≤ length l.piece;
       lines : l.cut.lines ≤ l.initial.cut.lines + l.at;
-      heard : (limits : Limits) (m : Moment) (h : History) → At (kind_of g.R.Reducer.mode l.takes) limits l.initial.session.engine (source.left l.initial.log) m → Holds limits l.initial.cut h →
-          Heard (kind_of g.R.Reducer.mode l.takes) limits nothing_beyond l.cut l.session.engine (source.left l.log) (sink.written l.initial.out) (sink.written l.out) (Ok turn.More) m h (take l.at l.piece);
-      alike : g.K.Rows.alike l.initial.session.engine.joined.keep l.session.engine.joined.keep;
+      heard : (start : Start g.row.K.Denot) (limits : Limits) (m : Moment) (h : History) → At (kind_of g.R.Reducer.mode l.takes (g.K.Saves.holds start limits)) limits l.initial.session.engine (source.left l.initial.log) m → Holds limits l.initial.cut h →
+          Heard (kind_of g.R.Reducer.mode l.takes (g.K.Saves.holds start limits)) limits nothing_beyond l.cut l.session.engine (source.left l.log) (sink.written l.initial.out) (sink.written l.out) (Ok turn.More) m h (take l.at l.piece);
+      can : g.K.Saves.can l.session.engine.joined.keep;
+      uses : g.K.Saves.uses l.initial.session.engine.joined.keep l.session.engine.joined.keep;
+      alike : l.takes ≡ false → g.K.Rows.alike l.initial.session.engine.joined.keep l.session.engine.joined.keep;
       log : GoesUp (source.faults l.initial.log) (source.faults l.log) (source.spent l.initial.log) (source.spent l.log);
       out : GoesUp (sink.faults l.initial.out) (sink.faults l.out) (sink.spent l.initial.out) (sink.spent l.out);
     }

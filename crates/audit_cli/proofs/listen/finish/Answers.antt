@@ -6,19 +6,19 @@ use Rattle.audit_cli.proofs.ListenLemmas.{last_none, last_line}
 use Rattle.audit_cli.proofs.listen.finish.Goals as goal
 
 pub returns-in_err-_turn-in-Some-clause-heard : goal.returns-in_err-_turn-in-Some-clause-heard
-returns-in_err-_turn-in-Some-clause-heard g c = λ limits m h at holds.
+returns-in_err-_turn-in-Some-clause-heard g c = λ start limits m h at holds.
     let p = err_from_is_err_and c.from_residual.result c.from_residual.ensures.1 in
     let given = rw c.in-Some.is at c.finish.ensures.line h holds.stands in
     let told : c.in-Some.line ≡ line_of limits.question (length (lines_of h) + 1) given.0 = subst (λ (most : ℕ). c.in-Some.line ≡ line_of most (length (lines_of h) + 1) given.0) holds.limit given.2 in
-    rw (p.1, p.2) (last_line _ limits _ _ _ _ _ m h given.0 _ (c.question_in.ensures limits.question (length (lines_of h) + 1) given.0 told) given.1 (c.in_err-_turn-in-Some.ensures.talk limits m at))
+    rw (p.1, p.2) (last_line _ limits _ _ _ _ _ m h given.0 _ (c.question_in.ensures limits.question (length (lines_of h) + 1) given.0 told) given.1 (c.in_err-_turn-in-Some.ensures.talk start limits m at))
 
 pub returns-in-None-clause-heard : goal.returns-in-None-clause-heard
-returns-in-None-clause-heard g c = λ limits m h at holds.
+returns-in-None-clause-heard g c = λ start limits m h at holds.
     let given = rw c.in-None.is at c.finish.ensures.line h holds.stands in
     last_none _ limits _ _ _ m h at given
 
 pub returns-in_ok-_turn-in-Some-clause-heard : goal.returns-in_ok-_turn-in-Some-clause-heard
-returns-in_ok-_turn-in-Some-clause-heard g c = λ limits m h at holds.
+returns-in_ok-_turn-in-Some-clause-heard g c = λ start limits m h at holds.
     let given = rw c.in-Some.is at c.finish.ensures.line h holds.stands in
     let told : c.in-Some.line ≡ line_of limits.question (length (lines_of h) + 1) given.0 = subst (λ (most : ℕ). c.in-Some.line ≡ line_of most (length (lines_of h) + 1) given.0) holds.limit given.2 in
-    last_line _ limits _ _ _ _ _ m h given.0 _ (c.question_in.ensures limits.question (length (lines_of h) + 1) given.0 told) given.1 (c.in_ok-_turn-in-Some.ensures.talk limits m at)
+    last_line _ limits _ _ _ _ _ m h given.0 _ (c.question_in.ensures limits.question (length (lines_of h) + 1) given.0 told) given.1 (c.in_ok-_turn-in-Some.ensures.talk start limits m at)

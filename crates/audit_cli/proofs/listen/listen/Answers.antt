@@ -3,34 +3,36 @@ use Rattle.std.proofs.lemmas.List.{take-append-drop}
 use Rattle.std.proofs.lemmas.Result.{err_from_is_err_and}
 use Rattle.audit_cli.specs.declared.halt.Turn.TheVariants as turn
 use Rattle.audit_cli.specs.declared.halt.Halt.TheVariants as halt
-use Rattle.audit_cli.specs.Dialogue.{kind_of, input_full}
+use Rattle.audit_cli.specs.Dialogue.{input_full}
+use Rattle.audit_cli.specs.Course.{kind_of}
 use Rattle.audit_cli.specs.Dialogue.{nothing_beyond}
 use Rattle.audit_cli.specs.Hearing.{Heard}
 use Rattle.audit_cli.specs.Listening.{PassesRoom}
 use Rattle.audit_cli.proofs.MomentLemmas.{told_read, front_told, no_more}
+use Rattle.audit_cli.proofs.SaveLemmas.{cut_short, input_names, read_names}
 use Rattle.audit_cli.proofs.HearLemmas.{heard_none, heard_nothing, heard_longer, heard_weaker, heard_full, questions_pass, questions_closed}
 use Rattle.audit_cli.proofs.listen.listen.Goals as goal
 
 pub returns-in-Err-clause-heard : goal.returns-in-Err-clause-heard
-returns-in-Err-clause-heard g c = λ m h q at holds told. heard_nothing c.lines_stay.ensures.stay _ c.args.limits.now _ _ _ _ _ halt.ReadFault m h q tt
+returns-in-Err-clause-heard g c = λ start m h q at holds told. heard_nothing c.lines_stay.ensures.stay _ c.args.limits.now _ _ _ _ _ halt.ReadFault m h q tt
 
 pub returns-then-count-eq0-clause-heard : goal.returns-then-count-eq0-clause-heard
-returns-then-count-eq0-clause-heard g c = λ m h q at holds told. heard_none _ c.args.limits.now _ _ _ _ _ m h at holds
+returns-then-count-eq0-clause-heard g c = λ start m h q at holds told. heard_none _ c.args.limits.now _ _ _ _ _ m h at holds
 
 pub returns-in_err-hear-clause-heard : goal.returns-in_err-hear-clause-heard
-returns-in_err-hear-clause-heard g c = λ m h q at holds told.
+returns-in_err-hear-clause-heard g c = λ start m h q at holds told.
     let limits = c.args.limits.now in
     let room = limits.input - c.args.heard in
     let p = err_from_is_err_and c.from_residual.result c.from_residual.ensures.1 in
     let read = told_read _ _ q _ c.in-Ok.count told c.in-Ok.ensures.bytes.0 (sym c.in-Ok.ensures.bound.1) in
     let same = front_told c.read.new.buf q c.min-allowed.result c.in-Ok.count read.1 (omega (arith, c.min-allowed.ensures)) in
-    let heard = c.in_err-hear.ensures.heard limits m h at holds in
+    let heard = c.in_err-hear.ensures.heard start limits m h at holds in
     let longer = heard_longer c.lines_stay.ensures.stay _ limits _ _ _ _ _ _ _ m h _ (drop c.min-allowed.result q) tt (heard_weaker _ limits nothing_beyond (PassesRoom limits room h q) _ _ _ _ _ _ m h _ (λ answered full none. absurd none) heard) in
     let whole : take c.min-allowed.result c.read.new.buf ++ drop c.min-allowed.result q ≡ q = rw same (take-append-drop c.min-allowed.result q) in
-    rw (p.1, p.2) (subst (λ (xs : List ℕ). Heard (kind_of g.R.Reducer.mode c.args.takes) limits (PassesRoom limits room h q) c.hear.new.cut c.hear.new.session.engine (g.L.Source.left c.hear.new.log) (g.O.Sink.written c.args.out.now) (g.O.Sink.written c.hear.new.out) (Err c.in_err-hear.field-0.0) m h xs) whole longer)
+    rw (p.1, p.2) (subst (λ (xs : List ℕ). Heard (kind_of g.R.Reducer.mode c.args.takes (g.K.Saves.holds start limits)) limits (PassesRoom limits room h q) c.hear.new.cut c.hear.new.session.engine (g.L.Source.left c.hear.new.log) (g.O.Sink.written c.args.out.now) (g.O.Sink.written c.hear.new.out) (Err c.in_err-hear.field-0.0) m h xs) whole longer)
 
 pub returns-then-allowed-count-clause-heard : goal.returns-then-allowed-count-clause-heard
-returns-then-allowed-count-clause-heard g c = λ m h q at holds told.
+returns-then-allowed-count-clause-heard g c = λ start m h q at holds told.
     let limits = c.args.limits.now in
     let room = limits.input - c.args.heard in
     let read = told_read _ _ q _ c.in-Ok.count told c.in-Ok.ensures.bytes.0 (sym c.in-Ok.ensures.bound.1) in
@@ -38,41 +40,41 @@ returns-then-allowed-count-clause-heard g c = λ m h q at holds told.
     let within = read.2 in
     let over : room < length q = omega (arith, c.min-allowed.ensures) in
     let all : c.min-allowed.result ≡ room = omega (arith, c.min-allowed.ensures) in
-    let heard = rw c.in-More.is at c.in_ok-hear.ensures.heard limits m h at holds in
+    let heard = rw c.in-More.is at c.in_ok-hear.ensures.heard start limits m h at holds in
     let passes = questions_pass _ limits _ _ _ _ _ m h (take c.min-allowed.result c.read.new.buf) q room (same ∙ ap (λ (n : ℕ). take n q) all) over heard in
     let full = heard_full c.lines_stay.ensures.stay _ limits (PassesRoom limits room h q) _ _ _ _ _ m h _ (drop c.min-allowed.result q) heard passes in
     let whole : take c.min-allowed.result c.read.new.buf ++ drop c.min-allowed.result q ≡ q = rw same (take-append-drop c.min-allowed.result q) in
-    subst (λ (xs : List ℕ). Heard (kind_of g.R.Reducer.mode c.args.takes) limits (PassesRoom limits room h q) c.hear.new.cut c.hear.new.session.engine (g.L.Source.left c.hear.new.log) (g.O.Sink.written c.args.out.now) (g.O.Sink.written c.hear.new.out) (Err (halt.Full (input_full limits))) m h xs) whole full
+    subst (λ (xs : List ℕ). Heard (kind_of g.R.Reducer.mode c.args.takes (g.K.Saves.holds start limits)) limits (PassesRoom limits room h q) c.hear.new.cut c.hear.new.session.engine (g.L.Source.left c.hear.new.log) (g.O.Sink.written c.args.out.now) (g.O.Sink.written c.hear.new.out) (Err (halt.Full (input_full limits))) m h xs) whole full
 
 pub returns-in-Ended-clause-heard : goal.returns-in-Ended-clause-heard
-returns-in-Ended-clause-heard g c = λ m h q at holds told.
+returns-in-Ended-clause-heard g c = λ start m h q at holds told.
     let limits = c.args.limits.now in
     let room = limits.input - c.args.heard in
     let read = told_read _ _ q _ c.in-Ok.count told c.in-Ok.ensures.bytes.0 (sym c.in-Ok.ensures.bound.1) in
     let same = front_told c.read.new.buf q c.min-allowed.result c.in-Ok.count read.1 (omega (arith, c.min-allowed.ensures)) in
-    let heard = rw c.in-Ended.is at c.in_ok-hear.ensures.heard limits m h at holds in
+    let heard = rw c.in-Ended.is at c.in_ok-hear.ensures.heard start limits m h at holds in
     let longer = heard_longer c.lines_stay.ensures.stay _ limits _ _ _ _ _ _ _ m h _ (drop c.min-allowed.result q) tt (heard_weaker _ limits nothing_beyond (PassesRoom limits room h q) _ _ _ _ _ _ m h _ (λ answered full none. absurd none) heard) in
     let whole : take c.min-allowed.result c.read.new.buf ++ drop c.min-allowed.result q ≡ q = rw same (take-append-drop c.min-allowed.result q) in
-    subst (λ (xs : List ℕ). Heard (kind_of g.R.Reducer.mode c.args.takes) limits (PassesRoom limits room h q) c.hear.new.cut c.hear.new.session.engine (g.L.Source.left c.hear.new.log) (g.O.Sink.written c.args.out.now) (g.O.Sink.written c.hear.new.out) (Ok turn.Ended) m h xs) whole longer
+    subst (λ (xs : List ℕ). Heard (kind_of g.R.Reducer.mode c.args.takes (g.K.Saves.holds start limits)) limits (PassesRoom limits room h q) c.hear.new.cut c.hear.new.session.engine (g.L.Source.left c.hear.new.log) (g.O.Sink.written c.args.out.now) (g.O.Sink.written c.hear.new.out) (Ok turn.Ended) m h xs) whole longer
 
 pub returns-else-allowed-count-clause-heard : goal.returns-else-allowed-count-clause-heard
-returns-else-allowed-count-clause-heard g c = λ m h q at holds told.
+returns-else-allowed-count-clause-heard g c = λ start m h q at holds told.
     let limits = c.args.limits.now in
     let room = limits.input - c.args.heard in
     let read = told_read _ _ q _ c.in-Ok.count told c.in-Ok.ensures.bytes.0 (sym c.in-Ok.ensures.bound.1) in
     let all : c.min-allowed.result ≡ c.in-Ok.count = omega (arith, c.min-allowed.ensures) in
     let same = front_told c.read.new.buf q c.min-allowed.result c.in-Ok.count read.1 (omega (arith, c.min-allowed.ensures)) in
-    let heard = rw c.in-More.is at c.in_ok-hear.ensures.heard limits m h at holds in
+    let heard = rw c.in-More.is at c.in_ok-hear.ensures.heard start limits m h at holds in
     let weaker = heard_weaker _ limits nothing_beyond (PassesRoom limits room h q) _ _ _ _ _ _ m h _ (λ answered full none. absurd none) heard in
     let whole : take c.min-allowed.result c.read.new.buf ≡ take c.in-Ok.count q = same ∙ ap (λ (n : ℕ). take n q) all in
-    subst (λ (xs : List ℕ). Heard (kind_of g.R.Reducer.mode c.args.takes) limits (PassesRoom limits room h q) c.hear.new.cut c.hear.new.session.engine (g.L.Source.left c.hear.new.log) (g.O.Sink.written c.args.out.now) (g.O.Sink.written c.hear.new.out) (Ok turn.More) m h xs) whole weaker
+    subst (λ (xs : List ℕ). Heard (kind_of g.R.Reducer.mode c.args.takes (g.K.Saves.holds start limits)) limits (PassesRoom limits room h q) c.hear.new.cut c.hear.new.session.engine (g.L.Source.left c.hear.new.log) (g.O.Sink.written c.args.out.now) (g.O.Sink.written c.hear.new.out) (Ok turn.More) m h xs) whole weaker
 
 pub returns-in-Ended-clause-closes : goal.returns-in-Ended-clause-closes
-returns-in-Ended-clause-closes g c = λ m h q at holds told.
+returns-in-Ended-clause-closes g c = λ start m h q at holds told.
     let limits = c.args.limits.now in
     let read = told_read _ _ q _ c.in-Ok.count told c.in-Ok.ensures.bytes.0 (sym c.in-Ok.ensures.bound.1) in
     let same = front_told c.read.new.buf q c.min-allowed.result c.in-Ok.count read.1 (omega (arith, c.min-allowed.ensures)) in
-    let heard = rw c.in-Ended.is at c.in_ok-hear.ensures.heard limits m h at holds in
+    let heard = rw c.in-Ended.is at c.in_ok-hear.ensures.heard start limits m h at holds in
     questions_closed c.lines_stay.ensures.stay _ limits _ _ _ _ _ m h _ q c.min-allowed.result (limits.input - c.args.heard) same (no_more _ _ _ c.min-allowed.ensures) heard
 
 pub returns-in-Ended-clause-left : goal.returns-in-Ended-clause-left
@@ -85,3 +87,14 @@ returns-then-count-eq0-clause-left g c = λ q told.
     let read = told_read _ _ q _ c.in-Ok.count told c.in-Ok.ensures.bytes.0 (sym c.in-Ok.ensures.bound.1) in
     let none : q ≡ [] = search rules in
     (none, read.0 ∙ ap (λ (n : ℕ). Some (drop n q)) c.if-count-eq0.true)
+
+pub returns-in-Err-clause-ends : goal.returns-in-Err-clause-ends
+returns-in-Err-clause-ends g c = λ start m h at holds.
+    cut_short g.K.Rows.alike g.K.Saves.can g.K.Saves.holds g.K.Saves.ends g.K.Saves.uses g.K.Saves.rose c.saves_lawfully.ensures start c.args.limits.now g.R.Reducer.mode c.args.takes c.args.session.now.engine _
+    c.args.session.now.engine.joined.keep m halt.ReadFault read_names (g.met.K.Rows.goes_along.same c.args.session.now.engine.joined.keep) at
+
+pub returns-then-allowed-count-clause-ends : goal.returns-then-allowed-count-clause-ends
+returns-then-allowed-count-clause-ends g c = λ start m h at holds.
+    let heard = rw c.in-More.is at c.in_ok-hear.ensures.heard start c.args.limits.now m h at holds in
+    cut_short g.K.Rows.alike g.K.Saves.can g.K.Saves.holds g.K.Saves.ends g.K.Saves.uses g.K.Saves.rose c.saves_lawfully.ensures start c.args.limits.now g.R.Reducer.mode c.args.takes c.hear.new.session.engine _
+    c.hear.new.session.engine.joined.keep heard.talked.to (halt.Full (input_full c.args.limits.now)) (input_names (input_full c.args.limits.now)) (g.met.K.Rows.goes_along.same c.hear.new.session.engine.joined.keep) heard.talked.at

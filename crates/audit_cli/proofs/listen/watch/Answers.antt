@@ -5,10 +5,12 @@ use Rattle.std.proofs.Math.Seq.{take-add}
 use Rattle.audit_lex.specs.History.{with_bytes}
 use Rattle.audit_cli.specs.declared.halt.Turn.TheVariants as turn
 use Rattle.audit_cli.specs.declared.halt.Halt.TheVariants as halt
-use Rattle.audit_cli.specs.Dialogue.{kind_of, QuestionsStop, nothing_beyond, asks, lines_in}
-use Rattle.audit_cli.specs.Course.{EndTalked}
+use Rattle.audit_cli.specs.Dialogue.{QuestionsStop, nothing_beyond, asks, lines_in}
+use Rattle.audit_cli.specs.Course.{kind_of, EndTalked}
 use Rattle.audit_cli.specs.Hearing.{Heard}
 use Rattle.audit_cli.specs.Listening.{PassesRoom}
+use Rattle.audit_cli.proofs.SaveLemmas.{causes_later, causes_on, cut_short, either_later, memory_names}
+use Rattle.audit_cli.proofs.StoreLemmas.{rose_too}
 use Rattle.audit_cli.proofs.HearLemmas.{heard_none, heard_both, heard_more, questions_pass_after, questions_closed_after, no_further, on_ok}
 use Rattle.audit_cli.proofs.TalkLemmas.{carries_none}
 use Rattle.audit_cli.proofs.ListenLemmas.{end_heard, end_both, ended_early, kept_room}
@@ -21,26 +23,28 @@ loop-buf-init g c = record {
   lines = omega (arith, c.new-cut.ensures.nothing.count);
   left = λ q told. told;
   part = λ q told. omega arith;
-  heard = λ m q at told. heard_none _ c.args.limits.now nothing_beyond _ _ _ _ m [] at (record { limit = c.new-cut.ensures.limit; stands = c.new-cut.ensures.nothing });
-  alike = g.met.K.Rows.goes_along.same c.args.session.now.engine.joined.keep;
+  heard = λ start m q at told. heard_none _ c.args.limits.now nothing_beyond _ _ _ _ m [] at (record { limit = c.new-cut.ensures.limit; stands = c.new-cut.ensures.nothing });
+  can = c.requires.can;
+  uses = c.saves_lawfully.ensures.uses_same _ _ (g.met.K.Rows.goes_along.same c.args.session.now.engine.joined.keep);
+  alike = λ takes. g.met.K.Rows.goes_along.same c.args.session.now.engine.joined.keep;
   log_up = search rules;
   questions_up = search rules;
   out_up = search rules;
 }
 
 pub returns-in_err-count-clause-talked : goal.returns-in_err-count-clause-talked
-returns-in_err-count-clause-talked g c = λ m q at told.
+returns-in_err-count-clause-talked g c = λ start m q at told.
     let p = err_from_is_err_and c.from_residual-in_err-count.result c.from_residual-in_err-count.ensures.1 in
     let n = c.loop-buf.heard in
     let limits = c.args.limits.now in
-    let first = c.loop-buf.invariant.heard m q at told in
+    let first = c.loop-buf.invariant.heard start m q at told in
     let part = c.loop-buf.invariant.part q told in
     let within = c.loop-buf.invariant.within in
-    let second = c.in_err-count.ensures.heard first.talked.to (with_bytes [] (take n q)) (drop n q) first.talked.at first.holds (c.loop-buf.invariant.left q told) in
+    let second = c.in_err-count.ensures.heard start first.talked.to (with_bytes [] (take n q)) (drop n q) first.talked.at first.holds (c.loop-buf.invariant.left q told) in
     let carries = questions_pass_after _ limits n _ _ _ _ _ m q within part first in
     let both = heard_both _ limits (PassesRoom limits (limits.input - n) (with_bytes [] (take n q)) (drop n q)) (QuestionsStop limits q) _ _ _ _ _ _ _ _ _ _ m [] _ _ first carries second in
     let ended = end_heard c.lines_stay.ensures.stay _ limits (QuestionsStop limits q) _ _ _ _ _ _ m _ tt both in
-    rw (p.1, p.2) (subst (λ (xs : List ℕ). EndTalked (kind_of g.R.Reducer.mode c.args.takes) limits (QuestionsStop limits q) c.listen.new.session.engine (g.L.Source.left c.listen.new.log) (g.O.Sink.written c.args.out.now) (g.O.Sink.written c.listen.new.out) (Err c.in_err-count.field-0.0) m (asks limits (lines_in xs))) (take-append-drop n q) ended)
+    rw (p.1, p.2) (subst (λ (xs : List ℕ). EndTalked (kind_of g.R.Reducer.mode c.args.takes (g.K.Saves.holds start limits)) limits (QuestionsStop limits q) c.listen.new.session.engine (g.L.Source.left c.listen.new.log) (g.O.Sink.written c.args.out.now) (g.O.Sink.written c.listen.new.out) (Err c.in_err-count.field-0.0) m (asks limits (lines_in xs))) (take-append-drop n q) ended)
 
 pub loop-buf-preserved : goal.loop-buf-preserved
 loop-buf-preserved g c =
@@ -56,82 +60,131 @@ loop-buf-preserved g c =
       lines = few;
       left = λ q told. rw (← drop-drop k n q) ((after q told).0);
       part = λ q told. omega (arith, (after q told).1, length-drop n q, c.loop-buf.invariant.part q told);
-      heard = λ m q at told.
+      heard = λ start m q at told.
           let limits = c.args.limits.now in
-          let first = c.loop-buf.invariant.heard m q at told in
-          let second = rw c.in-Piece.is at c.in_ok-count.ensures.heard first.talked.to (with_bytes [] (take n q)) (drop n q) first.talked.at first.holds (c.loop-buf.invariant.left q told) in
+          let first = c.loop-buf.invariant.heard start m q at told in
+          let second = rw c.in-Piece.is at c.in_ok-count.ensures.heard start first.talked.to (with_bytes [] (take n q)) (drop n q) first.talked.at first.holds (c.loop-buf.invariant.left q told) in
           let more = heard_more _ limits (PassesRoom limits (limits.input - n) (with_bytes [] (take n q)) (drop n q)) nothing_beyond _ _ _ _ _ _ _ _ second in
           let both = heard_both _ limits nothing_beyond nothing_beyond _ _ _ _ _ _ _ _ _ _ m [] _ _ first (carries_none (asks limits first.answered) nothing_beyond) more in
-          subst (λ (xs : List ℕ). Heard (kind_of g.R.Reducer.mode c.args.takes) limits nothing_beyond c.listen.new.cut c.listen.new.session.engine (g.L.Source.left c.listen.new.log) (g.O.Sink.written c.args.out.now) (g.O.Sink.written c.listen.new.out) (Ok turn.More) m [] xs) (sym (take-add n k q)) both;
-      alike = g.met.K.Rows.goes_along.next _ _ _ c.loop-buf.invariant.alike c.in_ok-count.ensures.alike;
+          subst (λ (xs : List ℕ). Heard (kind_of g.R.Reducer.mode c.args.takes (g.K.Saves.holds start limits)) limits nothing_beyond c.listen.new.cut c.listen.new.session.engine (g.L.Source.left c.listen.new.log) (g.O.Sink.written c.args.out.now) (g.O.Sink.written c.listen.new.out) (Ok turn.More) m [] xs) (sym (take-add n k q)) both;
+      can = c.in_ok-count.ensures.can;
+      uses = c.saves_lawfully.ensures.uses_both _ _ _ c.loop-buf.invariant.uses c.in_ok-count.ensures.uses;
+      alike = λ takes. g.met.K.Rows.goes_along.next _ _ _ (c.loop-buf.invariant.alike takes) (c.in_ok-count.ensures.alike takes);
       log_up = search rules;
       questions_up = search rules;
       out_up = search rules;
     }
 
 pub returns-in-Ended-clause-talked : goal.returns-in-Ended-clause-talked
-returns-in-Ended-clause-talked g c = λ m q at told.
+returns-in-Ended-clause-talked g c = λ start m q at told.
     let n = c.loop-buf.heard in
     let limits = c.args.limits.now in
     let part = c.loop-buf.invariant.part q told in
     let within = c.loop-buf.invariant.within in
-    let first = c.loop-buf.invariant.heard m q at told in
-    let second = rw c.in-Ended.is at c.in_ok-count.ensures.heard first.talked.to (with_bytes [] (take n q)) (drop n q) first.talked.at first.holds (c.loop-buf.invariant.left q told) in
+    let first = c.loop-buf.invariant.heard start m q at told in
+    let second = rw c.in-Ended.is at c.in_ok-count.ensures.heard start first.talked.to (with_bytes [] (take n q)) (drop n q) first.talked.at first.holds (c.loop-buf.invariant.left q told) in
     let carries = questions_pass_after _ limits n _ _ _ _ _ m q within part first in
     let both = heard_both _ limits (PassesRoom limits (limits.input - n) (with_bytes [] (take n q)) (drop n q)) (QuestionsStop limits q) _ _ _ _ _ _ _ _ _ _ m [] _ _ first carries second in
     let ended = end_heard c.lines_stay.ensures.stay _ limits (QuestionsStop limits q) _ _ _ _ _ _ m _ tt both in
-    subst (λ (xs : List ℕ). EndTalked (kind_of g.R.Reducer.mode c.args.takes) limits (QuestionsStop limits q) c.listen.new.session.engine (g.L.Source.left c.listen.new.log) (g.O.Sink.written c.args.out.now) (g.O.Sink.written c.listen.new.out) (Ok tt) m (asks limits (lines_in xs))) (take-append-drop n q) ended
+    subst (λ (xs : List ℕ). EndTalked (kind_of g.R.Reducer.mode c.args.takes (g.K.Saves.holds start limits)) limits (QuestionsStop limits q) c.listen.new.session.engine (g.L.Source.left c.listen.new.log) (g.O.Sink.written c.args.out.now) (g.O.Sink.written c.listen.new.out) (Ok tt) m (asks limits (lines_in xs))) (take-append-drop n q) ended
 
 pub returns-in-Silence-clause-talked : goal.returns-in-Silence-clause-talked
-returns-in-Silence-clause-talked g c = λ m q at told.
+returns-in-Silence-clause-talked g c = λ start m q at told.
     let n = c.loop-buf.heard in
     let limits = c.args.limits.now in
-    let first = c.loop-buf.invariant.heard m q at told in
-    let second = rw c.in-Silence.is at c.in_ok-count.ensures.heard first.talked.to (with_bytes [] (take n q)) (drop n q) first.talked.at first.holds (c.loop-buf.invariant.left q told) in
+    let first = c.loop-buf.invariant.heard start m q at told in
+    let second = rw c.in-Silence.is at c.in_ok-count.ensures.heard start first.talked.to (with_bytes [] (take n q)) (drop n q) first.talked.at first.holds (c.loop-buf.invariant.left q told) in
     let none = (rw c.in-Silence.is at c.in_ok-count.ensures.left (drop n q) (c.loop-buf.invariant.left q told)).0 in
     let more = heard_more _ limits (PassesRoom limits (limits.input - n) (with_bytes [] (take n q)) (drop n q)) nothing_beyond _ _ _ _ _ _ _ _ second in
     let both = heard_both _ limits nothing_beyond nothing_beyond _ _ _ _ _ _ _ _ _ _ m [] _ _ first (carries_none (asks limits first.answered) nothing_beyond) more in
-    let ended = end_both _ limits (QuestionsStop limits q) _ _ _ _ _ _ _ _ _ m _ both (c.finish.ensures.heard limits both.talked.to _ both.talked.at both.holds) in
+    let ended = end_both _ limits (QuestionsStop limits q) _ _ _ _ _ _ _ _ _ m _ both (c.finish.ensures.heard start limits both.talked.to _ both.talked.at both.holds) in
     let same : take n q ++ [] ≡ q = ap (λ (xs : List ℕ). take n q ++ xs) (sym none) ∙ take-append-drop n q in
-    subst (λ (xs : List ℕ). EndTalked (kind_of g.R.Reducer.mode c.args.takes) limits (QuestionsStop limits q) c.finish.new.session.engine (g.L.Source.left c.finish.new.log) (g.O.Sink.written c.args.out.now) (g.O.Sink.written c.finish.new.out) c.finish.result m (asks limits (lines_in xs))) same ended
+    subst (λ (xs : List ℕ). EndTalked (kind_of g.R.Reducer.mode c.args.takes (g.K.Saves.holds start limits)) limits (QuestionsStop limits q) c.finish.new.session.engine (g.L.Source.left c.finish.new.log) (g.O.Sink.written c.args.out.now) (g.O.Sink.written c.finish.new.out) c.finish.result m (asks limits (lines_in xs))) same ended
 
 pub returns-in-Ended-clause-within : goal.returns-in-Ended-clause-within
-returns-in-Ended-clause-within g c = λ m q at told.
+returns-in-Ended-clause-within g c = λ start m q at told.
     let n = c.loop-buf.heard in
-    let first = c.loop-buf.invariant.heard m q at told in
-    let closes = rw c.in-Ended.is at c.in_ok-count.ensures.closes first.talked.to (with_bytes [] (take n q)) (drop n q) first.talked.at first.holds (c.loop-buf.invariant.left q told) in
+    let first = c.loop-buf.invariant.heard start m q at told in
+    let closes = rw c.in-Ended.is at c.in_ok-count.ensures.closes start first.talked.to (with_bytes [] (take n q)) (drop n q) first.talked.at first.holds (c.loop-buf.invariant.left q told) in
     inr (questions_closed_after _ c.args.limits.now n _ _ _ _ _ m q c.loop-buf.invariant.within first closes)
 
 pub returns-in-Silence-clause-within : goal.returns-in-Silence-clause-within
-returns-in-Silence-clause-within g c = λ m q at told.
+returns-in-Silence-clause-within g c = λ start m q at told.
     let none = (rw c.in-Silence.is at c.in_ok-count.ensures.left (drop c.loop-buf.heard q) (c.loop-buf.invariant.left q told)).0 in
     on_ok c.finish.result _ (inl (omega (arith, ap length none, length-drop c.loop-buf.heard q, c.loop-buf.invariant.within)))
 
 pub returns-in-Ended-clause-left : goal.returns-in-Ended-clause-left
-returns-in-Ended-clause-left g c = λ m q at told.
+returns-in-Ended-clause-left g c = λ start m q at told.
     let n = c.loop-buf.heard in
-    let first = c.loop-buf.invariant.heard m q at told in
+    let first = c.loop-buf.invariant.heard start m q at told in
     let left = rw c.in-Ended.is at c.in_ok-count.ensures.left (drop n q) (c.loop-buf.invariant.left q told) in
     no_further _ c.args.limits.now _ _ _ _ _ m q n left.0 _ first left.1 left.2
 
 pub returns-in-Silence-clause-left : goal.returns-in-Silence-clause-left
-returns-in-Silence-clause-left g c = λ m q at told.
+returns-in-Silence-clause-left g c = λ start m q at told.
     let n = c.loop-buf.heard in
-    let first = c.loop-buf.invariant.heard m q at told in
+    let first = c.loop-buf.invariant.heard start m q at told in
     let left = rw c.in-Silence.is at c.in_ok-count.ensures.left (drop n q) (c.loop-buf.invariant.left q told) in
     on_ok c.finish.result _ (no_further _ c.args.limits.now _ _ _ _ _ m q n 0 _ first (omega arith) left.1)
 
 pub returns-in_err-buf-clause-talked : goal.returns-in_err-buf-clause-talked
-returns-in_err-buf-clause-talked g c = λ m q at told.
+returns-in_err-buf-clause-talked g c = λ start m q at told.
     let p = err_from_is_err_and c.from_residual.result c.from_residual.ensures.1 in
     rw (p.1, p.2) (ended_early _ c.args.limits.now _ _ _ _ halt.NoMemory m _ tt)
 
 pub returns-in_err-count-clause-alike : goal.returns-in_err-count-clause-alike
-returns-in_err-count-clause-alike g c = g.met.K.Rows.goes_along.next _ _ _ c.loop-buf.invariant.alike c.in_err-count.ensures.alike
+returns-in_err-count-clause-alike g c = λ takes. g.met.K.Rows.goes_along.next _ _ _ (c.loop-buf.invariant.alike takes) (c.in_err-count.ensures.alike takes)
+
+pub returns-in_err-count-clause-uses : goal.returns-in_err-count-clause-uses
+returns-in_err-count-clause-uses g c = c.saves_lawfully.ensures.uses_both _ _ _ c.loop-buf.invariant.uses c.in_err-count.ensures.uses
 
 pub returns-in-Ended-clause-alike : goal.returns-in-Ended-clause-alike
-returns-in-Ended-clause-alike g c = g.met.K.Rows.goes_along.next _ _ _ c.loop-buf.invariant.alike c.in_ok-count.ensures.alike
+returns-in-Ended-clause-alike g c = λ takes. g.met.K.Rows.goes_along.next _ _ _ (c.loop-buf.invariant.alike takes) (c.in_ok-count.ensures.alike takes)
+
+pub returns-in-Ended-clause-uses : goal.returns-in-Ended-clause-uses
+returns-in-Ended-clause-uses g c = c.saves_lawfully.ensures.uses_both _ _ _ c.loop-buf.invariant.uses c.in_ok-count.ensures.uses
 
 pub returns-in-Silence-clause-alike : goal.returns-in-Silence-clause-alike
-returns-in-Silence-clause-alike g c =
-    g.met.K.Rows.goes_along.next _ _ _ c.loop-buf.invariant.alike (g.met.K.Rows.goes_along.next _ _ _ c.in_ok-count.ensures.alike c.finish.ensures.alike)
+returns-in-Silence-clause-alike g c = λ takes.
+    g.met.K.Rows.goes_along.next _ _ _ (c.loop-buf.invariant.alike takes) (g.met.K.Rows.goes_along.next _ _ _ (c.in_ok-count.ensures.alike takes) (c.finish.ensures.alike takes))
+
+pub returns-in-Silence-clause-uses : goal.returns-in-Silence-clause-uses
+returns-in-Silence-clause-uses g c =
+    c.saves_lawfully.ensures.uses_both _ _ _ c.loop-buf.invariant.uses (c.saves_lawfully.ensures.uses_both _ _ _ c.in_ok-count.ensures.uses c.finish.ensures.uses)
+
+pub returns-in_err-buf-clause-uses : goal.returns-in_err-buf-clause-uses
+returns-in_err-buf-clause-uses g c = c.saves_lawfully.ensures.uses_same _ _ (g.met.K.Rows.goes_along.same c.args.session.now.engine.joined.keep)
+
+pub returns-in_err-buf-clause-ends : goal.returns-in_err-buf-clause-ends
+returns-in_err-buf-clause-ends g c = λ start m q at told.
+    let p = err_from_is_err_and c.from_residual.result c.from_residual.ensures.1 in
+    rw (p.1, p.2) (cut_short g.K.Rows.alike g.K.Saves.can g.K.Saves.holds g.K.Saves.ends g.K.Saves.uses g.K.Saves.rose c.saves_lawfully.ensures start c.args.limits.now g.R.Reducer.mode c.args.takes c.args.session.now.engine _
+    c.args.session.now.engine.joined.keep m halt.NoMemory memory_names (g.met.K.Rows.goes_along.same c.args.session.now.engine.joined.keep) at)
+
+pub returns-in_err-count-clause-ends : goal.returns-in_err-count-clause-ends
+returns-in_err-count-clause-ends g c = λ start m q at told.
+    let p = err_from_is_err_and c.from_residual-in_err-count.result c.from_residual-in_err-count.ensures.1 in
+    let first = c.loop-buf.invariant.heard start m q at told in
+    rw (p.1, p.2) (c.in_err-count.ensures.ends start first.talked.to _ first.talked.at first.holds)
+
+pub returns-in-Silence-clause-ends : goal.returns-in-Silence-clause-ends
+returns-in-Silence-clause-ends g c = λ start m q at told.
+    let first = c.loop-buf.invariant.heard start m q at told in
+    let second = rw c.in-Silence.is at c.in_ok-count.ensures.heard start first.talked.to _ (drop c.loop-buf.heard q) first.talked.at first.holds (c.loop-buf.invariant.left q told) in
+    c.finish.ensures.ends start c.args.limits.now second.talked.to second.talked.at
+
+pub returns-in_err-count-clause-causes : goal.returns-in_err-count-clause-causes
+returns-in_err-count-clause-causes g c =
+    let p = err_from_is_err_and c.from_residual-in_err-count.result c.from_residual-in_err-count.ensures.1 in
+    rw (p.1, p.2) (causes_later _ _ _ _ _ _ _ c.in_err-count.field-0.0
+    (either_later _ _ _ _ (rose_too _ _ _ _ c.loop-buf.invariant.log_up.later) (rose_too _ _ _ _ c.loop-buf.invariant.questions_up.later))
+    (rose_too _ _ _ _ c.loop-buf.invariant.out_up.later) (c.saves_lawfully.ensures.rose_after _ _ _ c.loop-buf.invariant.uses) c.in_err-count.ensures.causes)
+
+pub returns-in-Silence-clause-causes : goal.returns-in-Silence-clause-causes
+returns-in-Silence-clause-causes g c =
+    let log = c.in_ok-count.ensures.log.later in
+    let out = c.in_ok-count.ensures.out.later in
+    let log_before = c.loop-buf.invariant.log_up.later in
+    let out_before = c.loop-buf.invariant.out_up.later in
+    causes_on _ _ _ _ _ _ _ c.finish.result (λ rose. inl (rose_too _ _ _ _ (omega (arith, log, log_before)) rose)) (rose_too _ _ _ _ (omega (arith, out, out_before)))
+    (c.saves_lawfully.ensures.rose_after _ _ _ (c.saves_lawfully.ensures.uses_both _ _ _ c.loop-buf.invariant.uses c.in_ok-count.ensures.uses)) c.finish.ensures.causes

@@ -1,8 +1,9 @@
-use Rattle.std.proofs.Common.{◌≡◌, ℕ, List, [], length, take, drop, ◌-◌, ◌≤◌, Some, Ok}
+use Rattle.std.proofs.Common.{false, ◌≡◌, ℕ, List, [], length, take, drop, ◌-◌, ◌≤◌, Some, Ok}
 use Rattle.audit_cli.specs.declared.halt.Turn.TheVariants as turn
-use Rattle.audit_cli.specs.Dialogue.{kind_of, Moment, nothing_beyond}
-use Rattle.audit_cli.specs.Course.{At, GoesUp}
+use Rattle.audit_cli.specs.Dialogue.{Moment, nothing_beyond}
+use Rattle.audit_cli.specs.Course.{kind_of, At, GoesUp}
 use Rattle.audit_cli.specs.Hearing.{Heard}
+use Rattle.audit_cli.specs.Saves.{Start}
 use Rattle.audit_cli.proofs.listen.watch.Given as goal
 
 -- the first `heard` bytes of the questions were heard, and the rest is left
@@ -17,9 +18,11 @@ invariant-loop-buf g l =
       lines : l.cut.lines ≤ l.heard;
       left : (q : List ℕ) → questions.left l.initial.questions ≡ Some q → questions.left l.questions ≡ Some (drop l.heard q);
       part : (q : List ℕ) → questions.left l.initial.questions ≡ Some q → l.heard ≤ length q;
-      heard : (m : Moment) (q : List ℕ) → At (kind_of g.R.Reducer.mode l.takes) l.limits l.initial.session.engine (log.left l.initial.log) m → questions.left l.initial.questions ≡ Some q →
-          Heard (kind_of g.R.Reducer.mode l.takes) l.limits nothing_beyond l.cut l.session.engine (log.left l.log) (sink.written l.initial.out) (sink.written l.out) (Ok turn.More) m [] (take l.heard q);
-      alike : g.K.Rows.alike l.initial.session.engine.joined.keep l.session.engine.joined.keep;
+      heard : (start : Start g.row.K.Denot) (m : Moment) (q : List ℕ) → At (kind_of g.R.Reducer.mode l.takes (g.K.Saves.holds start l.limits)) l.limits l.initial.session.engine (log.left l.initial.log) m → questions.left l.initial.questions ≡ Some q →
+          Heard (kind_of g.R.Reducer.mode l.takes (g.K.Saves.holds start l.limits)) l.limits nothing_beyond l.cut l.session.engine (log.left l.log) (sink.written l.initial.out) (sink.written l.out) (Ok turn.More) m [] (take l.heard q);
+      can : g.K.Saves.can l.session.engine.joined.keep;
+      uses : g.K.Saves.uses l.initial.session.engine.joined.keep l.session.engine.joined.keep;
+      alike : l.takes ≡ false → g.K.Rows.alike l.initial.session.engine.joined.keep l.session.engine.joined.keep;
       log_up : GoesUp (log.faults l.initial.log) (log.faults l.log) (log.spent l.initial.log) (log.spent l.log);
       questions_up : GoesUp (questions.faults l.initial.questions) (questions.faults l.questions) (questions.spent l.initial.questions) (questions.spent l.questions);
       out_up : GoesUp (sink.faults l.initial.out) (sink.faults l.out) (sink.spent l.initial.out) (sink.spent l.out);

@@ -3,15 +3,15 @@ use Rattle.std.proofs.lemmas.List.{length-take, length-drop}
 use Rattle.std.proofs.lemmas.Result.{err_from_is_err_and}
 use Rattle.ingest.specs.Stops.{Stops}
 use Rattle.audit_cli.specs.Dialogue.{Moment, taken_on}
-use Rattle.audit_cli.specs.Course.{At}
+use Rattle.audit_cli.specs.Course.{StandsAt}
 use Rattle.audit_cli.proofs.MomentLemmas.{counted_on, take_both, take_all, take_none, due_weaker, stop_later, left_none}
 use Rattle.audit_cli.proofs.log.take_log.Goals as goal
 
 pub returns-in_err-taken-clause-due : goal.returns-in_err-taken-clause-due
-returns-in_err-taken-clause-due g c = λ kind limits m h.
+returns-in_err-taken-clause-due g c = λ limits m h.
     let count = c.loop-count.count in
-    let here = c.loop-count.invariant.at kind limits m h in
-    let due = c.in_err-taken.ensures.due kind limits _ here in
+    let here = c.loop-count.invariant.at limits m h in
+    let due = c.in_err-taken.ensures.due limits _ here in
     let room = length (take c.min-room.result c.loop-count.buf) in
     let small = length-take c.min-room.result c.loop-count.buf in
     let within : count + room ≤ c.args.most = omega arith in
@@ -19,22 +19,22 @@ returns-in_err-taken-clause-due g c = λ kind limits m h.
     rw (p.1, p.2) (due_weaker _ _ _ (λ full over. stop_later c.stops_stay.ensures limits m (count + room) c.args.most full within (subst (λ (x : Moment). Stops limits x.history full) (take_both m count room) over)) due)
 
 pub returns-then-taken-eq0-clause-took : goal.returns-then-taken-eq0-clause-took
-returns-then-taken-eq0-clause-took g c = λ kind limits m h.
+returns-then-taken-eq0-clause-took g c = λ limits m h.
     let count = c.loop-count.count in
-    let here = c.loop-count.invariant.at kind limits m h in
-    let took = c.in_ok-taken.ensures.took kind limits _ here in
-    let none = (c.in_ok-taken.ensures.some kind limits _ here).ended c.if-taken-eq0.true in
+    let here = c.loop-count.invariant.at limits m h in
+    let took = c.in_ok-taken.ensures.took limits _ here in
+    let none = (c.in_ok-taken.ensures.some limits _ here).ended c.if-taken-eq0.true in
     let all = left_none m count none in
     let whole : length m.log ≤ c.args.most = omega (arith, all) in
     let e = ap (λ (n : ℕ). taken_on n (taken_on count m)) c.if-taken-eq0.true ∙ take_none (taken_on count m) ∙ take_all m count c.args.most all whole in
-    subst (λ (x : Moment). At kind limits c.take_piece.new.engine (g.L.Source.left c.take_piece.new.log) x) e took
+    subst (λ (x : Moment). StandsAt limits c.take_piece.new.engine (g.L.Source.left c.take_piece.new.log) x) e took
 
 pub returns-then-taken-eq0-clause-count : goal.returns-then-taken-eq0-clause-count
-returns-then-taken-eq0-clause-count g c = λ kind limits m h.
-    let here = c.loop-count.invariant.at kind limits m h in
-    let none = (c.in_ok-taken.ensures.some kind limits _ here).ended c.if-taken-eq0.true in
+returns-then-taken-eq0-clause-count g c = λ limits m h.
+    let here = c.loop-count.invariant.at limits m h in
+    let none = (c.in_ok-taken.ensures.some limits _ here).ended c.if-taken-eq0.true in
     let all = left_none m c.loop-count.count none in
-    omega (arith, all, c.loop-count.invariant.part kind limits m h, length-take c.args.most m.log)
+    omega (arith, all, c.loop-count.invariant.part limits m h, length-take c.args.most m.log)
 
 pub loop-count-preserved : goal.loop-count-preserved
 loop-count-preserved g c =
@@ -44,13 +44,13 @@ loop-count-preserved g c =
     let bound = c.in_ok-taken.ensures.within in
     record {
       within = omega arith;
-      at = λ kind limits m h.
-          let here = c.loop-count.invariant.at kind limits m h in
-          let took = c.in_ok-taken.ensures.took kind limits _ here in
-          subst (λ (x : Moment). At kind limits c.take_piece.new.engine (g.L.Source.left c.take_piece.new.log) x) (take_both m count taken) took;
-      part = λ kind limits m h.
-          let here = c.loop-count.invariant.at kind limits m h in
-          omega (arith, (c.in_ok-taken.ensures.some kind limits _ here).within, c.loop-count.invariant.part kind limits m h, length-drop count m.log);
+      at = λ limits m h.
+          let here = c.loop-count.invariant.at limits m h in
+          let took = c.in_ok-taken.ensures.took limits _ here in
+          subst (λ (x : Moment). StandsAt limits c.take_piece.new.engine (g.L.Source.left c.take_piece.new.log) x) (take_both m count taken) took;
+      part = λ limits m h.
+          let here = c.loop-count.invariant.at limits m h in
+          omega (arith, (c.in_ok-taken.ensures.some limits _ here).within, c.loop-count.invariant.part limits m h, length-drop count m.log);
       counted = λ room. counted_on c.args.engine.now.part _ _ count taken room c.loop-count.invariant.counted c.in_ok-taken.ensures.part;
       alike = g.met.K.Rows.goes_along.next _ _ _ c.loop-count.invariant.alike c.take_piece.ensures.alike;
       marked = c.take_piece.ensures.marked ∙ c.loop-count.invariant.marked;
@@ -58,14 +58,14 @@ loop-count-preserved g c =
     }
 
 pub returns-clause-took : goal.returns-clause-took
-returns-clause-took g c = λ kind limits m h.
+returns-clause-took g c = λ limits m h.
     let all : c.loop-count.count ≡ c.args.most = omega arith in
-    subst (λ (n : ℕ). At kind limits c.loop-count.engine (g.L.Source.left c.loop-count.log) (taken_on n m)) all (c.loop-count.invariant.at kind limits m h)
+    subst (λ (n : ℕ). StandsAt limits c.loop-count.engine (g.L.Source.left c.loop-count.log) (taken_on n m)) all (c.loop-count.invariant.at limits m h)
 
 pub returns-clause-count : goal.returns-clause-count
-returns-clause-count g c = λ kind limits m h.
+returns-clause-count g c = λ limits m h.
     let all : c.loop-count.count ≡ c.args.most = omega arith in
-    omega (arith, all, c.loop-count.invariant.part kind limits m h, length-take c.args.most m.log)
+    omega (arith, all, c.loop-count.invariant.part limits m h, length-take c.args.most m.log)
 
 pub returns-clause-part : goal.returns-clause-part
 returns-clause-part g c = c.loop-count.invariant.counted
@@ -79,8 +79,8 @@ returns-in_err-taken-clause-alike g c = g.met.K.Rows.goes_along.next _ _ _ c.loo
 pub loop-count-init : goal.loop-count-init
 loop-count-init g c = record {
   within = omega arith;
-  at = λ kind limits m h. subst (λ (x : Moment). At kind limits c.args.engine.now (g.L.Source.left c.args.log.now) x) (sym (take_none m)) h;
-  part = λ kind limits m h. omega arith;
+  at = λ limits m h. subst (λ (x : Moment). StandsAt limits c.args.engine.now (g.L.Source.left c.args.log.now) x) (sym (take_none m)) h;
+  part = λ limits m h. omega arith;
   counted = λ room. omega arith;
   alike = g.met.K.Rows.goes_along.same c.args.engine.now.joined.keep;
   marked = refl;

@@ -1,7 +1,7 @@
 use Rattle.std.proofs.Common.{length, ◌-◌, ◌≤◌, ◌≡◌}
 use Rattle.flow_base.specs.declared.limits.Limits.{Limits}
-use Rattle.audit_cli.specs.Dialogue.{Kind, Moment, taken_on}
-use Rattle.audit_cli.specs.Course.{At, CountsOn, GoesUp}
+use Rattle.audit_cli.specs.Dialogue.{Moment, taken_on}
+use Rattle.audit_cli.specs.Course.{CountsOn, GoesUp, StandsAt}
 use Rattle.audit_cli.proofs.log.take_log.Given as goal
 
 -- the first `count` bytes were taken
@@ -10,8 +10,8 @@ invariant-loop-count g l =
     let source = g.L.Source in
     record {
       within : l.count ≤ l.most;
-      at : (kind : Kind) (limits : Limits) (m : Moment) → At kind limits l.initial.engine (source.left l.initial.log) m → At kind limits l.engine (source.left l.log) (taken_on l.count m);
-      part : (kind : Kind) (limits : Limits) (m : Moment) → At kind limits l.initial.engine (source.left l.initial.log) m → l.count ≤ length m.log;
+      at : (limits : Limits) (m : Moment) → StandsAt limits l.initial.engine (source.left l.initial.log) m → StandsAt limits l.engine (source.left l.log) (taken_on l.count m);
+      part : (limits : Limits) (m : Moment) → StandsAt limits l.initial.engine (source.left l.initial.log) m → l.count ≤ length m.log;
       counted : CountsOn l.initial.engine.part l.engine.part l.count;
       alike : g.K.Rows.alike l.initial.engine.joined.keep l.engine.joined.keep;
       marked : l.engine.joined.tables.marked ≡ l.initial.engine.joined.tables.marked;

@@ -7,13 +7,13 @@ use Rattle.audit_cli.proofs.MomentLemmas.{told_read, due_for, stop_later}
 use Rattle.audit_cli.proofs.log.take_piece.Goals as goal
 
 pub returns-in-Ok-feed-clause-took : goal.returns-in-Ok-feed-clause-took
-returns-in-Ok-feed-clause-took g c = λ kind limits m h.
+returns-in-Ok-feed-clause-took g c = λ limits m h.
     let fed = c.in-Ok-feed.ensures.ok limits m.history h.stands in
     let read = told_read _ _ m.log _ c.in-Ok.count h.told c.in-Ok.ensures.bytes.0 (sym c.in-Ok.ensures.bound.1) in
-    record { in_mode = h.in_mode; may_take = h.may_take; stands = subst (λ (bytes : List ℕ). StandsFor limits c.feed.new.self (with_bytes m.history bytes)) read.1 fed; told = read.0 }
+    record { stands = subst (λ (bytes : List ℕ). StandsFor limits c.feed.new.self (with_bytes m.history bytes)) read.1 fed; told = read.0 }
 
 pub returns-in-Err-feed-clause-due : goal.returns-in-Err-feed-clause-due
-returns-in-Err-feed-clause-due g c = λ kind limits m h.
+returns-in-Err-feed-clause-due g c = λ limits m h.
     let stops = c.in-Err-feed.ensures.stop limits m.history h.stands in
     let read = told_read _ _ m.log _ c.in-Ok.count h.told c.in-Ok.ensures.bytes.0 (sym c.in-Ok.ensures.bound.1) in
     let long : c.in-Ok.count ≤ length c.args.buf.now = omega (arith, c.in-Ok.ensures.bound.0, c.read.auto.buf) in

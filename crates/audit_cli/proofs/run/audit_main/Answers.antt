@@ -29,3 +29,9 @@ returns-clause-refused g c = (c.standard_limits-limits.result, c.standard_limits
 
 pub returns-clause-unanswered : goal.returns-clause-unanswered
 returns-clause-unanswered g c = (c.standard_limits-limits.result, c.standard_limits-limits.ensures, c.audit_run.ensures.unanswered)
+
+pub returns-clause-watched : goal.returns-clause-watched
+returns-clause-watched g c = (c.standard_limits-limits.result, c.standard_limits-limits.ensures, c.audit_run.ensures.watched)
+
+pub returns-clause-unwatched : goal.returns-clause-unwatched
+returns-clause-unwatched g c = (c.standard_limits-limits.result, c.standard_limits-limits.ensures, c.audit_run.ensures.unwatched)

@@ -1,11 +1,12 @@
-use Rattle.std.proofs.Common.{refl, ◌≡◌, subst, Some, Err, sym, inr, ◌∙◌}
+use Rattle.std.proofs.Common.{ap, refl, ◌≡◌, subst, Some, Err, sym, inr, ◌∙◌}
 use Rattle.audit_cli.proofs.JobLemmas.{headline, front_written, nothing_written, full_exact, complete, job_same, same_log, same_questions, ended_within, done_only, read_fault}
 use Rattle.audit_cli.specs.declared.halt.Halt.TheVariants as halt
 use Rattle.audit_cli.specs.declared.halt.StoreHalt.TheVariants as over
-use Rattle.audit_cli.proofs.StoreRuns.{queried_none, refuses_by, unbegun_run}
+use Rattle.audit_cli.proofs.StoreRuns.{queried_none, refuses_by, unbegun_run, unbegun_watch}
 use Rattle.reach_model.specs.declared.modes.Mode.{Mode}
 use Rattle.audit_cli.specs.Statuses.{RefusesStore, store_status}
-use Rattle.audit_cli.specs.Stores.{IsBadIn, IsWrongIn}
+use Rattle.audit_cli.specs.Stores.{IsBadIn, IsWrongIn, StoodAt}
+use Rattle.audit_cli.specs.declared.stores.Taking.TheVariants as taking
 use Rattle.audit_cli.proofs.run.audit_run.Goals as goal
 
 pub returns-in-Ok-clause-headline : goal.returns-in-Ok-clause-headline
@@ -30,7 +31,7 @@ pub returns-in-Ok-clause-full : goal.returns-in-Ok-clause-full
 returns-in-Ok-clause-full g c = λ done bytes asked row told tells full is.
     let same = job_same _ _ _ c.in-Ok.ensures.found row in
     let talked = c.run.ensures.talked bytes asked (same_log _ _ _ _ same told) (same_questions _ _ _ _ same tells) in
-    rw (← same) (full_exact c.args.limits.now c.in-Ok.job bytes asked _ _ _ c.run.result full talked (sym c.status_of.ensures ∙ is))
+    rw (← same) (full_exact _ _ c.args.limits.now c.in-Ok.job bytes asked _ _ _ c.run.result full c.run.ensures.causes talked (sym c.status_of.ensures ∙ is))
 
 pub returns-in-Ok-clause-complete : goal.returns-in-Ok-clause-complete
 returns-in-Ok-clause-complete g c = λ done bytes asked row told tells no_fault none.
@@ -60,12 +61,35 @@ returns-in-Ok-clause-no_further g c = λ done bytes asked row told tells is.
     rw (← same) (done_only c.run.result _ left (sym c.status_of.ensures ∙ is))
 
 pub returns-in-Err-NoMemory-clause-reduced : goal.returns-in-Err-NoMemory-clause-reduced
-returns-in-Err-NoMemory-clause-reduced g c = λ kept name store resume row.
-    (Err (over.Run halt.NoMemory), refl, unbegun_run resume g.D.Disk.state c.args.limits.now kept c.args.disk (g.L.Source.left c.args.log.now) (g.O.Sink.written c.args.out.now) g.met.D.Disk.lawful)
+returns-in-Err-NoMemory-clause-reduced g c = λ kept name store resume row. (
+  Err (over.Run halt.NoMemory),
+  refl,
+  unbegun_run resume g.D.Disk.state (StoodAt g.D.Disk.state c.args.limits.now kept c.args.disk) c.args.limits.now kept c.args.disk c.args.disk (g.L.Source.left c.args.log.now)
+      (g.O.Sink.written c.args.out.now) g.met.D.Disk.lawful refl (λ h before stood bytes left. stood.images bytes left),
+)
+
+pub returns-in-Err-NoMemory-clause-watched : goal.returns-in-Err-NoMemory-clause-watched
+returns-in-Err-NoMemory-clause-watched g c = λ kept name store row. (
+  Err (over.Run halt.NoMemory),
+  refl,
+  unbegun_watch g.D.Disk.state (StoodAt g.D.Disk.state c.args.limits.now kept c.args.disk) c.args.limits.now kept c.args.disk c.args.disk (g.L.Source.left c.args.log.now)
+      (g.Q.Source.left c.args.questions.now) (g.O.Sink.written c.args.out.now) g.met.D.Disk.lawful refl (λ h before stood bytes left. stood.images bytes left),
+)
 
 pub returns-in-Err-NoMemory-clause-queried : goal.returns-in-Err-NoMemory-clause-queried
 returns-in-Err-NoMemory-clause-queried g c = λ store row.
     (Err (over.Run halt.NoMemory), refl, record { queried = λ kept h asked stood told. queried_none c.args.limits.now kept h asked (g.O.Sink.written c.args.out.now) })
+
+pub returns-in-Ok-Reduce-clause-reduced : goal.returns-in-Ok-Reduce-clause-reduced
+returns-in-Ok-Reduce-clause-reduced g c = λ kept name store resume row.
+    let found = c.in-Ok-Reduce.ensures.found in
+    let is = c.in-Ok-Reduce.field-0-is in
+    let same : c.in-Ok-Reduce.mode ≡ kept = cc in
+    let again : c.in-Ok-Reduce.resume ≡ resume = cc in
+    rw (c.told_of.ensures.status, c.told_of.ensures.disk, ← same) (c.extend.result.outcome, refl, c.extend.ensures.reduced resume (ap taking.Whole again))
+
+pub returns-in-Ok-Reduce-clause-silent : goal.returns-in-Ok-Reduce-clause-silent
+returns-in-Ok-Reduce-clause-silent g c = λ kept name store resume row. c.extend.ensures.silent c.in-Ok-Reduce.resume refl
 
 pub returns-in-Ok-Reduce-clause-refused : goal.returns-in-Ok-Reduce-clause-refused
 returns-in-Ok-Reduce-clause-refused g c = λ kept name store resume row.
@@ -73,8 +97,17 @@ returns-in-Ok-Reduce-clause-refused g c = λ kept name store resume row.
     let is = c.in-Ok-Reduce.field-0-is in
     let same : c.in-Ok-Reduce.mode ≡ kept = cc in
     rw c.told_of.ensures.status
-    (subst (λ (m : Mode). RefusesStore (store_status c.reduce.result.outcome) (IsBadIn c.args.limits.now (g.D.Disk.state c.args.disk)) (IsWrongIn c.args.limits.now (g.D.Disk.state c.args.disk) (Some m))) same
-    (refuses_by _ _ _ _ _ _ c.reduce.result.outcome c.reduce.ensures.causes))
+    (subst (λ (m : Mode). RefusesStore (store_status c.extend.result.outcome) (IsBadIn c.args.limits.now (g.D.Disk.state c.args.disk)) (IsWrongIn c.args.limits.now (g.D.Disk.state c.args.disk) (Some m))) same
+    (refuses_by _ _ _ _ _ _ c.extend.result.outcome c.extend.ensures.causes))
+
+pub returns-in-Ok-WatchStore-clause-unwatched : goal.returns-in-Ok-WatchStore-clause-unwatched
+returns-in-Ok-WatchStore-clause-unwatched g c = λ kept name store row.
+    let found = c.in-Ok-WatchStore.ensures.found in
+    let is = c.in-Ok-WatchStore.field-0-is in
+    let same : c.in-Ok-WatchStore.mode ≡ kept = cc in
+    rw c.told_of-in-Ok-WatchStore.ensures.status
+    (subst (λ (m : Mode). RefusesStore (store_status c.extend-in-Ok-WatchStore.result.outcome) (IsBadIn c.args.limits.now (g.D.Disk.state c.args.disk)) (IsWrongIn c.args.limits.now (g.D.Disk.state c.args.disk) (Some m))) same
+    (refuses_by _ _ _ _ _ _ c.extend-in-Ok-WatchStore.result.outcome c.extend-in-Ok-WatchStore.ensures.causes))
 
 pub returns-in-Ok-Query-clause-unanswered : goal.returns-in-Ok-Query-clause-unanswered
 returns-in-Ok-Query-clause-unanswered g c = λ store row. rw c.told_of-in-Ok-Query.ensures.status (refuses_by _ _ _ _ _ _ c.query.result.outcome c.query.ensures.causes)

@@ -3,20 +3,21 @@ use Rattle.audit_cli.proofs.stores.begin_part.Goals as goal
 
 pub returns-then-resume-clause-begun : goal.returns-then-resume-clause-begun
 returns-then-resume-clause-begun g c = λ limits h before bytes x told.
-    begun_on g.D.Disk.state limits g.R.Reducer.mode c.args.engine.now _ h before bytes c.args.resume c.part_taken.result c.go_on.result c.if-resume.true c.part_taken.ensures x (c.go_on.ensures.passed bytes told)
+    begun_on g.D.Disk.state limits g.R.Reducer.mode c.args.session.now.engine _ h before bytes c.args.resume c.part_taken-taken.result c.go_on.result c.what_is_saved_stays_saved.ensures g.met.D.Disk.lawful
+    c.if-resume.true c.part_taken-taken.ensures x (c.go_on.ensures.passed bytes told)
 
 pub returns-then-resume-clause-enough : goal.returns-then-resume-clause-enough
 returns-then-resume-clause-enough g c = λ limits h before bytes x told.
-    enough_on g.D.Disk.state limits g.R.Reducer.mode c.args.engine.now h before bytes c.args.resume c.part_taken.result c.go_on.result c.if-resume.true c.part_taken.ensures x (c.go_on.ensures.enough bytes told)
+    enough_on g.D.Disk.state limits g.R.Reducer.mode c.args.session.now.engine h before bytes c.args.resume c.part_taken-taken.result c.go_on.result c.if-resume.true c.part_taken-taken.ensures x (c.go_on.ensures.enough bytes told)
 
 pub returns-then-resume-clause-short : goal.returns-then-resume-clause-short
 returns-then-resume-clause-short g c = λ limits h before bytes x told all had is.
-    short_on g.D.Disk.state limits g.R.Reducer.mode c.args.engine.now h before bytes c.args.resume c.part_taken.result all had c.if-resume.true c.part_taken.ensures x (c.go_on.ensures.short bytes told all had is)
+    short_on g.D.Disk.state limits g.R.Reducer.mode c.args.session.now.engine h before bytes c.args.resume c.part_taken-taken.result all had c.if-resume.true c.part_taken-taken.ensures x (c.go_on.ensures.short bytes told all had is)
 
 pub returns-clause-begun : goal.returns-clause-begun
 returns-clause-begun g c = λ limits h before bytes x told.
-    rw c.if-resume.false (at_new_part g.D.Disk.state limits g.R.Reducer.mode c.args.engine.now c.new_part.new.self (g.L.Source.left c.args.log.now) h before bytes c.what_is_saved_stays_saved.ensures c.new_part.ensures.part
-    c.new_part.ensures.stands x told)
+    rw c.if-resume.false (at_new_part g.D.Disk.state limits g.R.Reducer.mode c.args.session.now.engine c.new_part.new.self (g.L.Source.left c.args.log.now) h before bytes c.what_is_saved_stays_saved.ensures g.met.D.Disk.lawful
+    c.new_part.ensures.part c.new_part.ensures.stands x told)
 
 pub returns-clause-enough : goal.returns-clause-enough
 returns-clause-enough g c = λ limits h before bytes x told. rw c.if-resume.false tt

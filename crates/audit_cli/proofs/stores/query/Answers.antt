@@ -2,7 +2,7 @@ use Rattle.std.proofs.Common.{inl, None}
 use Rattle.std.specs.Prelude.{◌⊎◌}
 use Rattle.audit_cli.specs.Stores.{HasNoBatch, IsBadOrNone, IsWrongIn, WaitsUnsoundly}
 use Rattle.audit_cli.specs.StoreHalts.{no_lengths, no_modes}
-use Rattle.audit_cli.proofs.StoreRuns.{bad_or_none, causes_by, open_at, open_causes, queried_unopened}
+use Rattle.audit_cli.proofs.StoreRuns.{bad_or_none, causes_by, open_at, open_causes, queried_unopened, rose_spent}
 use Rattle.audit_cli.proofs.stores.query.Goals as goal
 
 pub returns-in-Err-clause-run : goal.returns-in-Err-clause-run
@@ -25,6 +25,7 @@ returns-in-Ok-clause-run g c = record {
 
 pub returns-in-Ok-clause-causes : goal.returns-in-Ok-clause-causes
 returns-in-Ok-clause-causes g c =
-    causes_by _ _ _ _ (λ place. WaitsUnsoundly c.args.limits.now c.in-Ok.opened place ⊎ HasNoBatch c.in-Ok.opened place) (IsBadOrNone c.args.limits.now (g.D.Disk.state c.args.disk)) no_modes
-    (IsWrongIn c.args.limits.now (g.D.Disk.state c.args.disk) None) no_lengths no_lengths c.query_opened.result.outcome (λ none. absurd none)
+    causes_by _ _ _ _ _ (λ place. WaitsUnsoundly c.args.limits.now c.in-Ok.opened place ⊎ HasNoBatch c.in-Ok.opened place) (IsBadOrNone c.args.limits.now (g.D.Disk.state c.args.disk)) no_modes
+    (IsWrongIn c.args.limits.now (g.D.Disk.state c.args.disk) None) no_lengths no_lengths c.query_opened.result.outcome (λ read. read)
+    (rose_spent (g.D.Disk.faults c.args.disk) (g.D.Disk.faults c.query_opened.result.disk) (g.D.Disk.spent c.query_opened.result.disk))
     (λ place bad told. bad_or_none c.args.limits.now c.in-Ok.opened _ place (c.in-Ok.ensures.store told) (c.in-Ok.ensures.last told) bad) (λ kept want none. absurd none) (λ taken had none. absurd none) c.query_opened.ensures.causes

@@ -1,7 +1,7 @@
 use Rattle.std.proofs.Common.{sym, subst, refl}
 use Rattle.reach_model.specs.declared.modes.Mode.{Mode}
 use Rattle.audit_cli.specs.Stores.{IsOpenAt, IsQueried}
-use Rattle.audit_cli.proofs.StoreRuns.{kept_mode, queried_unrestored}
+use Rattle.audit_cli.proofs.StoreRuns.{kept_mode, queried_unrestored, reopened}
 use Rattle.audit_cli.proofs.stores.query_with.Goals as goal
 
 pub returns-in-Err-clause-run : goal.returns-in-Err-clause-run
@@ -17,5 +17,5 @@ returns-in-Ok-clause-run g c = record {
       let same = kept_mode g.D.Disk.state c.args.limits.now kept g.R.Reducer.mode c.args.opened h stood.0 c.what_is_found_was_stored.ensures c.requires.mode stood.1 in
       let x = subst (λ (m : Mode). IsOpenAt g.D.Disk.state c.args.limits.now m c.args.opened h stood.0) same stood.1 in
       subst (λ (m : Mode). IsQueried c.args.limits.now m h asked (g.O.Sink.written c.args.out.now) (g.O.Sink.written c.query_engine.new.out) c.query_engine.result.outcome) (sym same)
-      (c.query_engine.ensures.queried h asked (c.in-Ok.ensures.stored h stood.0 x.open_on x.stores).0.stands told);
+      (c.query_engine.ensures.queried h stood.0 asked (reopened g.D.Disk.state c.args.limits.now g.R.Reducer.mode c.args.opened c.in-Ok.engine h stood.0 c.in-Ok.ensures.stored c.in-Ok.ensures.alike x) told);
 }

@@ -1,29 +1,37 @@
-use Rattle.std.proofs.Common.{inl, inr, Some}
-use Rattle.audit_cli.specs.Stores.{IsBadIn, IsWrongIn, WaitsUnsoundly}
-use Rattle.audit_cli.specs.StoreHalts.{is_shorter, no_modes}
-use Rattle.audit_cli.proofs.StoreRuns.{bad_opened, causes_by, looked_rose, open_at, open_causes, opened_run, unopened_run}
+use Rattle.std.proofs.Common.{refl}
+use Rattle.std.specs.Prelude.{Ok, Err}
+use Rattle.std.proofs.lemmas.Result.{err_from_is_err_and}
+use Rattle.reduced_store.specs.OnDisk.{OnDisk}
+use Rattle.audit_cli.specs.Saves.{Start}
+use Rattle.audit_cli.specs.Stores.{begun_of, first_of}
+use Rattle.audit_cli.proofs.StoreRuns.{failed_run, reduces_by}
 use Rattle.audit_cli.proofs.stores.reduce.Goals as goal
 
-pub returns-in-Err-clause-run : goal.returns-in-Err-clause-run
-returns-in-Err-clause-run g c =
-    unopened_run c.args.resume g.D.Disk.state c.args.limits.now c.args.mode c.args.disk c.in-Err.back.disk (g.L.Source.left c.args.log.now) (g.O.Sink.written c.args.out.now) c.in-Err.back.fault c.halt_of_open.result
-    g.met.D.Disk.lawful c.in-Err.ensures.looks c.halt_of_open.ensures
+pub returns-in_err-begin_part-clause-run : goal.returns-in_err-begin_part-clause-run
+returns-in_err-begin_part-clause-run g c = λ limits.
+    let p = err_from_is_err_and c.from_residual.result c.from_residual.ensures.1 in
+    rw (p.1, p.2) (failed_run c.args.resume g.D.Disk.state limits g.R.Reducer.mode c.args.session.now.engine c.begin_part.new.session.engine.joined.keep.disk (g.L.Source.left c.args.log.now) (g.L.Source.left c.begin_part.new.log)
+    (g.O.Sink.written c.args.out.now) c.in_err-begin_part.field-0.0 g.met.D.Disk.lawful c.begin_part.ensures.alike.disk c.in_err-begin_part.ensures.written c.in_err-begin_part.ensures.due (c.in_err-begin_part.ensures.short limits))
 
-pub returns-in-Err-clause-causes : goal.returns-in-Err-clause-causes
-returns-in-Err-clause-causes g c =
-    rw c.halt_of_open.ensures (open_causes _ _ _ (IsBadIn c.args.limits.now (g.D.Disk.state c.args.disk)) (IsWrongIn c.args.limits.now (g.D.Disk.state c.args.disk) (Some c.args.mode)) is_shorter c.in-Err.back.fault
-    (λ is. c.in-Err.ensures.uses.rose is) (λ place is told. inl (c.in-Err.ensures.bad told place is)) (λ kept want is told. c.in-Err.ensures.wrong told kept want is))
+pub returns-in_err-reduce_all-clause-run : goal.returns-in_err-reduce_all-clause-run
+returns-in_err-reduce_all-clause-run g c = λ limits h before bytes x told.
+    let p = err_from_is_err_and c.from_residual-in_err-reduce_all.result c.from_residual-in_err-reduce_all.ensures.1 in
+    let begun = begun_of c.args.resume h before bytes in
+    let m = first_of g.R.Reducer.mode begun in
+    let start : Start (OnDisk g.row.D.Denot) = record { begun = begun; rows = c.args.session.now.engine.joined.keep } in
+    let at = (c.in_ok-begin_part.ensures.begun limits h before bytes x told).at in
+    let r = c.reduce_all.ensures in
+    rw (p.1, p.2) (reduces_by c.args.resume g.D.Disk.state start limits g.R.Reducer.mode c.reduce_all.new.session.engine.joined.keep _ _ _ (Err c.in_err-reduce_all.field-0.0) h before bytes refl
+    tt (r.leaves start limits m at) (c.in_err-reduce_all.ensures.passes start limits m at) tt tt
+    (c.in_err-reduce_all.ensures.front start limits m at) (c.in_err-reduce_all.ensures.due start limits m at) (c.in_ok-begin_part.ensures.enough limits h before bytes x told))
 
-pub returns-in-Ok-clause-run : goal.returns-in-Ok-clause-run
-returns-in-Ok-clause-run g c =
-    opened_run c.args.resume g.D.Disk.state c.args.limits.now c.args.mode c.args.disk c.in-Ok.opened (g.D.Disk.state c.reduce_opened.result.disk) (g.L.Source.left c.args.log.now) (g.L.Source.left c.reduce_opened.new.log)
-    (g.O.Sink.written c.args.out.now) (g.O.Sink.written c.reduce_opened.new.out) c.reduce_opened.result.outcome g.met.D.Disk.lawful c.in-Ok.ensures.looks
-    (λ h part stood. open_at g.D.Disk.state c.args.limits.now c.args.mode c.args.disk c.in-Ok.opened h part stood c.in-Ok.ensures.store c.in-Ok.ensures.durable c.in-Ok.ensures.looks c.in-Ok.ensures.saved c.in-Ok.ensures.log)
-    c.reduce_opened.ensures.run
-
-pub returns-in-Ok-clause-causes : goal.returns-in-Ok-clause-causes
-returns-in-Ok-clause-causes g c =
-    causes_by _ _ _ _ (WaitsUnsoundly c.args.limits.now c.in-Ok.opened) (IsBadIn c.args.limits.now (g.D.Disk.state c.args.disk)) no_modes (IsWrongIn c.args.limits.now (g.D.Disk.state c.args.disk) (Some c.args.mode)) is_shorter is_shorter
-    c.reduce_opened.result.outcome
-    (looked_rose g.D.Disk.state g.D.Disk.faults g.D.Disk.spent c.args.disk c.in-Ok.opened.store.disk c.reduce_opened.result.disk _ c.in-Ok.ensures.uses)
-    (λ place bad told. inr (bad_opened c.args.limits.now c.in-Ok.opened _ place (c.in-Ok.ensures.store told) (c.in-Ok.ensures.last told) bad)) (λ kept want none. absurd none) (λ taken had shorter. shorter) c.reduce_opened.ensures.causes
+pub returns-clause-run : goal.returns-clause-run
+returns-clause-run g c = λ limits h before bytes x told.
+    let begun = begun_of c.args.resume h before bytes in
+    let m = first_of g.R.Reducer.mode begun in
+    let start : Start (OnDisk g.row.D.Denot) = record { begun = begun; rows = c.args.session.now.engine.joined.keep } in
+    let at = (c.in_ok-begin_part.ensures.begun limits h before bytes x told).at in
+    let r = c.reduce_all.ensures in
+    reduces_by c.args.resume g.D.Disk.state start limits g.R.Reducer.mode c.reduce_all.new.session.engine.joined.keep _ _ _ (Ok tt) h before bytes refl
+    (c.in_ok-reduce_all.ensures.stored start limits m at) (r.leaves start limits m at) (λ full is. absurd (let no = is in cc)) (c.in_ok-reduce_all.ensures.whole start limits m at) (c.in_ok-reduce_all.ensures.wrote start limits m at)
+    tt tt (c.in_ok-begin_part.ensures.enough limits h before bytes x told)

@@ -1,39 +1,52 @@
-use Rattle.std.proofs.Common.{[], take}
+use Rattle.std.proofs.Common.{[], take, ◌∙◌}
 use Rattle.std.proofs.lemmas.Result.{err_from_is_err_and}
 use Rattle.report_json.specs.Replies.{text_of}
 use Rattle.audit_cli.specs.Dialogue.{after, nothing_beyond}
+use Rattle.audit_cli.proofs.SaveLemmas.{after_mode, cut_short, names_none}
 use Rattle.audit_cli.proofs.TalkLemmas.{appends_none, no_reply, other_halt, half_said, one_turn}
 use Rattle.audit_cli.proofs.turn.take_turn.Goals as goal
 
 pub returns-in_err-reply-clause-talk : goal.returns-in_err-reply-clause-talk
-returns-in_err-reply-clause-talk g c = λ limits m h.
+returns-in_err-reply-clause-talk g c = λ start limits m h.
     let p = err_from_is_err_and c.from_residual.result c.from_residual.ensures.1 in
     rw (p.1, p.2) (record {
       to = m;
       bytes = [];
       wrote = appends_none _;
-      course = no_reply limits m c.args.question.now _ h.stands.fits (c.in_err-reply.ensures.due limits m h);
+      course = no_reply limits m c.args.question.now _ h.stands_at.stands.fits (c.in_err-reply.ensures.due start limits m h);
       at = tt;
     })
 
 pub returns-in_err-say-clause-talk : goal.returns-in_err-say-clause-talk
-returns-in_err-say-clause-talk g c = λ limits m h.
+returns-in_err-say-clause-talk g c = λ start limits m h.
     let p = err_from_is_err_and c.from_residual-in_err-say.result c.from_residual-in_err-say.ensures.1 in
     let cut = c.in_err-say.ensures.cut in
     rw (p.1, p.2) (record {
       to = m;
       bytes = take cut.0 (text_of c.in_ok-reply.reply);
       wrote = cut.1;
-      course = other_halt limits nothing_beyond m _ _ _ c.in_err-say.ensures.due (half_said limits m c.args.question.now _ cut.0 (c.in_ok-reply.ensures.answers limits m h));
+      course = other_halt limits nothing_beyond m _ _ _ c.in_err-say.ensures.due (half_said limits m c.args.question.now _ cut.0 (c.in_ok-reply.ensures.answers start limits m h));
       at = tt;
     })
 
 pub returns-clause-talk : goal.returns-clause-talk
-returns-clause-talk g c = λ limits m h.
+returns-clause-talk g c = λ start limits m h.
     rw c.turn_after.ensures (record {
       to = after c.args.question.now m;
       bytes = text_of c.in_ok-reply.reply;
       wrote = c.in_ok-say.ensures.said;
-      course = one_turn limits nothing_beyond c.args.question.now m _ (c.in_ok-reply.ensures.answers limits m h);
-      at = c.in_ok-reply.ensures.moves limits m h;
+      course = one_turn limits nothing_beyond c.args.question.now m _ (c.in_ok-reply.ensures.answers start limits m h);
+      at = c.in_ok-reply.ensures.moves start limits m h;
     })
+
+pub returns-in_err-reply-clause-ends : goal.returns-in_err-reply-clause-ends
+returns-in_err-reply-clause-ends g c = λ start limits m h.
+    let p = err_from_is_err_and c.from_residual.result c.from_residual.ensures.1 in
+    rw (p.1, p.2) (record { to = after c.args.question.now m; in_mode = after_mode c.args.question.now m ∙ h.in_mode; ends = c.in_err-reply.ensures.ends start limits m h })
+
+pub returns-in_err-say-clause-ends : goal.returns-in_err-say-clause-ends
+returns-in_err-say-clause-ends g c = λ start limits m h.
+    let p = err_from_is_err_and c.from_residual-in_err-say.result c.from_residual-in_err-say.ensures.1 in
+    let here = c.in_ok-reply.ensures.moves start limits m h in
+    rw (p.1, p.2) (cut_short g.K.Rows.alike g.K.Saves.can g.K.Saves.holds g.K.Saves.ends g.K.Saves.uses g.K.Saves.rose c.saves_lawfully.ensures start limits g.R.Reducer.mode c.args.takes c.answer.new.session.engine _
+    c.answer.new.session.engine.joined.keep (after c.args.question.now m) c.in_err-say.field-0.0 (names_none _ _ _ _ c.in_err-say.ensures.causes) (g.met.K.Rows.goes_along.same c.answer.new.session.engine.joined.keep) here)
