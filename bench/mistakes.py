@@ -4,9 +4,10 @@
     bench/mistakes.py [--program ./crates/audit_cli/out/audit_cli] [--seed 1] [--only WORD] [--values 2]
 
 A store of another mode, files that are none, empty files, folders, files without permission, logs and stores in each other's place, a shorter
-log, a full disk, a store cut short at each length, and one of which each byte is changed in turn, to so many values. A changed store is refused, with
-its place, or answered as the plain reading of bench/plain_store.py answers it, and a further log can be taken into it. The stores that are changed are
-the example of docs/FORMATS.md and one that the program wrote. Prints what is wrong, and ends with status 1 if something is.
+log, a full disk, numbers at the edge of what continues a store, a store cut short at each length, and one of which each byte is changed in turn, to
+so many values. A changed store is refused, with its place, or answered as the plain reading of bench/plain_store.py answers it, and a further log can
+be taken into it. The stores that are changed are the example of docs/FORMATS.md and one that the program wrote. Prints what is wrong, and ends with
+status 1 if something is.
 """
 import argparse
 import os
@@ -228,7 +229,55 @@ def changed_stores(here):
                 asked_of(here, content[:at] + bytes([value]) + content[at + 1:], f'{name}, byte {at} is {value}', here.rng.random() < 0.4)
 
 
-KINDS = [other_modes, files_that_are_no_stores, empty_files, no_files, files_without_permission, logs_and_stores, full_disks, cut_stores, changed_stores]
+# Numbers of the example in docs/FORMATS.md, by what they are: the place, the size, values that continue a store, and values that don't.
+EDGES = {
+    'version': (13, 1, [1], [0, 2]),
+    'mode, which alone may have Extend rows': (14, 1, [2], [0, 1, 3, 4, 5]),
+    'source of a Kept row': (38, 4, [0], [1, 2]),
+    'target of a Kept row': (42, 4, [1], [0, 2]),
+    'how of a Kept row': (62, 1, [1, 6], [0, 7]),
+    'link by target': (67, 8, [0], [1]),
+    'link by source': (75, 8, [0], [1]),
+    'row of an Extend row': (84, 8, [0], [1, 2 ** 63]),
+    'time of an Extend row': (92, 8, [1000, 1001], [999, 1002]),
+    'place of an Extend row': (100, 8, [1], [0, 2]),
+    'life, at most the acts': (132, 8, [0, 6], [7]),
+    'live flag of a pid that holds': (140, 1, [1], [0, 2]),
+    'awaits flag before a pid': (141, 1, [1], [0]),
+    'pid of a Held row': (148, 4, [100], [99]),
+    'act of an address, below the acts': (167, 8, [0, 5], [6]),
+    'births, at most the acts': (204, 8, [0, 6], [7]),
+    'serial of what waits, which its line has': (221, 4, [9], [8]),
+    'closed flag of the least group': (225, 1, [0], [1]),
+    'bytes taken, one for each line and the one that has begun': (271, 8, [10, 2 ** 60], [9, 2 ** 60 + 1]),
+    'bytes of this part': (279, 8, [0, 2 ** 60], [2 ** 60 + 1]),
+    'lines, the sum of the classes': (287, 8, [9], [8, 10]),
+    'excess': (327, 8, [2 ** 60], [2 ** 60 + 1]),
+    'flows, above each place': (359, 8, [2, 2 ** 60], [1, 2 ** 60 + 1]),
+    'acts, above each act that is named': (367, 8, [3, 2 ** 62], [2, 2 ** 62 + 1]),
+    'greatest time seen, not before what waits nor 2,000 after it': (376, 8, [1002, 3002], [1001, 3003]),
+    'released flag before a key': (384, 1, [1], [0]),
+    'effective time, no earlier than a mark': (397, 8, [1001, 2 ** 60], [1000, 2 ** 60 + 1]),
+    'long flag before a tail': (405, 1, [0], [1]),
+    'byte of the tail': (410, 1, [0, 255], [10]),
+    'number of a malformed line': (418, 8, [1, 9], [0, 10]),
+    'fault of a malformed line': (426, 1, [0, 255], []),
+}
+
+
+def edges(here):
+    example = example_of_the_formats()
+    for what, (place, size, good, bad) in EDGES.items():
+        for value in good + bad:
+            content = example[:place] + value.to_bytes(size, 'little') + example[place + size:]
+            path = here.file('edge.store', content)
+            ran = here.run('query', path, questions=b'stat\n')
+            status, text = (0, '') if value in good else (7, 'bad store at 0')
+            if (ran.status, ran.text) != (status, text) or wanted_of(content)[0] != status:
+                here.faults.append(f'{what}, {value}: status {ran.status}, {ran.text!r}, by the plain reading {wanted_of(content)[0]}; wanted {status}')
+
+
+KINDS = [other_modes, files_that_are_no_stores, empty_files, no_files, files_without_permission, logs_and_stores, full_disks, edges, cut_stores, changed_stores]
 
 
 def main():

@@ -1,16 +1,20 @@
 #!/usr/bin/env python3
 """A plain reading of a store's bytes by docs/FORMATS.md (batches, payloads, rows, what continues a store), written apart from the program.
 
-    bench/plain_store.py STORE < QUESTIONS
+    bench/plain_store.py STORE [REPLIES] < QUESTIONS
 
-It answers the lines `back`, `fore`, `find`, `show`, `stat` and `end` as `query STORE` does, from the rows alone, and every other line as a bad
-question. If the file is no store it writes the places at which it is none, and ends with status 7.
+It answers the lines `back`, `fore`, `why`, `find`, `show`, `stat` and `end` as `query STORE` does, from the rows alone. If the file is no store it
+writes the places at which it is none, and ends with status 7. A row stands for its first and its last flow: in continuous mode no flow between them
+makes another answer. Any path is a right answer to `why`: a path in the file REPLIES, with a program's replies to the same questions, is repeated if it
+is one, and else the answer says that it is wrong.
 """
+import argparse
 import itertools
 import json
+import os
 import sys
 
-from plain_reading import LINE, NAMES, RECORDS, GROUPS, LAPSE, SHOWN, TEXT, class_of, key_text, lossy
+from plain_reading import ASK, LINE, NAMES, QUESTION, RECORDS, GROUPS, LAPSE, SHOWN, TEXT, class_of, key_text, lossy, time_text
 
 CLOSED, OPEN = 0x5A, 0xA5
 MOST_PAYLOAD = 1_073_741_824
@@ -54,7 +58,7 @@ class Spelling:
     """The bytes of a payload, read from the first to the last."""
 
     def __init__(self, payload):
-        self.payload, self.at = payload, 0
+        self.payload, self.at, self.numbers, self.begun = payload, 0, [], []
 
     def take(self, count):
         if len(self.payload) - self.at < count:
@@ -63,6 +67,8 @@ class Spelling:
         return self.payload[self.at - count:self.at]
 
     def number(self, size):
+        """A number, whose place and size are noted."""
+        self.numbers.append((self.at, size))
         return int.from_bytes(self.take(size), 'little')
 
     def choice(self, choices):
@@ -159,11 +165,17 @@ ROWS = {
 
 def rows_of(payload):
     """The mode and the rows of a payload, each with its tag."""
-    read, rows = Spelling(payload), []
+    return read_rows(Spelling(payload))
+
+
+def read_rows(read):
+    """The same of bytes that are read from their first on."""
+    rows = []
     if read.take(5) != b'ADLR\x01':
         raise Misspelt
     mode = read.choice(MODES)
-    while read.at < len(payload):
+    while read.at < len(read.payload):
+        read.begun.append(read.at)
         tag = read.number(1)
         if tag not in ROWS or (rows and (tag < rows[-1][0] or rows[-1][0] == STATE)):
             raise Misspelt
@@ -338,22 +350,46 @@ def read_store(disk):
 
 def flows_of(store):
     """The first and the last flow of each row, by place."""
-    found = [(row[end]['place'], row[end]['ms'], row['from'], row['to']) for row in store.rows for end in ('first', 'last')]
-    return [list(group) for _, group in itertools.groupby(sorted(set(found)), lambda flow: flow[0])]
+    marks = [(row['from'], row['to'], row[end]) for row in store.rows for end in ('first', 'last')]
+    found = {(mark['place'], mark['ms'], source, target, mark['how'], mark['serial']) for source, target, mark in marks}
+    return [list(group) for _, group in itertools.groupby(sorted(found), lambda flow: flow[0])]
 
 
 def back(store, of, until=None):
     found = {of}
     for flows in reversed(store.flows):
-        found |= {source for _, ms, source, target in flows if target in found and (until is None or ms <= until)}
+        found |= {source for _, ms, source, target, _, _ in flows if target in found and (until is None or ms <= until)}
     return sorted(found)
 
 
 def fore(store, of, since=None):
     found = {of}
     for flows in store.flows:
-        found |= {target for _, ms, source, target in flows if source in found and (since is None or ms >= since)}
+        found |= {target for _, ms, source, target, _, _ in flows if source in found and (since is None or ms >= since)}
     return sorted(found)
+
+
+def is_path(store, path, source, target, until):
+    """Whether an answer to `why` is right."""
+    if path is None:
+        return source not in back(store, target, until)
+    at, place = source, -1
+    for hop in path:
+        flow = next((flow for flows in store.flows for flow in flows if flow[0] > place and (until is None or flow[1] <= until) and hop == {
+            'at': time_text(flow[1]), 'from': at, 'how': flow[4], 'serial': flow[5], 'to': flow[3]} and flow[2] == at), None)
+        if flow is None:
+            return False
+        at, place = flow[3], flow[0]
+    return at == target
+
+
+def why(store, source, target, until, reply):
+    """The path of this reply, if it is one."""
+    try:
+        path = json.loads(reply)['path']
+    except (ValueError, KeyError, TypeError):
+        path = 'none'
+    return {'from': source, 'path': path if path != 'none' and is_path(store, path, source, target, until) else 'wrong', 'to': target}
 
 
 def is_source(store, of):
@@ -370,29 +406,38 @@ def is_kept(store, way, of, bound):
         return True
     if store.mode == 'source' and not is_source(store, of):
         return False
-    return bound is None or bound <= store.first_rows[of]['first']['ms']
+    return way == 'why' or bound is None or bound <= store.first_rows[of]['first']['ms']
 
 
-def answer(store, question):
+def answer(store, question, reply=b''):
     way, _, rest = question.partition(' ')
-    if question == 'stat':
+    if len(question) > ASK or not QUESTION.fullmatch(question) or way in ('take', 'settle'):
+        return {'error': 'BadQuestion'}
+    if way == 'stat':
         return stat(store)
-    if question == 'end':
+    if way == 'end':
         return {'end': True}
-    if way == 'find' and rest:
+    if way == 'find':
         text = rest.encode('latin1')
         return {'find': lossy(text), 'ids': [of for key, of in store.ids.items() if text in store.names.get(key, [])]}
-    words = rest.split(' ')
-    if way not in ('back', 'fore', 'show') or not words[0].isdigit():
+    ids = [int(word) for word in rest.split(' ') if '.' not in word]
+    bound = next((int(word.replace('.', '')) for word in rest.split(' ') if '.' in word), None)
+    if max(ids) >= 2 ** 32:
         return {'error': 'BadQuestion'}
-    of, bound = int(words[0]), int(words[1].replace('.', '')) if len(words) > 1 else None
-    if of >= len(store.ids):
+    if max(ids) >= len(store.ids):
         return {'error': 'Unknown'}
+    return answer_of_known(store, way, ids, bound, reply)
+
+
+def answer_of_known(store, way, ids, bound, reply):
+    of = ids[0]
     if way == 'show':
         key = list(store.ids)[of]
         return {'is': lossy(key_text(key)), 'names': [lossy(name) for name in store.names.get(key, [])], 'show': of}
     if not is_kept(store, way, of, bound):
         return {'error': 'NotKept'}
+    if way == 'why':
+        return why(store, *ids, bound, reply)
     found = (back if way == 'back' else fore)(store, of, bound)
     if way == 'back' and store.mode == 'source':
         return {'back': of, 'sources': [source for source in found if is_source(store, source)]}
@@ -405,10 +450,11 @@ def spelled(said):
 
 
 def main():
-    if len(sys.argv) != 2 or sys.argv[1].startswith('-'):
-        print(__doc__)
-        return 2
-    with open(sys.argv[1], 'rb') as file:
+    parser = argparse.ArgumentParser(description=__doc__, formatter_class=argparse.RawDescriptionHelpFormatter)
+    parser.add_argument('store')
+    parser.add_argument('replies', nargs='?', default=os.devnull)
+    options = parser.parse_args()
+    with open(options.store, 'rb') as file:
         disk = file.read()
     try:
         store = read_store(disk)
@@ -418,8 +464,9 @@ def main():
         print(f'no store at {" or ".join(map(str, fault.args))}')
         return 7
     sys.stdout.reconfigure(encoding='utf-8')
-    for line in sys.stdin.buffer:
-        print(spelled(answer(store, line.decode('latin1').removesuffix('\n'))))
+    with open(options.replies, 'rb') as replies:
+        for line in sys.stdin.buffer:
+            print(spelled(answer(store, line.decode('latin1').removesuffix('\n'), replies.readline())))
     return 0
 
 

@@ -32,24 +32,22 @@ class Ran:
         return None
 
 
-def before(file_size, memory, as_nobody):
+def before(file_size, as_nobody):
     """What a run does before the program begins, or None."""
     def prepare():
         signal.signal(signal.SIGXFSZ, signal.SIG_IGN)
         if file_size is not None:
             resource.setrlimit(resource.RLIMIT_FSIZE, (file_size, file_size))
-        if memory is not None:
-            resource.setrlimit(resource.RLIMIT_AS, (memory, memory))
         if as_nobody and os.getuid() == 0:
             os.setgid(NOBODY)
             os.setuid(NOBODY)
-    return prepare if as_nobody or file_size is not None or memory is not None else None
+    return prepare if as_nobody or file_size is not None else None
 
 
-def run(words, questions=b'', program=PROGRAM, file_size=None, memory=None, as_nobody=False):
+def run(words, questions=b'', program=PROGRAM, file_size=None, as_nobody=False):
     """Runs the program with these words over these questions."""
     try:
-        ended = subprocess.run([program, *words], input=questions, capture_output=True, timeout=SECONDS, preexec_fn=before(file_size, memory, as_nobody))
+        ended = subprocess.run([program, *words], input=questions, capture_output=True, timeout=SECONDS, preexec_fn=before(file_size, as_nobody))
     except subprocess.TimeoutExpired:
         return Ran(None, b'', '')
     text = ended.stderr.decode('utf-8', 'replace')
