@@ -170,7 +170,8 @@ class StoreRounds:
         try:
             read = read_store(disk)
         except NoStore as fault:
-            return None if ran.status == 7 and ran.text in [f'bad store at {place}' for place in fault.args] else f'{ran.text!r}, but by the plain reading bad at {fault.args}'
+            is_right = ran.status == 7 and ran.text in [f'bad store at {place}' for place in fault.args]
+            return None if is_right else f'{ran.text!r}, but by the plain reading bad at {fault.args}'
         if read is None:
             return None if ran.text == 'bad store at 0' else f'{ran.text!r} of a store without a batch'
         if ran.status != 0 or replies.pop() or len(replies) != len(lines):

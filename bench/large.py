@@ -4,8 +4,8 @@
     bench/large.py [--program ./audit_cli] [--mode plain] [--only WORD] [--scale 1.0] [--store]
 
 For each shape, at a size and at four times of it: the seconds, the peak of memory, and the exponent of the seconds between the two, after the time of
-an empty run is taken off. With `--store` the logs are taken by `reduce` into a store, whose bytes are printed, and the questions are asked of it. It ends with status 1 if a run has another status than 0, or if an exponent is above 1.3 where the larger run takes a second
-or more.
+an empty run is taken off. With `--store` the logs are taken by `reduce` into a store, whose bytes are printed, and the questions are asked of it. It ends
+with status 1 if a run has another status than 0, or if an exponent is above 1.3 where the larger run takes a second or more.
 """
 import argparse
 import math
@@ -170,7 +170,8 @@ def costs(program, mode, log, questions, store):
         os.unlink(store)
     seconds, peak, status = cost([program, 'reduce', mode, log, store], os.devnull)
     asked, asked_peak, asked_status = cost([program, 'query', store], questions) if status == 0 else (0, 0, 0)
-    return seconds + asked, max(peak, asked_peak), status or asked_status, f', of these {asked:.2f} s of query; a store of {os.path.getsize(store) / 1e6:.0f} MB'
+    stored = f', of these {asked:.2f} s of query; a store of {os.path.getsize(store) / 1e6:.0f} MB'
+    return seconds + asked, max(peak, asked_peak), status or asked_status, stored
 
 
 def main():

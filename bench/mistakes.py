@@ -59,7 +59,8 @@ class Mistakes:
         ran = self.run(*words, **limits)
         changed = [path.name for path, content in zip(keeps, kept) if path.read_bytes() != content]
         if (ran.status, ran.text) != (status, text) or (status and ran.out) or changed:
-            self.faults.append(f'{" ".join(map(str, words))}: status {ran.status}, {ran.text!r}, {ran.out[:80]!r} written, {changed} changed; wanted status {status}, {text!r}')
+            got = f'status {ran.status}, {ran.text!r}, {ran.out[:80]!r} written, {changed} changed'
+            self.faults.append(f'{" ".join(map(str, words))}: {got}; wanted status {status}, {text!r}')
         return ran
 
     def store(self, name, mode='plain', log=TWO_FLOWS):
@@ -81,7 +82,8 @@ def files_that_are_no_stores(here):
     other = here.store('plain.store').read_bytes()
     last = len(one) - 1
     for content, place in [(TWO_FLOWS.read_bytes(), 0), (bytes(100), 0), (b'\xa5', 0), (one[:-1], 0), (one[:13] + b'\x02' + one[14:], 0),
-                           (one[:last] + other, last), (one[:last] + one, last), (one[:last] + b'\xa5' + bytes(8) + b'\x5a', last), (one[:last] + b'\x00', last)]:
+                           (one[:last] + other, last), (one[:last] + one, last), (one[:last] + b'\x00', last),
+                           (one[:last] + b'\xa5' + bytes(8) + b'\x5a', last)]:
         path = here.file('no.store', content)
         for words in (['reduce', 'continuous', TWO_FLOWS, path], ['reduce', 'continuous', TWO_FLOWS, path, '--resume'], ['query', path]):
             here.expect(7, f'bad store at {place}', *words, keeps=[path])

@@ -76,7 +76,8 @@ class Stops:
         ran, answered = self.reduced(mode, store, '--resume'), self.answers(store)
         self.resumed += 1
         if (ran, answered) != wanted:
-            self.faults.append(f'{mode}, {what}: status and counts {ran}, wanted {wanted[0]}; the replies {"are the same" if answered == wanted[1] else "differ"}')
+            replies = 'are the same' if answered == wanted[1] else 'differ'
+            self.faults.append(f'{mode}, {what}: status and counts {ran}, wanted {wanted[0]}; the replies {replies}')
 
     def stop(self, mode, seconds, wanted):
         """One store, whose run and whose resumed run are killed."""

@@ -22,7 +22,8 @@ from plain_store import ADDRESS, BORN, ENTITY, EXTEND, HELD, KEPT, LIFE, NAME, R
 from runs import MODES, PROGRAM, made_log
 from time_log import BYTES_OF_AN_EVENT, machine
 
-KINDS = {KEPT: 'Kept', ENTITY: 'Entity', NAME: 'Name', EXTEND: 'Extend', LIFE: 'Life', HELD: 'Held', ADDRESS: 'Address', BORN: 'Born', WAITING: 'Waiting', STATE: 'State'}
+KINDS = {KEPT: 'Kept', ENTITY: 'Entity', NAME: 'Name', EXTEND: 'Extend', LIFE: 'Life', HELD: 'Held', ADDRESS: 'Address', BORN: 'Born',
+         WAITING: 'Waiting', STATE: 'State'}
 TAKE_ALL = b'take 999999999999999\nsettle\nstat\nend\n'
 HEAD = 6
 
@@ -90,7 +91,8 @@ class Times:
         store, copy, megabytes = self.folder / mode, self.folder / 'copy', self.log.stat().st_size / 1e6
         watch = self.cost(['watch', mode, self.log], TAKE_ALL)
         reduce = self.cost(['reduce', mode, self.log, store], begin=lambda: store.unlink(missing_ok=True))
-        print(f'{mode}, {megabytes:.1f} MB: watch {watch}; reduce {reduce}; {reduce.seconds / watch.seconds:.2f} times ({reduce.processor / watch.processor:.2f})')
+        print(f'{mode}, {megabytes:.1f} MB: watch {watch}; reduce {reduce}; {reduce.seconds / watch.seconds:.2f} times '
+              f'({reduce.processor / watch.processor:.2f})')
         self.kept[mode] = json.loads(reduce.out)['kept']
         opened = self.cost(['query', store])
         stored = store.stat().st_size / 1e6
