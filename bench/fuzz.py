@@ -11,8 +11,10 @@ bound on time and on memory. What is checked of each round:
 - each reply is one line of JSON without control bytes, and with status 0 there is one for each line of the questions up to `end`;
 - `take` gives the bytes that were left of the log, and `stat` counts each line that has ended in exactly one class, as a count apart from the program does.
 
-Every other round is one of hostile stores (bench/fuzz_stores.py): real stores whose bytes, lengths, numbers, rows or batches were changed, moved, cut or
-doubled, and random bytes. `query` and `reduce`, with and without `--resume`, over the same log, a longer, a shorter and another one, are run over them:
+That is one round of four. In two others such a log is taken into a store (bench/fuzz_stores.py): in parts, or as it grows with `--resume`; and by a
+run that stops behind a batch that ends within the log, and then goes on. `query` must answer as `watch` does with a `settle` wherever a part ends. The
+fourth is one of hostile stores: real ones whose bytes, lengths, numbers, rows or batches were changed, moved, cut or doubled, and random bytes. `query` and
+`reduce`, with and without `--resume`, over the same log, a longer, a shorter and another one, are run over them:
 
 - the status is one of the table, and what is refused stays as it was;
 - a store is refused at its place, or answers as bench/plain_store.py reads it, also when a log was taken into it.
@@ -34,7 +36,7 @@ import time
 from pathlib import Path
 
 from compare import HERE
-from fuzz_stores import StoreRounds, asked
+from fuzz_stores import StoreRounds, asked, fault_of_parts, fault_of_restored
 from mutated import MODES, log_of
 
 # Each status that a run of `watch` may have, and the text that standard error begins with.
@@ -148,9 +150,9 @@ def fault_of_replies(log, lines, replies):
     return None
 
 
-def fault_of_log(program, rng, lines, path, counts):
+def fault_of_log(program, rng, log, path, counts):
     """Runs one round of `watch`, counts what it did, and returns what is wrong with it."""
-    log, questions, mode = rng.choice(LOGS)(rng, lines), dialogue(rng), rng.choice(MODES)
+    questions, mode = dialogue(rng), rng.choice(MODES)
     path.write_bytes(log)
     try:
         ran = subprocess.run([program, 'watch', mode, path], input=questions, capture_output=True, timeout=SECONDS)
@@ -193,7 +195,9 @@ def main():
         stores = StoreRounds(program, Path(folder), [lines, made], dialogue, counts)
         while time.monotonic() - begun < options.seconds:
             rng = random.Random(f'{options.seed} {rounds}')
-            fault = stores.fault_of_round(rng) if rounds % 2 else fault_of_log(program, rng, lines, Path(folder, 'log'), counts)
+            log = rng.choice(LOGS)(rng, rng.choice([lines, made]))
+            fault = [lambda: fault_of_log(program, rng, log, Path(folder, 'log'), counts), lambda: stores.fault_of_round(rng),
+                     lambda: fault_of_parts(stores, rng, log), lambda: fault_of_restored(stores, rng, log)][rounds % 4]()
             if fault:
                 print(f'round {rounds} of seed {options.seed}: {fault}')
                 return 1

@@ -8,6 +8,7 @@ from plain_store import CLOSED, OPEN, NoStore, Spelling, answer, batches_of, rea
 from runs import MODES, run
 
 MOST_BATCHES = 4
+BATCH = 4_194_304
 EDGES = [0, 0, 255, 2 ** 31, 2 ** 32, 2 ** 48, 2 ** 60, 2 ** 62, 2 ** 63, 2 ** 64]
 
 
@@ -130,8 +131,26 @@ class StoreRounds:
         log = log_of(rng, rng.choice(self.logs))
         return b'\n'.join(log.split(b'\n')[:rng.choice([10, 30, 10 ** 6, 10 ** 6])])
 
+    def stopped_store(self, rng, mode, log):
+        """A log that goes on with this one, the bytes of its store up to the gate of a batch that ends within this one, and what it is.
+
+        A line that is too long fills the bytes up to there. So records may wait in that batch, and a line have begun.
+        """
+        ends_at = rng.randrange(len(log) + 1)
+        log = b'x' * (BATCH - 1 - ends_at) + b'\n' + log
+        store = self.file('stopped', b'')
+        ran = self.run(['reduce', mode, self.file('log', log), store])
+        self.counts['lines'] += log.count(b'\n')
+        batches = batches_of(store.read_bytes())[0]
+        if ran.status != 0 or len(batches) != 2:
+            return log, None, f'status {ran.status}, {ran.text!r}, {len(batches)} batches'
+        return log, store.read_bytes()[:batches[1][0]] + bytes([CLOSED]), f'a batch that ends {ends_at} bytes into the log'
+
     def real_store(self, rng, mode):
         """The bytes of a store of some logs, and the last of them."""
+        if rng.random() < 0.3:
+            log, disk, text = self.stopped_store(rng, mode, self.log(rng))
+            return (disk, log) if disk else (None, text)
         store = self.file('real', b'')
         for _ in range(rng.choice([1, 1, 2, MOST_BATCHES])):
             log = self.log(rng)
@@ -193,6 +212,50 @@ class StoreRounds:
         if ran.status in (7, 8, 10):
             return None if store.read_bytes() == disk else f'reduce ended with status {ran.status} and changed it'
         return self.fault_of_query(rng, store, store.read_bytes()) if ran.status == 0 or batches_of(disk)[0] else None
+
+
+def fault_of_parts(here, rng, log):
+    """What is wrong with a store of a log that was taken in parts, held against `watch` with a settle where a part ends, or None."""
+    mode, store, grows = rng.choice(MODES), here.file('parts.store', b''), rng.random() < 0.5
+    ends = sorted(rng.randrange(len(log) + 1) for _ in range(rng.choice([0, 1, 2, 3]))) + [len(log)]
+    taken, begin = b'', 0
+    for end in ends:
+        part = here.file('part', log[:end] if grows else log[begin:end])
+        ran = here.run(['reduce', mode, part, store, *(['--resume'] if grows else [])])
+        if ran.status != 0:
+            return f'{mode}: reduce of bytes {begin} to {end} has status {ran.status}, {ran.text!r}'
+        taken, begin = taken + b'take %d\nsettle\n' % (end - begin), end
+    text = fault_against_watch(here, rng, mode, store, log, taken)
+    return text and f'{mode}, parts that end at {ends}, {"grown" if grows else "apart"}: {text}'
+
+
+def fault_against_watch(here, rng, mode, store, log, taken):
+    """What `query` answers otherwise over a store than `watch` over its log, which is taken so, or None."""
+    questions = b''.join(line + b'\n' for line in [b'stat', *asked(here.dialogue(rng))] if not line.startswith((b'take', b'settle')))
+    queried, watched = here.run(['query', store], questions), here.run(['watch', mode, here.file('log', log)], taken + questions)
+    here.counts.update({'stores': 1, 'dialogues': 1, 'lines': log.count(b'\n'), 'questions': questions.count(b'\n')})
+    wanted = watched.out.split(b'\n', taken.count(b'\n'))[-1]
+    if (queried.status, watched.status) == (0, 0) and queried.out == wanted:
+        return None
+    place = next((place for place, (one, other) in enumerate(zip(queried.out, wanted)) if one != other), -1)
+    return (f'status {queried.status} and {watched.status}; from byte {place} on the store answers {queried.out[place:place + 200]!r}, '
+            f'watch {wanted[place:place + 200]!r}')
+
+
+def fault_of_restored(here, rng, log):
+    """What is wrong with a store whose run stopped behind a batch that ends within this log, and with the one that then went on, or None."""
+    mode = rng.choice(MODES)
+    log, disk, text = here.stopped_store(rng, mode, log)
+    if disk is None:
+        return f'{mode}: {text}'
+    disk += rng.choice([b'', rng.randbytes(500)])
+    store = here.file('restored.store', disk)
+    fault = here.fault_of_query(rng, store, disk)
+    if fault:
+        return f'{mode}, {text}: {fault}'
+    ran = here.run(['reduce', mode, here.file('log', log), store, '--resume'])
+    fault = ran.text if ran.status else fault_against_watch(here, rng, mode, store, log, b'take %d\nsettle\n' % len(log))
+    return fault and f'{mode}, {text}, resumed: {fault}'
 
 
 def asked(questions):
