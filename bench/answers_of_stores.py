@@ -21,7 +21,7 @@ from runs import MODES, PROGRAM, TOP, lines_of, made_log, run
 
 EXAMPLES = ['two_flows.log', 'waited_read.log', 'web1_reads_writes.log', 'web1_sample.log']
 # The events of the generated logs, and whether their lines are mixed; the last log is longer than a batch of 4 MiB.
-GENERATED = [(2_000, ['--mix']), (1_500, []), (22_000, ['--mix'])]
+GENERATED = [(2_000, ['--mix']), (1_500, []), (12_000, ['--mix'])]
 BAD = ['back', 'fore x', 'why 0', 'find', 'show 4294967296', 'back 0 1', 'stat ', '', 'why 99999999 0', 'back 4294967295']
 
 
