@@ -1,7 +1,7 @@
 #!/usr/bin/env python3
 """Gives the built program hostile logs and questions, from a random seed, and checks what holds for any input.
 
-    bench/fuzz.py [--program ./audit_cli] [--seed 1] [--seconds 60]
+    bench/fuzz.py [--program ./audit_cli] [--seed 1] [--seconds 60] [--first 0]
 
 Each round makes a log (random bytes, changed lines of real logs, line feeds, times that jump, fall or stand still, names of control bytes) and a
 dialogue (questions in and out of the grammar, random bytes, long lines, no last line feed), and runs `watch` in one of the modes over them, with a
@@ -11,9 +11,19 @@ bound on time and on memory. What is checked of each round:
 - each reply is one line of JSON without control bytes, and with status 0 there is one for each line of the questions up to `end`;
 - `take` gives the bytes that were left of the log, and `stat` counts each line that has ended in exactly one class, as a count apart from the program does.
 
-It prints how many rounds, lines and questions it made, and ends with status 1 at the first thing that doesn't hold, with the seed of its round.
+That is one round of four. In two others such a log is taken into a store (bench/fuzz_stores.py): in parts, or as it grows with `--resume`; and by a
+run that stops behind a batch that ends within the log, and then goes on. `query` must answer as `watch` does with a `settle` wherever a part ends. The
+fourth is one of hostile stores: real ones whose bytes, lengths, numbers, rows or batches were changed, moved, cut or doubled, and random bytes. `query` and
+`reduce`, with and without `--resume`, over the same log, a longer, a shorter and another one, are run over them:
+
+- the status is one of the table, and what is refused stays as it was;
+- a store is refused at its place, or answers as bench/plain_store.py reads it, also when a log was taken into it.
+
+It prints how many lines, dialogues, questions and stores it made, with the number of runs by status, and ends with status 1 at the first thing
+that doesn't hold, with the seed of its round.
 """
 import argparse
+import collections
 import json
 import os
 import random
@@ -23,13 +33,15 @@ import subprocess
 import sys
 import tempfile
 import time
+from pathlib import Path
 
 from compare import HERE
+from fuzz_stores import StoreRounds, asked, fault_of_parts, fault_of_restored
 from mutated import MODES, log_of
 
-# Each status and the text that standard error begins with.
-STATUSES = {0: b'', 2: b'audit_cli: bad words\n', 3: b'audit_cli: no memory\n', 4: b'audit_cli: read fault\n',
-            5: b'audit_cli: write fault\n', 9: b'audit_cli: full: '}
+# Each status that a run of `watch` may have, and the text that standard error begins with.
+WATCHED = {0: b'', 2: b'audit_cli: bad words\n', 3: b'audit_cli: no memory\n', 4: b'audit_cli: read fault\n',
+           5: b'audit_cli: write fault\n', 9: b'audit_cli: full: '}
 MEMORY = 1 << 30
 SECONDS = 60
 TAKEN = re.compile(rb'take ([0-9]{1,15})')
@@ -108,14 +120,6 @@ def dialogue(rng):
     return b'\n'.join(lines) + rng.choice([b'\n', b''])
 
 
-def asked(questions):
-    """The lines of the questions up to `end`, the last one also without a line feed."""
-    lines = questions.split(b'\n')
-    if not lines[-1]:
-        lines.pop()
-    return lines[:lines.index(b'end') + 1] if b'end' in lines else lines
-
-
 def ended_lines(log, taken, settled):
     """How many lines of the first bytes of a log have ended, for a settle after which nothing was taken."""
     front = log[:taken]
@@ -146,20 +150,16 @@ def fault_of_replies(log, lines, replies):
     return None
 
 
-def limited():
-    resource.setrlimit(resource.RLIMIT_AS, (MEMORY, MEMORY))
-
-
-def fault_of_round(program, rng, lines, path):
-    """Runs one round, and returns what is wrong, how many lines its log has, and how many questions it asked."""
-    log, questions, mode = rng.choice(LOGS)(rng, lines), dialogue(rng), rng.choice(MODES)
-    with open(path, 'wb') as file:
-        file.write(log)
+def fault_of_log(program, rng, log, path, counts):
+    """Runs one round of `watch`, counts what it did, and returns what is wrong with it."""
+    questions, mode = dialogue(rng), rng.choice(MODES)
+    path.write_bytes(log)
     try:
-        ran = subprocess.run([program, 'watch', mode, path], input=questions, capture_output=True, timeout=SECONDS, preexec_fn=limited)
+        ran = subprocess.run([program, 'watch', mode, path], input=questions, capture_output=True, timeout=SECONDS)
     except subprocess.TimeoutExpired:
-        return f'{mode}: no end after {SECONDS} seconds', 0, 0
-    wanted, replies, text = asked(questions), ran.stdout.split(b'\n'), STATUSES.get(ran.returncode)
+        return f'{mode}: no end after {SECONDS} seconds'
+    wanted, replies, text = asked(questions), ran.stdout.split(b'\n'), WATCHED.get(ran.returncode)
+    counts.update({'dialogues': 1, 'lines': log.count(b'\n'), 'questions': len(wanted), f'status {ran.returncode}': 1})
     fault = None
     if text is None or not ran.stderr.startswith(text) or (not text and ran.stderr):
         fault = f'status {ran.returncode}, {ran.stderr[:200]!r}'
@@ -169,27 +169,40 @@ def fault_of_round(program, rng, lines, path):
         fault = f'{len(wanted)} lines of questions and {len(replies)} replies'
     else:
         fault = fault_of_replies(log, wanted, replies)
-    return fault and f'{mode}: {fault}', log.count(b'\n'), len(wanted)
+    return fault and f'{mode}: {fault}'
+
+
+def said(counts):
+    """What was counted, in words."""
+    statuses = ', '.join(f'{count} of {name}' for name, count in sorted(counts.items()) if name.startswith('status'))
+    return f'{counts["dialogues"]} dialogues over {counts["lines"]} lines and {counts["stores"]} stores, with {counts["questions"]} questions; runs: {statuses}'
 
 
 def main():
-    parser = argparse.ArgumentParser()
+    parser = argparse.ArgumentParser(description=__doc__, formatter_class=argparse.RawDescriptionHelpFormatter)
     parser.add_argument('--program', default=os.path.join(HERE, '..', 'crates', 'audit_cli', 'out', 'audit_cli'))
     parser.add_argument('--seed', type=int, default=1)
     parser.add_argument('--seconds', type=float, default=60)
+    parser.add_argument('--first', type=int, default=0, help='the round to begin with')
     options = parser.parse_args()
+    # All runs have this bound of their parent.
+    resource.setrlimit(resource.RLIMIT_AS, (MEMORY, MEMORY))
     with open(os.path.join(HERE, '..', 'examples', 'web1_sample.log'), 'rb') as file:
         lines = file.read().splitlines()
-    begun, rounds, all_lines, all_questions = time.monotonic(), 0, 0, 0
+    made = subprocess.run([sys.executable, os.path.join(HERE, 'make_log.py'), '1', '2000', '--mix'], stdout=subprocess.PIPE, check=True).stdout.splitlines()
+    begun, rounds, counts, program = time.monotonic(), options.first, collections.Counter(), os.path.abspath(options.program)
     with tempfile.TemporaryDirectory() as folder:
+        stores = StoreRounds(program, Path(folder), [lines, made], dialogue, counts)
         while time.monotonic() - begun < options.seconds:
             rng = random.Random(f'{options.seed} {rounds}')
-            fault, some_lines, some_questions = fault_of_round(os.path.abspath(options.program), rng, lines, os.path.join(folder, 'log'))
+            log = rng.choice(LOGS)(rng, rng.choice([lines, made]))
+            fault = [lambda: fault_of_log(program, rng, log, Path(folder, 'log'), counts), lambda: stores.fault_of_round(rng),
+                     lambda: fault_of_parts(stores, rng, log), lambda: fault_of_restored(stores, rng, log)][rounds % 4]()
             if fault:
                 print(f'round {rounds} of seed {options.seed}: {fault}')
                 return 1
-            rounds, all_lines, all_questions = rounds + 1, all_lines + some_lines, all_questions + some_questions
-    print(f'seed {options.seed}: {rounds} dialogues over {all_lines} lines with {all_questions} questions, nothing wrong')
+            rounds += 1
+    print(f'seed {options.seed}: {said(counts)}; nothing wrong')
     return 0
 
 

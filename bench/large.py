@@ -1,11 +1,11 @@
 #!/usr/bin/env python3
 """Gives the built program large hostile logs and dialogues, and prints what each costs at two sizes.
 
-    bench/large.py [--program ./audit_cli] [--mode plain] [--only WORD] [--scale 1.0]
+    bench/large.py [--program ./audit_cli] [--mode plain] [--only WORD] [--scale 1.0] [--store]
 
 For each shape, at a size and at four times of it: the seconds, the peak of memory, and the exponent of the seconds between the two, after the time of
-an empty run is taken off. It ends with status 1 if a run has another status than 0, or if an exponent is above 1.3 where the larger run takes a second
-or more.
+an empty run is taken off. With `--store` the logs are taken by `reduce` into a store, whose bytes are printed, and the questions are asked of it. It ends
+with status 1 if a run has another status than 0, or if an exponent is above 1.3 where the larger run takes a second or more.
 """
 import argparse
 import math
@@ -70,6 +70,15 @@ def chained_forks(size):
         yield call(number, 57, number, exit_=number + 1, ppid=number - 1) + end(number)
 
 
+def copied_descriptors(size):
+    """A process opens a hundredth as many sockets as it then forks children, none of which is seen to end."""
+    opened = size // 100
+    for number in range(1, opened):
+        yield call(number, 41, 9, exit_=number + 2) + end(number)
+    for number in range(opened, opened + size):
+        yield call(number, 57, 9, exit_=number + 100) + end(number)
+
+
 def long_names(size):
     for number in range(1, size):
         yield call(number, 257, 9, exit_=3, a2=0x200) + path(number, f'"/{number:x>4095}"', number) + end(number)
@@ -131,6 +140,7 @@ SHAPES = {
     'waiting groups': (250_000, waiting_groups, take_all),
     'descriptors of one process': (250_000, descriptors, take_all),
     'a chain of forks': (250_000, chained_forks, take_all),
+    'forks of a process with descriptors': (5_000, copied_descriptors, take_all),
     'names of 4,096 bytes, all different': (25_000, long_names, take_all),
     'one name of 4,096 bytes': (25_000, one_long_name, take_all),
     'times that fall': (250_000, falling_times, take_all),
@@ -142,14 +152,26 @@ SHAPES = {
 }
 
 
-def cost(program, mode, log, questions):
+def cost(words, questions):
     """The seconds and the peak of memory in MB of one run, and its status."""
     with open(questions, 'rb') as asked:
         begun = time.perf_counter()
-        child = subprocess.Popen([program, 'watch', mode, log], stdin=asked, stdout=subprocess.DEVNULL, stderr=subprocess.DEVNULL)
+        child = subprocess.Popen(words, stdin=asked, stdout=subprocess.DEVNULL, stderr=subprocess.DEVNULL)
         _, status, usage = os.wait4(child.pid, 0)
         child.returncode = 0
         return time.perf_counter() - begun, usage.ru_maxrss / 1024, os.waitstatus_to_exitcode(status)
+
+
+def costs(program, mode, log, questions, store):
+    """What a run of `watch` costs, or runs of `reduce` and `query`: the seconds, the peak of memory and the first status but 0, and the store's bytes."""
+    if store is None:
+        return *cost([program, 'watch', mode, log], questions), ''
+    if os.path.exists(store):
+        os.unlink(store)
+    seconds, peak, status = cost([program, 'reduce', mode, log, store], os.devnull)
+    asked, asked_peak, asked_status = cost([program, 'query', store], questions) if status == 0 else (0, 0, 0)
+    stored = f', of these {asked:.2f} s of query; a store of {os.path.getsize(store) / 1e6:.0f} MB'
+    return seconds + asked, max(peak, asked_peak), status or asked_status, stored
 
 
 def main():
@@ -158,10 +180,12 @@ def main():
     parser.add_argument('--mode', default='plain')
     parser.add_argument('--only', default='')
     parser.add_argument('--scale', type=float, default=1.0)
+    parser.add_argument('--store', action='store_true')
     options = parser.parse_args()
     program, bad = os.path.abspath(options.program), 0
     with tempfile.TemporaryDirectory() as folder:
         log, questions = os.path.join(folder, 'log'), os.path.join(folder, 'questions')
+        store = os.path.join(folder, 'store') if options.store else None
         for name, (size, log_of, asked_of) in SHAPES.items():
             if options.only not in name:
                 continue
@@ -173,10 +197,10 @@ def main():
                 with open(questions, 'wb') as file:
                     file.writelines(asked_of(count))
                 megabytes = (os.path.getsize(log) + os.path.getsize(questions)) / 1e6
-                taken, peak, status = cost(program, options.mode, log, questions)
+                taken, peak, status, stored = costs(program, options.mode, log, questions, store)
                 seconds.append(max(taken - 0.005, 0.001))
                 bad += status != 0
-                print(f'{options.mode}, {name}, {count}: {megabytes:.0f} MB in {taken:.2f} s, peak {peak:.0f} MB, status {status}', flush=True)
+                print(f'{options.mode}, {name}, {count}: {megabytes:.0f} MB in {taken:.2f} s, peak {peak:.0f} MB, status {status}{stored}', flush=True)
             exponent = math.log(seconds[1] / seconds[0], 4)
             bad += exponent > STEEPEST and seconds[1] >= 1
             print(f'{options.mode}, {name}: exponent {exponent:.2f}', flush=True)
