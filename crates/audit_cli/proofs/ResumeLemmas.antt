@@ -1,13 +1,12 @@
 -- A run that was stopped, and one that goes on.
-use Rattle.std.proofs.Common.{true, ◌≡◌, ◌≤◌, ◌+◌, ◌-◌, ℕ, zero, suc, List, [], ◌∷◌, ◌++◌, map, length, take, drop, refl, ap, sym, subst, arith, append_assoc, ◌∙◌, inl, inr}
+use Rattle.std.proofs.Common.{true, ◌≡◌, ◌≤◌, ◌+◌, ℕ, suc, List, [], ◌∷◌, ◌++◌, map, length, take, drop, refl, ap, sym, arith, append_assoc, ◌∙◌, inl, inr}
 use Rattle.std.specs.Prelude.{◌⊎◌}
 use Rattle.std.proofs.lemmas.List.{append-nil, length-take, length-drop, drop-drop, map-append, take-append-drop}
 use Rattle.flow_base.specs.declared.limits.Limits.{Limits}
 use Rattle.audit_lex.specs.History.{History, Step, Byte, Settle}
 use Rattle.reach_model.specs.declared.modes.Mode.{Mode}
 use Rattle.ingest.specs.Counting.{bytes_in}
-use Rattle.ingest.specs.Storing.{StoresHistory}
-use Rattle.audit_cli.specs.Saves.{IsReached, StoresFront}
+use Rattle.audit_cli.specs.Saves.{IsReached}
 use Rattle.audit_cli.specs.Stores.{GoesOn, HasTaken, begun_of, steps_of, whole_of}
 use Rattle.audit_cli.proofs.BackLemmas.{count_bytes}
 

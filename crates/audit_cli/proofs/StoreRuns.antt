@@ -41,7 +41,7 @@ use Rattle.audit_cli.specs.declared.halt.StoreHalt.TheVariants as over
 use Rattle.audit_cli.specs.Dialogue.{Moment, QuestionsStop, asks, lines_in}
 use Rattle.audit_cli.specs.Course.{EndTalked, HasCauses, IsDue, kind_of, never}
 use Rattle.audit_cli.specs.Saves.{Begun, CutShort, IsAllPutAway, IsCutShort, IsOf, IsPutAway, IsReached, PassesStore, Start, since}
-use Rattle.audit_cli.specs.StoreHalts.{HasStoreCauses, IsRunDue, NamesNoBatch, no_lengths, open_halt, over_run, restore_halt}
+use Rattle.audit_cli.specs.StoreHalts.{HasStoreCauses, IsRunDue, NamesNoBatch, open_halt, over_run, restore_halt}
 use Rattle.audit_cli.specs.Stores.{AnswerCourse, FitsDialogue, FitsWhole, HasBegun, HasNoBatch, HasTaken, IsDoneOrRefused, IsOpenAt, IsQueried, IsReduceRun, IsReopened, IsShort, IsWatchRun, PassesIn, Reduces, StoodAt, StoresNothing, StoresUnsoundly, WaitsUnsoundly, Watches, WroteFront, WroteStat, begun_of, first_of, querying, settled_all, steps_of, whole_of}
 use Rattle.audit_cli.specs.Statuses.{RefusesStore, status_for, store_status}
 use Rattle.audit_cli.proofs.TalkLemmas.{appends_none, nothing_said, other_halt}

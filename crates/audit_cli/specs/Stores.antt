@@ -23,7 +23,6 @@ use Rattle.ingest.specs.PartTaken.{StandsWith}
 use Rattle.ingest.specs.Replies.{IsReply}
 use Rattle.ingest.specs.Restoring.{IsOpen, OfState}
 use Rattle.ingest.specs.Saving.{IsSaved}
-use Rattle.ingest.specs.StandsFor.{StandsFor}
 use Rattle.ingest.specs.Stops.{Stops}
 use Rattle.ingest.specs.Storing.{StoresHistory}
 use Rattle.ingest.specs.Waiting.{AreSoundWaiting}
