@@ -5,6 +5,7 @@ mod JobLemmas
 mod ListenLemmas
 mod MomentLemmas
 mod Numbers
+mod ResumeLemmas
 mod SaveLemmas
 mod StoreLemmas
 mod StoreRuns

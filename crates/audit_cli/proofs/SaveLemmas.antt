@@ -1,19 +1,18 @@
 -- What is saved of a log as it is taken.
-use Rattle.std.proofs.Common.{Bool, true, false, None, ◌≡◌, ◌≤◌, ◌+◌, ◌-◌, ◌^◌, ℕ, List, [], ◌∷◌, ◌++◌, map, length, take, drop, refl, ap, sym, subst, arith, append_assoc, ◌∙◌, Option, Some, inl, inr, flat_map}
-use Rattle.std.specs.Prelude.{◌⊎◌, ⊤, if◌then◌else◌, cond, Result, Ok, Err, OnOk, IfErr}
+use Rattle.std.proofs.Common.{Bool, true, false, None, ◌≡◌, ◌≤◌, ◌+◌, ◌-◌, ◌^◌, ℕ, List, [], ◌∷◌, ◌++◌, map, length, take, drop, refl, ap, sym, subst, arith, append_assoc, ◌∙◌, Option, Some, inl, inr}
+use Rattle.std.specs.Prelude.{◌⊎◌, if◌then◌else◌, cond, Result, Ok, Err, IfErr}
 use Rattle.std.proofs.lemmas.List.{append-nil, length-take, take-append-drop, take_all as list_take_all}
 use Rattle.std.proofs.lemmas.List.Concat.{flat_map-append}
 use Rattle.std.proofs.lemmas.List.Sums.{sum_by-append}
 use Rattle.std.proofs.Math.Seq.{drop-append_seam}
 use Rattle.flow_base.specs.declared.limits.Limits.{Limits}
 use Rattle.flow_base.specs.declared.limits.Full.{Full}
-use Rattle.outside.specs.Disk.{DiskState, IsDisk, IsDurable, LeavesOnly}
-use Rattle.audit_lex.specs.History.{History, Step, Byte, Settle, with_bytes}
+use Rattle.outside.specs.Disk.{DiskState, IsDurable, LeavesOnly}
+use Rattle.audit_lex.specs.History.{History, Byte, Settle}
 use Rattle.batch_log.specs.declared.log.CommitFault.{CommitFault}
 use Rattle.batch_log.specs.declared.log.CommitFault.TheVariants as commit
 use Rattle.reach_model.specs.declared.modes.Mode.{Mode}
 use Rattle.reduced_store.specs.OnDisk.{OnDisk, SameBut}
-use Rattle.ingest.specs.Asking.{StandsStill}
 use Rattle.ingest.specs.Counting.{is_byte, bytes_in}
 use Rattle.ingest.specs.Parts.{Engine}
 use Rattle.ingest.specs.PartTaken.{HasPart, StandsWith}
@@ -31,7 +30,7 @@ use Rattle.audit_cli.specs.Course.{At, CountsOn, HasCauses, StandsAt, kind_of}
 use Rattle.audit_cli.specs.Saves.{Begun, IsAllPutAway, IsCutShort, IsOf, IsPutAway, IsReached, CutShort, NamesNoStore, PassesStore, SavesLawfully, Start, StoresFront, byte_of, bytes_of, since}
 use Rattle.audit_cli.proofs.BackLemmas.{count_bytes}
 use Rattle.audit_cli.proofs.MomentLemmas.{take_all, take_both}
-use Rattle.audit_cli.proofs.StoreLemmas.{StaysSaved, bytes_more, bytes_settled, leaves_both, leaves_from, leaves_weaker}
+use Rattle.audit_cli.proofs.StoreLemmas.{StaysSaved, bytes_more, leaves_both, leaves_weaker}
 
 -- ---- bytes of a log, and what came since the begin of a run
 

@@ -1,23 +1,19 @@
 -- A log that is taken into a store.
-use Rattle.std.proofs.Common.{true, ◌≡◌, ◌≤◌, ◌<◌, ◌+◌, ◌-◌, ◌^◌, ℕ, List, [], ◌∷◌, ◌++◌, map, length, take, drop, refl, ap, sym, subst, arith, append_assoc, ◌∙◌, Option, inl, inr}
+use Rattle.std.proofs.Common.{◌≡◌, ◌≤◌, ◌+◌, ℕ, List, [], ◌∷◌, ◌++◌, map, length, take, drop, refl, ap, sym, subst, arith, append_assoc, ◌∙◌, Option, inl, inr}
 use Rattle.std.specs.Prelude.{◌⊎◌, cond, Result, Ok, Err, OnErr, IfErr}
-use Rattle.std.proofs.lemmas.List.{append-nil, map-append, take-append-drop, length-take, length-drop, take_all as list_take_all}
+use Rattle.std.proofs.lemmas.List.{map-append, take-append-drop, take_all as list_take_all}
 use Rattle.std.proofs.lemmas.List.Sums.{sum_by-append}
 use Rattle.flow_base.specs.declared.limits.Limits.{Limits}
 use Rattle.flow_base.specs.declared.limits.Full.{Full}
 use Rattle.outside.specs.Cause.{Rose}
-use Rattle.outside.specs.Disk.{DiskState, IsDisk, IsDurable, LeavesOnly, OnlyLooks, UsesDisk}
+use Rattle.outside.specs.Disk.{DiskState, IsDisk, LeavesOnly, OnlyLooks, UsesDisk}
 use Rattle.audit_lex.specs.History.{History, Byte, Settle, with_bytes}
 use Rattle.reach_model.specs.declared.modes.Mode.{Mode}
 use Rattle.reduced_store.specs.OnDisk.{OnDisk, SameBut}
-use Rattle.ingest.specs.Asking.{StandsStill}
 use Rattle.ingest.specs.Counting.{is_byte, bytes_in}
 use Rattle.ingest.specs.Parts.{Engine}
-use Rattle.ingest.specs.PartTaken.{HasPart, StandsWith}
-use Rattle.ingest.specs.Saving.{IsEither, IsSaved, LeavesEither, Saves}
-use Rattle.ingest.specs.StandsFor.{StandsFor}
+use Rattle.ingest.specs.Saving.{IsSaved}
 use Rattle.ingest.specs.Stops.{Stops}
-use Rattle.ingest.specs.Storing.{StoresHistory}
 use Rattle.std.specs.Io.KnownBytes.{Appends}
 use Rattle.report_json.specs.declared.ask.Ask.TheVariants as ask
 use Rattle.report_json.specs.declared.reply.Reply.{Reply}
@@ -29,7 +25,7 @@ use Rattle.audit_cli.specs.Course.{IsDue, never}
 use Rattle.audit_cli.specs.Stores.{WroteFront, settled_all}
 use Rattle.audit_cli.proofs.BackLemmas.{count_bytes}
 use Rattle.audit_cli.proofs.TalkLemmas.{appends_none}
-use Rattle.audit_cli.proofs.MomentLemmas.{Stay, due_weaker, take_all, take_both}
+use Rattle.audit_cli.proofs.MomentLemmas.{Stay, due_weaker}
 
 -- ---- bytes of a history
 

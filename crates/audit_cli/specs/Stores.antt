@@ -1,6 +1,7 @@
 -- A run over a store: what is on its disk at each moment, and what it writes.
 use Rattle.std.specs.Prelude.{◌≡◌, ◌⊎◌, ◌≤◌, ◌<◌, Bool, true, false, if◌then◌else◌, ⊤, ℕ, ◌+◌, List, [], ◌∷◌, ◌++◌, map, length, drop, unwrap_or, Option, None, Some, Result, Ok, Err, OnOk, OnErr, IfErr}
 use Rattle.std.specs.Io.KnownBytes.{Appends}
+use Rattle.flow_base.specs.declared.limits.Full.{Full}
 use Rattle.flow_base.specs.declared.limits.Limits.{Limits}
 use Rattle.outside.specs.Disk.{DiskState, IsDurable, LeavesOnly}
 use Rattle.audit_lex.specs.History.{History, Byte, Settle}
@@ -22,19 +23,19 @@ use Rattle.ingest.specs.PartTaken.{StandsWith}
 use Rattle.ingest.specs.Replies.{IsReply}
 use Rattle.ingest.specs.Restoring.{IsOpen, OfState}
 use Rattle.ingest.specs.Saving.{IsSaved}
-use Rattle.ingest.specs.StandsFor.{StandsFor}
 use Rattle.ingest.specs.Stops.{Stops}
 use Rattle.ingest.specs.Storing.{StoresHistory}
 use Rattle.ingest.specs.Waiting.{AreSoundWaiting}
 use Rattle.audit_cli.specs.declared.halt.StoreHalt.{StoreHalt}
 use Rattle.audit_cli.specs.declared.halt.StoreHalt.TheVariants as over
 use Rattle.audit_cli.specs.declared.halt.Halt.TheVariants as halt
-use Rattle.audit_cli.specs.Dialogue.{Moment, QuestionsStop, asks, lines_in, settled_on, taken_on}
+use Rattle.audit_cli.specs.Dialogue.{Moment, QuestionsStop, StopsAfter, asks, lines_in, settled_on, taken_on}
 use Rattle.audit_cli.specs.Course.{At, EndCourse, kind_of}
 use Rattle.audit_cli.specs.Saves.{Begun, IsOf, IsPutAway, IsReached, PassesStore, since}
 use Rattle.audit_cli.specs.StoreHalts.{IsRunDue}
 use Rattle.audit_cli.specs.Statuses.{store_status}
 use Rattle.audit_cli.specs.declared.status.Status.{Status}
+use Rattle.audit_cli.specs.declared.status.Status.TheVariants as status
 
 -- what a run over a log began from: at the log's first byte, or behind those of it that the store has taken
 abbrev pub begun_of : (resume : Bool) → History → (before : ℕ) → List ℕ → Begun
@@ -241,3 +242,42 @@ pub record IsQueryRun (Stood : Mode → History → Type 0) (limits : Limits) (l
 -- the status is that of an outcome with this
 abbrev pub EndsAs : Status → (Result Unit StoreHalt → Type 0) → Type 0
 EndsAs status P = (outcome : Result Unit StoreHalt) × (status ≡ store_status outcome) × P outcome
+
+-- ---- runs that were stopped
+
+-- The bytes store a history from which a run of `reduce --resume` over this log comes to the same end, or they store that end
+pub record GoesOn (limits : Limits) (mode : Mode) (end : History) (log bytes : List ℕ) : Type 0 where
+  pub history : History
+  pub part : ℕ
+  pub stores : StoresHistory limits mode bytes history part
+  pub ends : (HasTaken true part log × (whole_of (begun_of true history part log) ≡ end)) ⊎ (history ≡ end)
+
+-- ---- a run that nothing stops
+
+-- no limit would be passed by all of the log, settled, nor by a commit of a front of it
+pub record FitsWhole (limits : Limits) (mode : Mode) (begun : Begun) : Type 0 where
+  pub engine : (full : Full) → ¬ Stops limits (whole_of begun) full
+  pub store : (full : Full) → ¬ PassesStore limits mode begun (steps_of begun) full
+
+-- no limit would be passed by what these questions take, nor by a commit of a front of what is taken of the log at some moment
+pub record FitsDialogue (limits : Limits) (mode : Mode) (begun : Begun) (asked : List ℕ) : Type 0 where
+  pub engine : (said : List Reply) (to : Moment) (full : Full) → ¬ StopsAfter limits (QuestionsStop limits asked) (first_of mode begun) (asks limits (lines_in asked)) said to full
+  pub store : (m : Moment) → IsOf begun m → (full : Full) → ¬ PassesStore limits mode begun (since begun m) full
+
+-- the run is done, or an allocation failed, or its store was refused
+abbrev pub IsDoneOrRefused : Status → Type 0
+IsDoneOrRefused status.Done = ⊤
+IsDoneOrRefused status.NoMemory = ⊤
+IsDoneOrRefused (status.BadStore place) = ⊤
+IsDoneOrRefused (status.WrongMode kept asked) = ⊤
+IsDoneOrRefused _ = ⊥
+
+-- `reduce` ends so over a disk that has a history so, if no device failed and no limit would be passed
+abbrev pub ReducesAll : Status → (failed : Type 0) → (resume : Bool) → (Stood : History → ℕ → Type 0) → Limits → Mode → (log : Option (List ℕ)) → Type 0
+ReducesAll ended failed resume Stood limits mode log = (h : History) (before : ℕ) (bytes : List ℕ) → Stood h before → log ≡ Some bytes → HasTaken resume before bytes
+    → ¬ failed → FitsWhole limits mode (begun_of resume h before bytes) → IsDoneOrRefused ended
+
+-- `watch` ends so
+abbrev pub WatchesAll : Status → (failed : Type 0) → (Stood : History → ℕ → Type 0) → Limits → Mode → (log asked : Option (List ℕ)) → Type 0
+WatchesAll ended failed Stood limits mode log asked = (h : History) (before : ℕ) (bytes questions : List ℕ) → Stood h before → log ≡ Some bytes → asked ≡ Some questions
+    → ¬ failed → FitsDialogue limits mode (begun_of false h before bytes) questions → IsDoneOrRefused ended

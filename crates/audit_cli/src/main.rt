@@ -18,6 +18,7 @@ mod back;
 mod command_line;
 mod halt;
 mod hear;
+mod laws;
 mod listen;
 mod log;
 mod run;

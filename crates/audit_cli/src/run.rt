@@ -12,7 +12,7 @@ ghost use Rattle.audit_cli.specs.Headline.{Tells, TellsLog, LeavesQuestions};
 ghost use Rattle.audit_cli.specs.Standard.{IsStandard, WithStandard};
 ghost use Rattle.audit_cli.specs.Statuses.{RefusesStore, StatusCause, store_status};
 ghost use Rattle.audit_cli.specs.StoreHalts.{no_modes, no_place};
-ghost use Rattle.audit_cli.specs.Stores.{EndsAs, IsBadIn, IsBadOrNone, IsQueryRun, IsReduceRun, IsWatchRun, IsWrongIn, StoodAt};
+ghost use Rattle.audit_cli.specs.Stores.{EndsAs, IsBadIn, IsBadOrNone, IsQueryRun, IsReduceRun, IsWatchRun, IsWrongIn, ReducesAll, StoodAt, WatchesAll};
 
 use crate::back::back;
 use crate::halt::Halt;
@@ -271,6 +271,23 @@ pub fn audit_run<L: Source, Q: Source, O: Sink, D: Disk>(
         → EndsAs result.status (IsWatchRun (StoodAt D.state limits.now kept disk) limits.now kept
         (D.state disk) (D.state result.disk) (L.left log.old) (L.left log.new)
         (Q.left questions.old) (O.written out.old) (O.written out.new)) }
+    // If no device fails and no limit would be passed, such a run is done, unless an allocation failed
+    // or the store was refused.
+    ensures reduces { (kept : Mode) (name store : List ℕ) (resume : Bool)
+        → job_of (map string_bytes words.now) ≡ Some (Job.Reduce kept name store resume)
+        → ReducesAll result.status ((Rose (L.faults log.old) (L.faults log.new) (L.spent log.new)
+        ⊎ Rose (Q.faults questions.old) (Q.faults questions.new) (Q.spent questions.new))
+        ⊎ (Rose (O.faults out.old) (O.faults out.new) (O.spent out.new)
+        ⊎ Rose (D.faults disk) (D.faults result.disk) (D.spent result.disk)))
+        resume (StoodAt D.state limits.now kept disk) limits.now kept (L.left log.old) }
+    ensures watches { (kept : Mode) (name store : List ℕ)
+        → job_of (map string_bytes words.now) ≡ Some (Job.WatchStore kept name store)
+        → WatchesAll result.status ((Rose (L.faults log.old) (L.faults log.new) (L.spent log.new)
+        ⊎ Rose (Q.faults questions.old) (Q.faults questions.new) (Q.spent questions.new))
+        ⊎ (Rose (O.faults out.old) (O.faults out.new) (O.spent out.new)
+        ⊎ Rose (D.faults disk) (D.faults result.disk) (D.spent result.disk)))
+        (StoodAt D.state limits.now kept disk) limits.now kept (L.left log.old)
+        (Q.left questions.old) }
     // Over such a disk `query` answers from its history, and leaves the disk as it is.
     ensures queried { (store : List ℕ)
         → job_of (map string_bytes words.now) ≡ Some (Job.Query store)
@@ -424,6 +441,21 @@ pub fn audit_main<L: Source, Q: Source, O: Sink, D: Disk>(
         → EndsAs result.status (IsWatchRun (StoodAt D.state limits kept disk) limits kept
         (D.state disk) (D.state result.disk) (L.left log.old) (L.left log.new)
         (Q.left questions.old) (O.written out.old) (O.written out.new))) }
+    ensures reduces { WithStandard (λ limits. (kept : Mode) (name store : List ℕ) (resume : Bool)
+        → job_of (map string_bytes words.now) ≡ Some (Job.Reduce kept name store resume)
+        → ReducesAll result.status ((Rose (L.faults log.old) (L.faults log.new) (L.spent log.new)
+        ⊎ Rose (Q.faults questions.old) (Q.faults questions.new) (Q.spent questions.new))
+        ⊎ (Rose (O.faults out.old) (O.faults out.new) (O.spent out.new)
+        ⊎ Rose (D.faults disk) (D.faults result.disk) (D.spent result.disk)))
+        resume (StoodAt D.state limits kept disk) limits kept (L.left log.old)) }
+    ensures watches { WithStandard (λ limits. (kept : Mode) (name store : List ℕ)
+        → job_of (map string_bytes words.now) ≡ Some (Job.WatchStore kept name store)
+        → WatchesAll result.status ((Rose (L.faults log.old) (L.faults log.new) (L.spent log.new)
+        ⊎ Rose (Q.faults questions.old) (Q.faults questions.new) (Q.spent questions.new))
+        ⊎ (Rose (O.faults out.old) (O.faults out.new) (O.spent out.new)
+        ⊎ Rose (D.faults disk) (D.faults result.disk) (D.spent result.disk)))
+        (StoodAt D.state limits kept disk) limits kept (L.left log.old)
+        (Q.left questions.old)) }
     ensures queried { WithStandard (λ limits. (store : List ℕ)
         → job_of (map string_bytes words.now) ≡ Some (Job.Query store)
         → EndsAs result.status (IsQueryRun

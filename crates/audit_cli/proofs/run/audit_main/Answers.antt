@@ -35,3 +35,9 @@ returns-clause-watched g c = (c.standard_limits-limits.result, c.standard_limits
 
 pub returns-clause-unwatched : goal.returns-clause-unwatched
 returns-clause-unwatched g c = (c.standard_limits-limits.result, c.standard_limits-limits.ensures, c.audit_run.ensures.unwatched)
+
+pub returns-clause-reduces : goal.returns-clause-reduces
+returns-clause-reduces g c = (c.standard_limits-limits.result, c.standard_limits-limits.ensures, c.audit_run.ensures.reduces)
+
+pub returns-clause-watches : goal.returns-clause-watches
+returns-clause-watches g c = (c.standard_limits-limits.result, c.standard_limits-limits.ensures, c.audit_run.ensures.watches)

@@ -1,11 +1,11 @@
-use Rattle.std.proofs.Common.{ap, refl, ◌≡◌, subst, Some, Err, sym, inr, ◌∙◌}
+use Rattle.std.proofs.Common.{ap, false, inl, refl, ◌≡◌, subst, Some, Err, sym, inr, ◌∙◌}
 use Rattle.audit_cli.proofs.JobLemmas.{headline, front_written, nothing_written, full_exact, complete, job_same, same_log, same_questions, ended_within, done_only, read_fault}
 use Rattle.audit_cli.specs.declared.halt.Halt.TheVariants as halt
 use Rattle.audit_cli.specs.declared.halt.StoreHalt.TheVariants as over
-use Rattle.audit_cli.proofs.StoreRuns.{queried_none, refuses_by, unbegun_run, unbegun_watch}
+use Rattle.audit_cli.proofs.StoreRuns.{queried_none, reduced_all, refuses_by, unbegun_run, unbegun_watch, watched_all}
 use Rattle.reach_model.specs.declared.modes.Mode.{Mode}
 use Rattle.audit_cli.specs.Statuses.{RefusesStore, store_status}
-use Rattle.audit_cli.specs.Stores.{IsBadIn, IsWrongIn, StoodAt}
+use Rattle.audit_cli.specs.Stores.{FitsDialogue, FitsWhole, IsBadIn, IsWrongIn, StoodAt, begun_of}
 use Rattle.audit_cli.specs.declared.stores.Taking.TheVariants as taking
 use Rattle.audit_cli.proofs.run.audit_run.Goals as goal
 
@@ -111,3 +111,26 @@ returns-in-Ok-WatchStore-clause-unwatched g c = λ kept name store row.
 
 pub returns-in-Ok-Query-clause-unanswered : goal.returns-in-Ok-Query-clause-unanswered
 returns-in-Ok-Query-clause-unanswered g c = λ store row. rw c.told_of-in-Ok-Query.ensures.status (refuses_by _ _ _ _ _ _ c.query.result.outcome c.query.ensures.causes)
+
+pub returns-in-Ok-Reduce-clause-reduces : goal.returns-in-Ok-Reduce-clause-reduces
+returns-in-Ok-Reduce-clause-reduces g c = λ kept name store resume row h before bytes stood told enough none fits.
+    let found = c.in-Ok-Reduce.ensures.found in
+    let is = c.in-Ok-Reduce.field-0-is in
+    let same : c.in-Ok-Reduce.mode ≡ kept = cc in
+    let again : c.in-Ok-Reduce.resume ≡ resume = cc in
+    let run = c.extend.ensures.reduced resume (ap taking.Whole again) h before bytes (subst (λ (m : Mode). StoodAt g.D.Disk.state c.args.limits.now m c.args.disk h before) (sym same) stood) told in
+    let failed = rw c.told_of.ensures.disk at none in
+    rw c.told_of.ensures.status (reduced_all resume c.args.limits.now c.in-Ok-Reduce.mode _ _ _ _ _ c.extend.result.outcome h before bytes _ _ _ _ _ _ run c.extend.ensures.causes enough
+    (λ read. failed (inl read)) (λ write. failed (inr (inl write))) (λ store. failed (inr (inr store)))
+    (subst (λ (m : Mode). FitsWhole c.args.limits.now m (begun_of resume h before bytes)) (sym same) fits))
+
+pub returns-in-Ok-WatchStore-clause-watches : goal.returns-in-Ok-WatchStore-clause-watches
+returns-in-Ok-WatchStore-clause-watches g c = λ kept name store row h before bytes questions stood told tells none fits.
+    let found = c.in-Ok-WatchStore.ensures.found in
+    let is = c.in-Ok-WatchStore.field-0-is in
+    let same : c.in-Ok-WatchStore.mode ≡ kept = cc in
+    let run = c.extend-in-Ok-WatchStore.ensures.watched refl h before bytes questions (subst (λ (m : Mode). StoodAt g.D.Disk.state c.args.limits.now m c.args.disk h before) (sym same) stood) told tells in
+    let failed = rw c.told_of-in-Ok-WatchStore.ensures.disk at none in
+    rw c.told_of-in-Ok-WatchStore.ensures.status (watched_all c.args.limits.now c.in-Ok-WatchStore.mode _ _ _ _ _ c.extend-in-Ok-WatchStore.result.outcome (begun_of false h before bytes) questions _ _ _ _ _ _ run
+    c.extend-in-Ok-WatchStore.ensures.causes (λ read. failed (inl read)) (λ write. failed (inr (inl write))) (λ store. failed (inr (inr store)))
+    (subst (λ (m : Mode). FitsDialogue c.args.limits.now m (begun_of false h before bytes) questions) (sym same) fits))

@@ -1,11 +1,9 @@
-use Rattle.std.proofs.Common.{rules, Bool, ◌≡◌, ◌≤◌, ◌+◌, ℕ, length, take, arith, sym, ap, subst, refl, ◌∙◌}
+use Rattle.std.proofs.Common.{rules, ◌≡◌, ◌≤◌, ◌+◌, ℕ, length, arith, sym, ap, subst, ◌∙◌}
 use Rattle.std.proofs.lemmas.List.{length-take, length-drop}
 use Rattle.std.proofs.lemmas.Result.{err_from_is_err_and}
-use Rattle.flow_base.specs.declared.limits.Limits.{Limits}
 use Rattle.ingest.specs.Stops.{Stops}
 use Rattle.audit_cli.specs.Dialogue.{Moment, taken_on}
 use Rattle.audit_cli.specs.Course.{At, kind_of}
-use Rattle.audit_cli.specs.Saves.{Start}
 use Rattle.audit_cli.proofs.MomentLemmas.{due_weaker, stop_later, take_all, take_both, take_none}
 use Rattle.audit_cli.proofs.SaveLemmas.{at_taken, ends_at, ends_by, names_none}
 use Rattle.audit_cli.proofs.saving.take.Goals as goal

@@ -1,4 +1,4 @@
-use Rattle.std.proofs.Common.{Bool, ◌≡◌, ◌≤◌, ◌-◌, length}
+use Rattle.std.proofs.Common.{Bool, ◌≤◌, ◌-◌, length}
 use Rattle.flow_base.specs.declared.limits.Limits.{Limits}
 use Rattle.audit_cli.specs.Dialogue.{Moment, taken_on}
 use Rattle.audit_cli.specs.Course.{At, GoesUp, kind_of}

@@ -1,11 +1,10 @@
-use Rattle.std.proofs.Common.{◌≡◌, ◌∙◌, ap, Some, Err, refl, sym, subst, arith, rules}
+use Rattle.std.proofs.Common.{◌≡◌, ◌∙◌, ap, Some, subst}
 use Rattle.std.proofs.lemmas.Result.{err_from_is_err_and}
 use Rattle.std.proofs.Math.ListN.{drop_of_length-le}
 use Rattle.audit_lex.specs.History.{History}
 use Rattle.ingest.specs.StandsFor.{StandsFor}
 use Rattle.ingest.specs.Stops.{Stops}
 use Rattle.audit_cli.specs.Dialogue.{Moment, settled_on, taken_on}
-use Rattle.audit_cli.specs.Course.{At, kind_of}
 use Rattle.audit_cli.specs.Saves.{IsAllPutAway, IsCutShort, IsPutAway}
 use Rattle.audit_cli.specs.Stores.{settled_all}
 use Rattle.audit_cli.proofs.HearLemmas.{on_ok}

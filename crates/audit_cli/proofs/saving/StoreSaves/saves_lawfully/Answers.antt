@@ -1,8 +1,8 @@
-use Rattle.std.proofs.Common.{◌≡◌, ◌∙◌, [], ◌∷◌, map, take, drop, refl, ap, sym, arith}
-use Rattle.std.proofs.lemmas.List.{append-nil, take-append-drop}
+use Rattle.std.proofs.Common.{[], ◌∷◌, map, take, refl, sym, arith}
+use Rattle.std.proofs.lemmas.List.{append-nil}
 use Rattle.audit_lex.specs.History.{Byte, Settle}
 use Rattle.audit_cli.specs.Dialogue.{settled_on, taken_on}
-use Rattle.audit_cli.proofs.SaveLemmas.{bytes_of_text, cut_later, cut_so, further, log_left, taken_counted}
+use Rattle.audit_cli.proofs.SaveLemmas.{cut_later, cut_so, further, log_left, taken_counted}
 use Rattle.audit_cli.proofs.StoreLemmas.{rose_on, rose_too, uses_both, uses_same}
 use Rattle.audit_cli.proofs.saving.StoreSaves.saves_lawfully.Goals as goal
 
