@@ -42,7 +42,7 @@ use Rattle.audit_cli.specs.Dialogue.{Moment, QuestionsStop, asks, lines_in}
 use Rattle.audit_cli.specs.Course.{EndTalked, HasCauses, IsDue, kind_of, never}
 use Rattle.audit_cli.specs.Saves.{Begun, CutShort, IsAllPutAway, IsCutShort, IsOf, IsPutAway, IsReached, PassesStore, Start, since}
 use Rattle.audit_cli.specs.StoreHalts.{HasStoreCauses, IsRunDue, NamesNoBatch, open_halt, over_run, restore_halt}
-use Rattle.audit_cli.specs.Stores.{AnswerCourse, FitsDialogue, FitsWhole, HasBegun, HasNoBatch, HasTaken, IsDoneOrRefused, IsOpenAt, IsQueried, IsReduceRun, IsReopened, IsShort, IsWatchRun, PassesIn, Reduces, StoodAt, StoresNothing, StoresUnsoundly, WaitsUnsoundly, Watches, WroteFront, WroteStat, begun_of, first_of, querying, settled_all, steps_of, whole_of}
+use Rattle.audit_cli.specs.Stores.{AnswerCourse, FitsDialogue, FitsWhole, HasBegun, HasNoBatch, HasTaken, IsDoneOrRefused, IsOpenAt, IsWrongIn, IsQueried, IsReduceRun, IsReopened, IsShort, IsWatchRun, PassesIn, Reduces, StoodAt, StoresNothing, StoresUnsoundly, WaitsUnsoundly, Watches, WroteFront, WroteStat, begun_of, first_of, querying, settled_all, steps_of, whole_of}
 use Rattle.audit_cli.specs.Statuses.{RefusesStore, status_for, store_status}
 use Rattle.audit_cli.proofs.TalkLemmas.{appends_none, nothing_said, other_halt}
 use Rattle.audit_cli.proofs.SaveLemmas.{away_leaves, counted_whole, cut_leaves, cut_passes, is_of_begun, settled_whole, since_begun, since_whole}
@@ -712,33 +712,42 @@ not_short_enough resume before bytes taken had enough short =
     let less = short.short in
     omega (arith, whole, all, some, less)
 
+-- a disk that has a history of a mode is no store of another
+pub not_wrong : {D : Type 0} (state : D → DiskState) (limits : Limits) (mode : Mode) (disk : D) (h : History) (before : ℕ) (kept asked : Mode) → Was → StoodAt state limits mode disk h before → IsWrongIn limits (state disk) (Some mode) kept asked → ⊥
+not_wrong state limits mode disk h before kept asked law stood wrong =
+    let w = wrong stood.told in
+    let stored = law text_of limits mode (state disk).reads (moment_of limits h before) w.read.0 w.read.1 w.is stood.stores.store in
+    let one : mode ≡ kept = mode_of_ends w.read.1.mode kept mode w.read.1.others (moment_of limits h before) w.differ.kept_is stored.ends in
+    let want : mode ≡ asked = (let is = w.differ.asked_is in cc) in
+    w.differ.apart (sym one ∙ want)
+
 pub reduced_all : (resume : Bool) (limits : Limits) (mode : Mode) (disk after : DiskState) (left old new : Option (List ℕ)) (r : Result Unit StoreHalt) (h : History) (before : ℕ) (bytes : List ℕ) (read write store : Type 0) (bad : ℕ → Type 0) (wrong : Mode → Mode → Type 0) (short : ℕ → ℕ → Type 0)
-    → Reduces resume limits mode disk after left old new r h before bytes → IfErr r (HasStoreCauses read write store bad wrong short) → HasTaken resume before bytes → (read → ⊥) → (write → ⊥) → (store → ⊥)
+    → Reduces resume limits mode disk after left old new r h before bytes → IfErr r (HasStoreCauses read write store bad wrong short) → HasTaken resume before bytes → (read → ⊥) → (write → ⊥) → (store → ⊥) → ((kept asked : Mode) → wrong kept asked → ⊥)
     → FitsWhole limits mode (begun_of resume h before bytes) → IsDoneOrRefused (store_status r)
-reduced_all resume limits mode disk after left old new (Ok t) h before bytes read write store bad wrong short run causes enough e f g fits = tt
-reduced_all resume limits mode disk after left old new (Err (over.Run halt.NoMemory)) h before bytes read write store bad wrong short run causes enough e f g fits = tt
-reduced_all resume limits mode disk after left old new (Err (over.Run halt.ReadFault)) h before bytes read write store bad wrong short run causes enough e f g fits = absurd (e causes)
-reduced_all resume limits mode disk after left old new (Err (over.Run halt.WriteFault)) h before bytes read write store bad wrong short run causes enough e f g fits = absurd (f causes)
-reduced_all resume limits mode disk after left old new (Err (over.Run halt.StoreFault)) h before bytes read write store bad wrong short run causes enough e f g fits = absurd (g causes)
-reduced_all resume limits mode disk after left old new (Err (over.Run (halt.Full full))) h before bytes read write store bad wrong short run causes enough e f g fits = absurd (fits.engine full run.due)
-reduced_all resume limits mode disk after left old new (Err (over.Run (halt.Unwritten full))) h before bytes read write store bad wrong short run causes enough e f g fits = absurd (fits.store full run.passes)
-reduced_all resume limits mode disk after left old new (Err (over.BadStore place)) h before bytes read write store bad wrong short run causes enough e f g fits = tt
-reduced_all resume limits mode disk after left old new (Err (over.WrongMode kept asked)) h before bytes read write store bad wrong short run causes enough e f g fits = tt
-reduced_all resume limits mode disk after left old new (Err (over.ShortLog taken had)) h before bytes read write store bad wrong short run causes enough e f g fits = absurd (not_short_enough resume before bytes taken had enough (run.short taken had refl))
+reduced_all resume limits mode disk after left old new (Ok t) h before bytes read write store bad wrong short run causes enough e f g k fits = tt
+reduced_all resume limits mode disk after left old new (Err (over.Run halt.NoMemory)) h before bytes read write store bad wrong short run causes enough e f g k fits = tt
+reduced_all resume limits mode disk after left old new (Err (over.Run halt.ReadFault)) h before bytes read write store bad wrong short run causes enough e f g k fits = absurd (e causes)
+reduced_all resume limits mode disk after left old new (Err (over.Run halt.WriteFault)) h before bytes read write store bad wrong short run causes enough e f g k fits = absurd (f causes)
+reduced_all resume limits mode disk after left old new (Err (over.Run halt.StoreFault)) h before bytes read write store bad wrong short run causes enough e f g k fits = absurd (g causes)
+reduced_all resume limits mode disk after left old new (Err (over.Run (halt.Full full))) h before bytes read write store bad wrong short run causes enough e f g k fits = absurd (fits.engine full run.due)
+reduced_all resume limits mode disk after left old new (Err (over.Run (halt.Unwritten full))) h before bytes read write store bad wrong short run causes enough e f g k fits = absurd (fits.store full run.passes)
+reduced_all resume limits mode disk after left old new (Err (over.BadStore place)) h before bytes read write store bad wrong short run causes enough e f g k fits = tt
+reduced_all resume limits mode disk after left old new (Err (over.WrongMode kept asked)) h before bytes read write store bad wrong short run causes enough e f g k fits = absurd (k kept asked causes)
+reduced_all resume limits mode disk after left old new (Err (over.ShortLog taken had)) h before bytes read write store bad wrong short run causes enough e f g k fits = absurd (not_short_enough resume before bytes taken had enough (run.short taken had refl))
 
 pub watched_all : (limits : Limits) (mode : Mode) (disk after : DiskState) (left old new : Option (List ℕ)) (r : Result Unit StoreHalt) (begun : Begun) (asked : List ℕ) (read write store : Type 0) (bad : ℕ → Type 0) (wrong : Mode → Mode → Type 0) (short : ℕ → ℕ → Type 0)
-    → Watches limits mode disk after left old new r begun asked → IfErr r (HasStoreCauses read write store bad wrong short) → (read → ⊥) → (write → ⊥) → (store → ⊥)
+    → Watches limits mode disk after left old new r begun asked → IfErr r (HasStoreCauses read write store bad wrong short) → (read → ⊥) → (write → ⊥) → (store → ⊥) → ((kept want : Mode) → wrong kept want → ⊥)
     → FitsDialogue limits mode begun asked → IsDoneOrRefused (store_status r)
-watched_all limits mode disk after left old new (Ok t) begun asked read write store bad wrong short run causes e f g fits = tt
-watched_all limits mode disk after left old new (Err (over.Run halt.NoMemory)) begun asked read write store bad wrong short run causes e f g fits = tt
-watched_all limits mode disk after left old new (Err (over.Run halt.ReadFault)) begun asked read write store bad wrong short run causes e f g fits = absurd (e causes)
-watched_all limits mode disk after left old new (Err (over.Run halt.WriteFault)) begun asked read write store bad wrong short run causes e f g fits = absurd (f causes)
-watched_all limits mode disk after left old new (Err (over.Run halt.StoreFault)) begun asked read write store bad wrong short run causes e f g fits = absurd (g causes)
-watched_all limits mode disk after left old new (Err (over.Run (halt.Full full))) begun asked read write store bad wrong short run causes e f g fits = absurd (fits.engine run.course.said run.course.to full run.course.stops)
-watched_all limits mode disk after left old new (Err (over.Run (halt.Unwritten full))) begun asked read write store bad wrong short run causes e f g fits = absurd (fits.store run.last run.along full run.passes)
-watched_all limits mode disk after left old new (Err (over.BadStore place)) begun asked read write store bad wrong short run causes e f g fits = tt
-watched_all limits mode disk after left old new (Err (over.WrongMode kept want)) begun asked read write store bad wrong short run causes e f g fits = tt
-watched_all limits mode disk after left old new (Err (over.ShortLog taken had)) begun asked read write store bad wrong short run causes e f g fits = absurd (run.whole taken had refl)
+watched_all limits mode disk after left old new (Ok t) begun asked read write store bad wrong short run causes e f g k fits = tt
+watched_all limits mode disk after left old new (Err (over.Run halt.NoMemory)) begun asked read write store bad wrong short run causes e f g k fits = tt
+watched_all limits mode disk after left old new (Err (over.Run halt.ReadFault)) begun asked read write store bad wrong short run causes e f g k fits = absurd (e causes)
+watched_all limits mode disk after left old new (Err (over.Run halt.WriteFault)) begun asked read write store bad wrong short run causes e f g k fits = absurd (f causes)
+watched_all limits mode disk after left old new (Err (over.Run halt.StoreFault)) begun asked read write store bad wrong short run causes e f g k fits = absurd (g causes)
+watched_all limits mode disk after left old new (Err (over.Run (halt.Full full))) begun asked read write store bad wrong short run causes e f g k fits = absurd (fits.engine run.course.said run.course.to full run.course.stops)
+watched_all limits mode disk after left old new (Err (over.Run (halt.Unwritten full))) begun asked read write store bad wrong short run causes e f g k fits = absurd (fits.store run.last run.along full run.passes)
+watched_all limits mode disk after left old new (Err (over.BadStore place)) begun asked read write store bad wrong short run causes e f g k fits = tt
+watched_all limits mode disk after left old new (Err (over.WrongMode kept want)) begun asked read write store bad wrong short run causes e f g k fits = absurd (k kept want causes)
+watched_all limits mode disk after left old new (Err (over.ShortLog taken had)) begun asked read write store bad wrong short run causes e f g k fits = absurd (run.whole taken had refl)
 
 -- ---- the status
 

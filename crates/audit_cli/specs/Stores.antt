@@ -264,12 +264,11 @@ pub record FitsDialogue (limits : Limits) (mode : Mode) (begun : Begun) (asked :
   pub engine : (said : List Reply) (to : Moment) (full : Full) → ¬ StopsAfter limits (QuestionsStop limits asked) (first_of mode begun) (asks limits (lines_in asked)) said to full
   pub store : (m : Moment) → IsOf begun m → (full : Full) → ¬ PassesStore limits mode begun (since begun m) full
 
--- the run is done, or an allocation failed, or its store was refused
+-- the run is done, or an allocation failed, or its store was refused as a bad one
 abbrev pub IsDoneOrRefused : Status → Type 0
 IsDoneOrRefused status.Done = ⊤
 IsDoneOrRefused status.NoMemory = ⊤
 IsDoneOrRefused (status.BadStore place) = ⊤
-IsDoneOrRefused (status.WrongMode kept asked) = ⊤
 IsDoneOrRefused _ = ⊥
 
 -- `reduce` ends so over a disk that has a history so, if no device failed and no limit would be passed

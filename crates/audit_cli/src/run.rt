@@ -29,6 +29,7 @@ use reach_model::Mode;
 use reach_rows::{Plain, Reducer, VecRows};
 use reduce_continuous::Continuous;
 use reduce_source::Sources;
+use reduced_store::what_is_found_was_stored;
 use std::alloc::Global;
 
 /// How a run ended, and the disk of its store. A job that keeps its rows in memory hands the disk
@@ -272,7 +273,7 @@ pub fn audit_run<L: Source, Q: Source, O: Sink, D: Disk>(
         (D.state disk) (D.state result.disk) (L.left log.old) (L.left log.new)
         (Q.left questions.old) (O.written out.old) (O.written out.new)) }
     // If no device fails and no limit would be passed, such a run is done, unless an allocation failed
-    // or the store was refused.
+    // or the store was refused as a bad one.
     ensures reduces { (kept : Mode) (name store : List ℕ) (resume : Bool)
         → job_of (map string_bytes words.now) ≡ Some (Job.Reduce kept name store resume)
         → ReducesAll result.status ((Rose (L.faults log.old) (L.faults log.new) (L.spent log.new)
@@ -320,6 +321,7 @@ pub fn audit_run<L: Source, Q: Source, O: Sink, D: Disk>(
 {
     stops_stay();
     what_fits_never_stops();
+    what_is_found_was_stored();
     match read_words(alloc, words) {
         Err(WordsFault::BadWords) => Ended {
             status: Status::BadWords,

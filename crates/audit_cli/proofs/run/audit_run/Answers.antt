@@ -2,7 +2,7 @@ use Rattle.std.proofs.Common.{ap, false, inl, refl, ◌≡◌, subst, Some, Err,
 use Rattle.audit_cli.proofs.JobLemmas.{headline, front_written, nothing_written, full_exact, complete, job_same, same_log, same_questions, ended_within, done_only, read_fault}
 use Rattle.audit_cli.specs.declared.halt.Halt.TheVariants as halt
 use Rattle.audit_cli.specs.declared.halt.StoreHalt.TheVariants as over
-use Rattle.audit_cli.proofs.StoreRuns.{queried_none, reduced_all, refuses_by, unbegun_run, unbegun_watch, watched_all}
+use Rattle.audit_cli.proofs.StoreRuns.{not_wrong, queried_none, reduced_all, refuses_by, unbegun_run, unbegun_watch, watched_all}
 use Rattle.reach_model.specs.declared.modes.Mode.{Mode}
 use Rattle.audit_cli.specs.Statuses.{RefusesStore, store_status}
 use Rattle.audit_cli.specs.Stores.{FitsDialogue, FitsWhole, IsBadIn, IsWrongIn, StoodAt, begun_of}
@@ -122,6 +122,8 @@ returns-in-Ok-Reduce-clause-reduces g c = λ kept name store resume row h before
     let failed = rw c.told_of.ensures.disk at none in
     rw c.told_of.ensures.status (reduced_all resume c.args.limits.now c.in-Ok-Reduce.mode _ _ _ _ _ c.extend.result.outcome h before bytes _ _ _ _ _ _ run c.extend.ensures.causes enough
     (λ read. failed (inl read)) (λ write. failed (inr (inl write))) (λ store. failed (inr (inr store)))
+    (λ one other wrong. not_wrong g.D.Disk.state c.args.limits.now c.in-Ok-Reduce.mode c.args.disk h before one other c.what_is_found_was_stored.ensures
+    (subst (λ (m : Mode). StoodAt g.D.Disk.state c.args.limits.now m c.args.disk h before) (sym same) stood) wrong)
     (subst (λ (m : Mode). FitsWhole c.args.limits.now m (begun_of resume h before bytes)) (sym same) fits))
 
 pub returns-in-Ok-WatchStore-clause-watches : goal.returns-in-Ok-WatchStore-clause-watches
@@ -133,4 +135,6 @@ returns-in-Ok-WatchStore-clause-watches g c = λ kept name store row h before by
     let failed = rw c.told_of-in-Ok-WatchStore.ensures.disk at none in
     rw c.told_of-in-Ok-WatchStore.ensures.status (watched_all c.args.limits.now c.in-Ok-WatchStore.mode _ _ _ _ _ c.extend-in-Ok-WatchStore.result.outcome (begun_of false h before bytes) questions _ _ _ _ _ _ run
     c.extend-in-Ok-WatchStore.ensures.causes (λ read. failed (inl read)) (λ write. failed (inr (inl write))) (λ store. failed (inr (inr store)))
+    (λ one other wrong. not_wrong g.D.Disk.state c.args.limits.now c.in-Ok-WatchStore.mode c.args.disk h before one other c.what_is_found_was_stored.ensures
+    (subst (λ (m : Mode). StoodAt g.D.Disk.state c.args.limits.now m c.args.disk h before) (sym same) stood) wrong)
     (subst (λ (m : Mode). FitsDialogue c.args.limits.now m (begun_of false h before bytes) questions) (sym same) fits))
