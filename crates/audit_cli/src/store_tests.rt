@@ -159,7 +159,7 @@ fn a_disk_that_is_no_such_store_is_refused(rt: HostRuntime) -> Result<(), Fail> 
 }
 
 #[test]
-fn a_run_that_its_disk_stops_can_be_made_again(rt: HostRuntime) -> Result<(), Fail> {
+fn a_run_that_its_disk_stops_is_resumed(rt: HostRuntime) -> Result<(), Fail> {
     let mut stopped = false;
     for call in 0..12u64 {
         let empty = Bytes::new(rt.alloc());
@@ -175,7 +175,17 @@ fn a_run_that_its_disk_stops_can_be_made_again(rt: HostRuntime) -> Result<(), Fa
             assert_eq!(rt; ended, Status::StoreFault, "{call}");
             stopped = true;
         }
-        // the store has all of the log or nothing of it
+        // resumed, the run takes what the store doesn't have of the log
+        let (ended, written, disk) = run_over(
+            &rt,
+            "reduce plain log store --resume",
+            joined(&rt, &[FORK, WRITE])?,
+            b"",
+            disk,
+            &[],
+        )?;
+        assert_eq!(rt; ended, Status::Done, "{call}");
+        assert_eq!(rt; written.as_slice(), BOTH, "{call}");
         let (ended, written, _) = run_over(
             &rt,
             "query store",
@@ -184,11 +194,8 @@ fn a_run_that_its_disk_stops_can_be_made_again(rt: HostRuntime) -> Result<(), Fa
             disk,
             &[],
         )?;
-        if ended == Status::Done {
-            assert_eq!(rt; written.as_slice(), REACHED, "{call}");
-        } else {
-            assert_eq!(rt; ended, Status::BadStore(0), "{call}");
-        }
+        assert_eq!(rt; ended, Status::Done, "{call}");
+        assert_eq!(rt; written.as_slice(), REACHED, "{call}");
     }
     assert!(rt; stopped);
     Ok(())
