@@ -166,6 +166,8 @@ class Local(Hosts):
         # The end of an event waits, and is asked for again in the next run.
         with open(self.hosts / 'c' / 'audit.log', 'a', encoding='ascii') as log:
             log.write(then)
+        # However long this machine takes, the log is still being written.
+        os.utime(self.hosts / 'c' / 'audit.log', times=(time.time() + 3600,) * 2)
         self.snakemake('-j', '2')
         self.assertIn('bytes wait for the end of an event', self.mistrust('c'))
         os.utime(self.hosts / 'c' / 'audit.log', times=(time.time() - 60,) * 2)

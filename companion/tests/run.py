@@ -1,7 +1,7 @@
 #!/usr/bin/env python3
 """The tests of autrail and of the scripts that build the programs, over the built programs.
 
-    companion/tests/run.py [--program WORDS] [--long] [NAME..]
+    companion/tests/run.py [--program WORDS] [--kills N] [NAME..]
 
 WORDS is the program (what ./audit_cli at the top has built, which is run first for it). Checks that need graphviz, tmux, auditctl, unshare or
 scdoc are skipped on a machine without them, and say so; so are those of --order if audit_order isn't built.
@@ -13,8 +13,7 @@ import bz2
 import contextlib
 import fcntl
 import gzip
-import importlib.machinery
-import importlib.util
+import html
 import itertools
 import json
 import lzma
@@ -38,27 +37,24 @@ from pathlib import Path
 HERE = Path(__file__).resolve().parent
 TOP = HERE.parent.parent
 AUTRAIL = HERE.parent / 'autrail'
+PACKAGE = HERE.parent / 'lib'
 EXAMPLE = TOP / 'examples' / 'web1_sample.log'
 SCRIPT = TOP / 'audit_cli'
 BUILT = TOP / 'crates' / 'audit_cli' / 'out' / 'audit_cli'
 ORDER = TOP / 'crates' / 'audit_order' / 'out' / 'audit_order'
 WAITED = TOP / 'examples' / 'waited_read.log'
 PROGRAM = str(SCRIPT)
-# How many runs of keep are killed; a hundred by --long.
-KILLS = 10
+# How many runs of keep are killed at random moments.
+KILLS = 100
 ADMIN_FOLDERS = os.environ['PATH'] + ':/usr/sbin:/sbin'
 TREES = {'received': 'back /srv/evil/received.tar --tree', 'port4445': 'back 127.0.0.1:4445 --tree', 'customers': 'fore /customers.csv --tree'}
 RAW = re.compile(rb'[\x00-\x09\x0b-\x1f\x7f]|\xc2[\x80-\x9f]')
 
 
-def module():
-    """autrail as a module, for its functions on words alone."""
-    loader = importlib.machinery.SourceFileLoader('autrail', str(AUTRAIL))
-    sys.dont_write_bytecode = True
-    it = importlib.util.module_from_spec(importlib.util.spec_from_loader('autrail', loader))
-    sys.modules['autrail'] = it
-    loader.exec_module(it)
-    return it
+# The package, for its functions on words alone.
+sys.dont_write_bytecode = True
+sys.path.insert(0, str(PACKAGE))
+from autrail import basics, logs as autrail_logs, main as autrail_main, times, whole  # noqa: E402 pylint: disable=wrong-import-position
 
 
 def environment(**more: str) -> dict[str, str]:
@@ -95,6 +91,12 @@ def opened_and(move: int, name: str, inode: int, serial: int, kind: str = 'NORMA
 def repeated(size: int) -> bytes:
     """The example again and again, with later times and serial numbers each time, until it has so many bytes."""
     return subprocess.run([sys.executable, TOP / 'bench' / 'repeat_log.py', EXAMPLE, str(size)], capture_output=True, check=True).stdout
+
+
+def copy_of_autrail(folder: Path) -> Path:
+    """The command in this folder, with its package."""
+    shutil.copytree(PACKAGE, folder / 'lib', ignore=shutil.ignore_patterns('__pycache__'))
+    return Path(shutil.copy(AUTRAIL, folder / 'autrail'))
 
 
 class Scratch(unittest.TestCase):
@@ -169,6 +171,9 @@ class Answers(unittest.TestCase):
         for mode in ('continuous', 'full', 'source'):
             done = run('-q', '-m', mode, '-if', EXAMPLE, 'back', '/tmp/x.sh', '--json')
             self.assertIn('/tmp/x.sh' if mode != 'source' else '127.0.0.1:4444', done.stdout.decode(), mode)
+            for form in ((), ('--tree',)):
+                lines = run('-q', '-m', mode, '-if', EXAMPLE, 'back', '/tmp/x.sh', *form).stdout.decode().splitlines()
+                self.assertEqual('only sources are listed, since the mode is source' in lines, mode == 'source')
         done = run('-q', '-m', 'source', '-if', EXAMPLE, 'fore', '/tmp/x.sh')
         self.assertEqual((done.returncode, done.stderr), (2, b"autrail: mode source doesn't answer this; ask in the mode plain or continuous\n"))
 
@@ -179,6 +184,14 @@ class Answers(unittest.TestCase):
         self.assertNotIn(36, early)
         # No progress either, since this isn't a terminal.
         self.assertEqual(done.stderr, b'autrail: flows up to 2026-06-09 08:01:55.440 UTC+0000\n')
+
+    def test_late_events_of_the_samples_are_those_that_the_readme_tells(self) -> None:
+        text = ' '.join((TOP / 'README.md').read_text().split())
+        for log, told in ((EXAMPLE, '`examples/web1_sample.log` {late} of {events} events (4%) came after a later one'),
+                          (TOP / 'examples' / 'web1_reads_writes.log', '`examples/web1_reads_writes.log` none of {events} events came late')):
+            counts = json.loads(run('-q', '-if', log, 'stat', '--json').stdout)
+            self.assertIn(told.format(**counts), text)
+            self.assertEqual(counts['late'] == 0, 'none' in told)
 
     def test_sessions_of_the_documents_are_as_printed(self) -> None:
         folder = tempfile.mkdtemp(prefix='autrail-')
@@ -511,14 +524,10 @@ def lines_of(*events: tuple[int, str]) -> bytes:
 class Whole(unittest.TestCase):
     """What is handed to the program: whole events alone, by the rule that the program joins them by."""
 
-    @classmethod
-    def setUpClass(cls) -> None:
-        cls.autrail = module()
-
     def whole(self, lines: bytes, quiet: bool = False) -> int:
         with tempfile.TemporaryFile() as file:
             file.write(lines)
-            return self.autrail.whole_of(file, len(lines), quiet)
+            return whole.whole_of(file, len(lines), quiet)
 
     def test_an_event_waits_for_its_end(self) -> None:
         ended, torn, later = lines_of((1000, 'SYSCALL PATH PROCTITLE')), lines_of((1001, 'SYSCALL PATH')), lines_of((3002, 'SYSCALL EOE'))
@@ -554,13 +563,13 @@ class Whole(unittest.TestCase):
         for count in (10, 1999):
             with tempfile.TemporaryFile() as file:
                 file.write(before + torn + lines_of(*((4001 + it, 'SYSCALL EOE') for it in range(count))))
-                with unittest.mock.patch.object(self.autrail, 'WINDOW', 4096):
-                    self.assertEqual(self.autrail.whole_of(file, file.tell(), False), len(before))
+                with unittest.mock.patch.object(whole, 'WINDOW', 4096):
+                    self.assertEqual(whole.whole_of(file, file.tell(), False), len(before))
 
     def test_no_more_is_looked_at_than_may_wait_in_the_program(self) -> None:
         """Events without an end at one time: the program would have released the oldest of them."""
         lines = lines_of(*((4000 + it // 10, 'PATH') for it in range(2000)))
-        with unittest.mock.patch.object(self.autrail, 'WINDOW', 4096), unittest.mock.patch.object(self.autrail, 'WIDEST', 16384):
+        with unittest.mock.patch.object(whole, 'WINDOW', 4096), unittest.mock.patch.object(whole, 'WIDEST', 16384):
             cut = self.whole(lines + b'half a line')
             self.assertTrue(len(lines) - 16384 < cut < len(lines))
             self.assertEqual(lines[cut - 1:cut], b'\n')
@@ -598,11 +607,9 @@ class Writer:
 
 # autrail, which kills itself before or after its call of that number among those that change what is on the disk or start the program.
 KILLS_ITSELF = """
-import importlib.machinery, importlib.util, os, signal, sys
-loader = importlib.machinery.SourceFileLoader('autrail', sys.argv[1])
-autrail = importlib.util.module_from_spec(importlib.util.spec_from_loader('autrail', loader))
-sys.modules['autrail'] = autrail
-loader.exec_module(autrail)
+import os, signal, sys
+sys.path.insert(0, sys.argv[1])
+from autrail import keep, main, programs
 calls, last, after = 0, int(sys.argv[2]), sys.argv[3] == 'after'
 
 def counted(call):
@@ -619,9 +626,9 @@ def counted(call):
 
 for name in ('fsync', 'replace', 'unlink'):
     setattr(os, name, counted(getattr(os, name)))
-autrail.started = counted(autrail.started)
+keep.started = programs.started = counted(programs.started)
 sys.argv[:] = ['autrail', *sys.argv[4:]]
-sys.exit(autrail.main())
+sys.exit(main.main())
 """
 
 
@@ -738,7 +745,7 @@ class Keeps(Scratch):
                     self.put('audit.log', before)
                     self.assertEqual(self.keep()[0], 0)
                 self.put('audit.log', text)
-                words = [sys.executable, script, AUTRAIL, str(steps), after, 'keep', self.store, '-if', self.logs]
+                words = [sys.executable, script, PACKAGE, str(steps), after, 'keep', self.store, '-if', self.logs]
                 status = subprocess.run(words, stdout=subprocess.DEVNULL, env=environment(), check=False).returncode
                 self.wait_for_lock_alone()
                 with self.subTest(before=len(before), after=after, steps=steps):
@@ -851,8 +858,12 @@ class Keeps(Scratch):
 
     def with_small_portions(self) -> Path:
         """A copy of autrail that takes a log in small portions."""
-        small = self.log(AUTRAIL.read_text().replace('PORTION = 1 << 28', 'PORTION = 70000').replace('WINDOW = 1 << 20', 'WINDOW = 8192'), 'autrail')
-        small.chmod(0o755)
+        small = copy_of_autrail(self.folder / 'small')
+        for module, large, little in (('portions', 'PORTION = 1 << 28', 'PORTION = 70000'), ('whole', 'WINDOW = 1 << 20', 'WINDOW = 8192')):
+            file = small.parent / 'lib' / 'autrail' / f'{module}.py'
+            text = file.read_text()
+            self.assertEqual(text.count(large), 1)
+            file.write_text(text.replace(large, little))
         return small
 
     def test_progress_is_shown_at_a_terminal_alone(self) -> None:
@@ -1105,15 +1116,14 @@ class FindsOrder(Scratch):
     def folder_with(self, *places: str) -> Path:
         """A copy of autrail without a program on the PATH, and programs at these places beside it."""
         top = self.folder / 'top'
-        (top / 'bin').mkdir(parents=True)
-        shutil.copy(AUTRAIL, top / 'bin' / 'autrail')
+        autrail = copy_of_autrail(top / 'bin')
         (self.folder / 'python3').symlink_to(sys.executable)
         for tool in ('env', 'sh', 'cat'):
             (self.folder / tool).symlink_to(shutil.which(tool))
         for place in places:
             (top / place).write_text('#!/bin/sh\necho from here >&2\nexit 7\n')
             (top / place).chmod(0o755)
-        return top / 'bin' / 'autrail'
+        return autrail
 
     def asked(self, autrail: Path, **more: str) -> subprocess.CompletedProcess[bytes]:
         return subprocess.run([autrail, '--order', '-if', EXAMPLE, 'stat'], capture_output=True, env=environment(AUDIT_ORDER='', PATH=str(self.folder), **more), check=False)
@@ -1156,10 +1166,6 @@ NO_TIMES = ('next tuesday', '06/31/2026', '25:00', '2026-13-01', '12', 'today to
 class Words(Scratch):
     """TIME words, and what isn't understood."""
 
-    @classmethod
-    def setUpClass(cls) -> None:
-        cls.autrail = module()
-
     def in_zone(self, zone: str) -> None:
         before = os.environ.get('TZ')
         self.addCleanup(lambda: (os.environ.update(TZ=before) if before else os.environ.pop('TZ', None), time.tzset()))
@@ -1173,44 +1179,44 @@ class Words(Scratch):
             self.in_zone(zone)
             for words, seconds in table.items():
                 with self.subTest(zone=zone, words=words):
-                    self.assertEqual(self.autrail.moment(words, datetime(2026, 6, 9, 12, 30, 45)), seconds * 1000)
+                    self.assertEqual(times.moment(words, datetime(2026, 6, 9, 12, 30, 45)), seconds * 1000)
 
     def test_parts_of_a_second(self) -> None:
         self.in_zone('UTC')
         for words, at in {'1780992064.4': 1780992064400, '1.000': 1000, '1780992064.4567': 1780992064456, '2026-06-09 08:01:04.25': 1780992064250}.items():
-            self.assertEqual(self.autrail.moment(words), at, words)
-        self.assertEqual(self.autrail.spelled(1001), '1.001')
-        self.assertEqual(self.autrail.spelled(1780992064400), '1780992064.400')
+            self.assertEqual(times.moment(words), at, words)
+        self.assertEqual(times.spelled(1001), '1.001')
+        self.assertEqual(times.spelled(1780992064400), '1780992064.400')
 
     def test_days_are_on_the_clock_and_spans_are_not(self) -> None:
         if not Path('/usr/share/zoneinfo/Europe/Berlin').exists():
             self.skipTest('no time zones (tzdata) on this machine')
         self.in_zone('Europe/Berlin')
         after = datetime(2026, 3, 29, 12, 0)
-        self.assertEqual(self.autrail.moment('yesterday 12:00', after), 1774695600000)
-        self.assertEqual(self.autrail.moment('1 day ago', after), 1774692000000)
+        self.assertEqual(times.moment('yesterday 12:00', after), 1774695600000)
+        self.assertEqual(times.moment('1 day ago', after), 1774692000000)
 
     def test_a_time_that_the_clock_skips_or_shows_twice_is_refused(self) -> None:
         if not Path('/usr/share/zoneinfo/Europe/Berlin').exists():
             self.skipTest('no time zones (tzdata) on this machine')
         self.in_zone('Europe/Berlin')
         for words, want in (('03/29/2026 02:30', 'is passed over'), ('2026-10-25T02:30', 'comes twice'), ('10/25/2026 02:30:00', '2026-10-25T02:30:00+01:00')):
-            with self.assertRaises(self.autrail.Refused) as refused:
-                self.autrail.moment(words)
+            with self.assertRaises(basics.Refused) as refused:
+                times.moment(words)
             self.assertIn(want, str(refused.exception))
 
     def test_what_is_no_time_is_refused(self) -> None:
         for words in NO_TIMES:
-            with self.subTest(words), self.assertRaises(self.autrail.Refused):
-                self.autrail.spelled(self.autrail.moment(words))
+            with self.subTest(words), self.assertRaises(basics.Refused):
+                times.spelled(times.moment(words))
 
     def test_wrong_words_give_one_line(self) -> None:
         wrong = ['', 'frob', 'back', 'fore', 'why a', 'find', 'show', 'stat x', 'ask x', 'rules x', 'keep', 'keep x y', 'back x y', 'back x --at', 'back x --at soon', 'fore x --since 25:00',
                  'back x --since today', 'back x --tree --dot', 'back x --svg x.png', 'back x --png x.svg', '-m fast stat', '--no-such stat', '-if', 'why a b --at never',
                  '-if - ask', 'back x --paths 0', 'back x --paths many', '--order', '--order=1 stat', 'rules --order=1', 'show x --frob', 'find x --tree', 'rules --json']
         for words in wrong:
-            with self.subTest(words), self.assertRaises(self.autrail.Refused) as refused:
-                self.autrail.run(shlex.split(words))
+            with self.subTest(words), self.assertRaises(basics.Refused) as refused:
+                autrail_main.run(shlex.split(words))
             self.assertEqual(refused.exception.status, 2)
             self.assertRegex(str(refused.exception), r'^[^\n]{10,}$')
         done = run('back', 'x', 'y')
@@ -1240,7 +1246,7 @@ for line in sys.stdin:
         older.chmod(0o755)
         done = run('-q', '-if', self.log(''), 'find', '/a', AUDIT_CLI=shlex.quote(str(older)))
         self.assertEqual((done.returncode, done.stdout, done.stderr),
-                         (2, b'', b"autrail: this program doesn't answer 'find'; autrail 0.3.0 needs a later one\n"))
+                         (2, b'', b"autrail: this program doesn't answer 'find'; autrail " + basics.VERSION.encode() + b" needs a later one\n"))
 
     def test_lines_in_words(self) -> None:
         ausearch = self.log("#!/bin/sh\nsed 's/^/in words: /; 1i----'\n", 'ausearch')
@@ -1257,13 +1263,13 @@ for line in sys.stdin:
             self.assertEqual(done.stdout.count(b'      type=SYSCALL'), 2)
 
     def test_a_folder_that_may_not_be_read(self) -> None:
-        with unittest.mock.patch('os.listdir', side_effect=PermissionError), self.assertRaises(self.autrail.Refused) as refused:
-            self.autrail.logs_of([str(self.folder / 'audit.log')], contextlib.ExitStack())
+        with unittest.mock.patch('os.listdir', side_effect=PermissionError), self.assertRaises(basics.Refused) as refused:
+            autrail_logs.logs_of([str(self.folder / 'audit.log')], contextlib.ExitStack())
         self.assertEqual(refused.exception.status, 4)
         self.assertIn('run autrail by sudo', str(refused.exception))
 
     def test_help_and_version(self) -> None:
-        self.assertEqual(run('--version').stdout, b'autrail 0.3.0\n')
+        self.assertEqual(run('--version').stdout, f'autrail {basics.VERSION}\n'.encode())
         for command in ([], ['back'], ['fore'], ['why'], ['find'], ['show'], ['stat'], ['ask'], ['rules']):
             self.assertEqual(run(*command, '--help').returncode, 0)
 
@@ -1308,6 +1314,10 @@ class Pictures(Scratch):
                 done = run('-q', '-if', log, 'back', what, option, file)
                 self.assertEqual(done.returncode, 0, done.stderr)
             self.assertEqual(svg.read_text().count('class="node"'), shapes)
+            # What stands at the shapes is what the lines of JSON say.
+            texts = {html.unescape(it).replace('\xa0', ' ') for it in re.findall(r'<text [^>]*>(.*?)</text>', svg.read_text())}
+            objects = [json.loads(it) for it in asked(log, f'back {what} --json').splitlines()]
+            self.assertLessEqual({f'{it["label"]}  #{it["id"]}' for it in objects if not it['hidden']}, texts)
             # In a PNG the width and the height follow the magic and the head of the first part.
             self.assertTrue(png.read_bytes().startswith(b'\x89PNG\r\n\x1a\n'))
             self.assertGreater(min(struct.unpack('>II', png.read_bytes()[16:24])), 100)
@@ -1507,10 +1517,19 @@ class Scripts(Scratch):
     def test_the_forms_of_words_are_told_without_building(self) -> None:
         for name in ('audit_cli', 'audit_order'):
             forms = (HERE.parent / 'words' / name).read_text().splitlines()
-            self.assertEqual(forms[0], f'{name} of Kitrevasu {module().VERSION}')
+            self.assertEqual(forms[0], f'{name} of Kitrevasu {basics.VERSION}')
             for word, want in (('--help', forms), ('-h', forms), ('--version', forms[:1])):
                 self.assertEqual(self.ended(self.start(name, word)), (2, '', want))
         self.assertFalse(self.said.exists())
+
+    def test_the_newest_version_of_the_changelog_is_that_of_the_programs(self) -> None:
+        heads = re.findall(r'^## \[(.*?)\](.*)$', (TOP / 'CHANGELOG.md').read_text(), re.M)
+        self.assertEqual(heads[0], ('Unreleased', ''))
+        self.assertEqual(heads[1][0], basics.VERSION)
+        for number, date in heads[1:]:
+            self.assertRegex(number, r'^\d+\.\d+\.\d+$')
+            datetime.strptime(date, ' - %Y-%m-%d')
+        self.assertEqual(heads[1:], sorted(heads[1:], key=lambda it: [int(part) for part in it[0].split('.')], reverse=True))
 
     def test_two_programs_are_built_one_after_the_other(self) -> None:
         if not shutil.which('flock'):
@@ -1537,6 +1556,30 @@ class Scripts(Scratch):
             self.assertEqual((status, out, err), (127, '', [f"{name}: the Rattle kit's command rt isn't on the PATH, and the program must be proved before it is built"]))
 
 
+class Gate(Scratch):
+    """What the gate shows of the kit's own gate."""
+
+    def shown(self, text: str) -> list[str]:
+        done = subprocess.run([sys.executable, TOP / '.ci' / 'progress.py', self.folder], input=text, capture_output=True, text=True, cwd=TOP, check=True)
+        return done.stdout.splitlines()
+
+    def test_each_crate_has_a_line_with_seconds_and_a_log(self) -> None:
+        text = ('rt: flow_base is kept: an earlier run\n== acts\nacts::one: proved\nrt: acts proved\n== acts: its tests\nacts::two: proved\n'
+                'rt: acts: its tests are proved\nrt: crates/acts/must-fail/a.edit: refused\n2 passed, 0 failed\n')
+        lines = self.shown(text)
+        self.assertEqual([re.sub(r'^ +\d+ s  ', '', it) for it in lines],
+                         ['flow_base is kept: an earlier run', 'acts proved', 'acts: its tests are proved', 'crates/acts/must-fail/a.edit: refused'])
+        self.assertTrue(all(re.match(r' +\d+ s  ', it) for it in lines))
+        logs = {it.name: it.read_text() for it in self.folder.glob('*.log')}
+        self.assertEqual(logs, {'all.log': text, 'flow_base.log': 'rt: flow_base is kept: an earlier run\n',
+                                'acts.log': ''.join(it + '\n' for it in text.splitlines()[1:-1])})
+
+    def test_of_a_failure_the_last_20_lines_are_shown(self) -> None:
+        lines = self.shown('== ingest\n' + ''.join(f'line {it}\n' for it in range(30)) + 'rt: ingest NOT PROVED\nrt: FAILED: ingest\n')
+        self.assertEqual(lines[:20], [f'line {it}' for it in range(10, 30)])
+        self.assertRegex(lines[20], r'^ +\d+ s  ingest NOT PROVED$')
+
+
 class Installed(Scratch):
     def test_make_install(self) -> None:
         if not shutil.which('make'):
@@ -1547,6 +1590,7 @@ class Installed(Scratch):
         order.chmod(0o755)
         of_both = {'bin/audit_cli', 'bin/autrail', 'lib/kitrevasu/audit_cli', 'lib/kitrevasu/audit_cli.words', 'lib/systemd/system/autrail-keep.service', 'lib/systemd/system/autrail-keep.timer', 'share/autrail/kitrevasu.rules', 'share/bash-completion/completions/autrail',
                    'share/man/man1/autrail.1', 'share/zsh/site-functions/_autrail'}
+        of_both |= {f'lib/kitrevasu/autrail/{it.name}' for it in (PACKAGE / 'autrail').glob('*.py')}
         of_both |= {'share/autrail/fleet/' + it for it in ('Snakefile', 'host.py', 'slurm/config.yaml', 'slurm/job_state')}
         for second, more in ((self.folder / 'none', set()), (order, {'bin/audit_order', 'lib/kitrevasu/audit_order', 'lib/kitrevasu/audit_order.words'})):
             done = subprocess.run(['make', '-s', 'install', f'PREFIX={self.folder}/usr', f'PROGRAM={program}', f'ORDER={second}'], cwd=TOP, capture_output=True, check=False)
@@ -1613,10 +1657,10 @@ def main() -> int:
     global KILLS, PROGRAM
     words = argparse.ArgumentParser(description=__doc__.splitlines()[0])
     words.add_argument('--program', default=PROGRAM)
-    words.add_argument('--long', action='store_true', help='kill a hundred runs of keep, and not ten')
+    words.add_argument('--kills', type=int, default=KILLS, help='how many runs of keep are killed at random moments')
     words.add_argument('names', nargs='*')
     options = words.parse_args()
-    KILLS = 100 if options.long else KILLS
+    KILLS = options.kills
     PROGRAM = options.program
     subprocess.run([*shlex.split(PROGRAM), 'back', '0'], stdin=subprocess.DEVNULL, stdout=subprocess.DEVNULL, check=True)
     if PROGRAM == str(SCRIPT):

@@ -1,0 +1,34 @@
+"""The command `stat`: what a log or a store holds, and what to mistrust."""
+from __future__ import annotations
+
+import argparse
+import json
+
+from .basics import ANSWER, many, shown
+from .session import Session
+from .trust import span, store_span, warnings_of
+
+FAULTS = ('', 'too long', 'header', 'a field is missing', 'number', 'text')
+
+
+def stat(session: Session, options: argparse.Namespace) -> int:
+    counts, found = session.counts, warnings_of(session)
+    if options.json:
+        of_the_session = {'order': 'effects'} if session.ordered else {} if session.store is None else {'store': session.store, 'mode': session.mode}
+        print(json.dumps({**counts, **of_the_session, 'warnings': found, 'least': session.reading.least, 'greatest': session.reading.greatest,
+                          'files': [it.path for it in session.program.logs.files]}))
+        return ANSWER
+    if session.store is not None:
+        print(f'{shown(session.store)}: {store_span(session)}')
+    if session.has_lines:
+        print(f'{many(len(session.program.logs.files), "file")}, {span(session)}')
+    for key, text in (('lines', 'lines'), ('used', 'used'), ('other', 'of other types'), ('blank', 'blank'),
+                      ('malformed', 'malformed'), ('events', 'events'), ('late', 'of them late'), ('unmapped', 'of calls that aren\'t followed'), ('excess', 'records dropped from overlong events'),
+                      ('flows', 'flows'), ('kept', f'rows kept in {session.mode} mode'), ('known', 'objects')):
+        print(f'{counts[key]:>12,}  {text}')
+    if counts['malformed_lines']:
+        numbered = ', as they are numbered when ordered' if session.ordered else ''
+        print(f'malformed lines{numbered}: ' + ', '.join(f'{line} ({FAULTS[fault]})' for line, fault in counts['malformed_lines'][:10]))
+    for text in found:
+        print(f'warning: {text}')
+    return ANSWER

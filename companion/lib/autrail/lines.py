@@ -1,0 +1,139 @@
+"""What autrail reads from the log's own lines: calls, users, sessions, terminals and arguments of processes."""
+from __future__ import annotations
+
+import re
+from collections import Counter, defaultdict
+from dataclasses import dataclass, field
+from typing import NamedTuple
+
+X86_64 = b'c000003e'
+# Calls without which the answers mean little: by x86-64 number.
+NEEDED_CALLS = {
+    'reads': {b'0', b'17', b'19', b'295', b'327'},
+    'writes': {b'1', b'18', b'20', b'296', b'328'},
+    'opens': {b'2', b'85', b'257', b'437'},
+    'starts of processes': {b'56', b'57', b'58', b'435'},
+    'starts of programs': {b'59', b'322'},
+}
+EXECS = (b'59', b'322')
+EXIT_GROUP = b'231'
+UNSET = '4294967295'
+READ_LINES = (b'type=SYSCALL ', b'type=EXECVE ', b'node=')
+CALL = re.compile(
+    rb'(?:node=(\S+) )?type=SYSCALL msg=audit\((\d{1,15})\.(\d{3}):(\d{1,10})\): arch=(\w{1,8}) syscall=(\d{1,10})'
+    rb'(?: per=\w+)?(?: success=(\w+))?[^\x1d]*? ppid=\d{1,10} pid=(\d{1,10})')
+# What is read of a call's line only if its process is shown.
+CALLER = re.compile(
+    rb' ppid=(\d{1,10}) pid=\d{1,10}(?: auid=(\d{1,10}) uid=(\d{1,10}))?'
+    rb'(?:[^\x1d]*? tty=(\S+) ses=(\d{1,10}))?(?:[^\x1d]*\x1d.*?AUID="([^"]*)" UID="([^"]*)")?')
+ARGUMENTS = re.compile(rb'(?:node=\S+ )?type=EXECVE msg=audit\((\d+\.\d{3}:\d+)\): ([^\x1d]*)')
+ARGUMENT = re.compile(rb'(?:^|\s)a(\d{1,6})(?:\[\d+\])?=("[^"]*"|[0-9A-Fa-f]+)')
+HEADER = re.compile(rb'(?:node=\S+ )?type=\S+ msg=audit\((\d{1,15})\.(\d{3}):(\d{1,10})\):')
+# The mark by which audit_order keeps the time that a line had.
+MARK = re.compile(rb'\x1dWAS=\{ audit\((\d{1,15})\.(\d{3}):\d{1,10}\) \}$')
+
+
+class Caller(NamedTuple):
+    """Who made a call, as the fields that CALLER finds. A field that the line doesn't have is empty."""
+    parent: bytes
+    audit_user: bytes
+    user: bytes
+    terminal: bytes
+    session: bytes
+    audit_user_name: bytes
+    user_name: bytes
+
+
+@dataclass
+class Life:
+    """What the lines with one process number say, up to its end: the line of the last call, the times, and the events of the execs."""
+    line: bytes
+    first: int
+    last: int
+    ended: bool = False
+    execs: list[bytes] = field(default_factory=list)
+
+    @property
+    def caller(self) -> Caller:
+        return Caller(*CALLER.search(self.line).groups(b''))
+
+
+def argument_words(text: bytes) -> list[str]:
+    """The arguments that EXECVE records spell: quoted, in hex, or in numbered parts of either."""
+    words: dict[int, bytes] = defaultdict(bytes)
+    for number, value in ARGUMENT.findall(text):
+        if value.startswith(b'"'):
+            words[int(number)] += value[1:-1]
+        elif len(value) % 2 == 0:
+            words[int(number)] += bytes.fromhex(value.decode())
+    return [words[it].decode('utf-8', 'replace') for it in sorted(words)]
+
+
+class Reading:
+    """One pass over the log's lines: users and arguments by process, and what to mistrust."""
+
+    def __init__(self) -> None:
+        self.start = b''
+        self.bytes = 0
+        self.calls: Counter[tuple[bytes, bytes, bytes]] = Counter()
+        self.lives: dict[int, list[Life]] = defaultdict(list)
+        self.arguments: dict[bytes, bytes] = defaultdict(bytes)
+        self.least: int | None = None
+        self.greatest = 0
+        self.back_jump: tuple[int, int] | None = None
+
+    def take(self, lines: bytes) -> None:
+        self.start = self.start or lines[:4096]
+        self.bytes += len(lines)
+        for line in lines.split(b'\n'):
+            if line.startswith(READ_LINES):
+                if found := CALL.match(line):
+                    self.take_call(line, *found.groups())
+                elif found := ARGUMENTS.match(line):
+                    self.arguments[found[1]] += b' ' + found[2]
+
+    def take_call(self, line: bytes, host: bytes | None, seconds: bytes, part: bytes, serial: bytes, arch: bytes, number: bytes,
+                  success: bytes | None, pid: bytes) -> None:
+        at = int(seconds + part)
+        self.calls[host or b'', arch, number] += 1
+        if self.least is None or at < self.greatest:
+            self.take_earlier(at)
+        else:
+            self.greatest = at
+        lives = self.lives[int(pid)]
+        if not lives or lives[-1].ended:
+            lives.append(Life(line, at, at))
+        life = lives[-1]
+        life.line, life.first, life.last = line, min(life.first, at), max(life.last, at)
+        if number in EXECS and arch == X86_64 and success == b'yes':
+            life.execs.append(seconds + b'.' + part + b':' + serial)
+        elif number == EXIT_GROUP and arch == X86_64:
+            life.ended = True
+
+    @property
+    def hosts(self) -> set[bytes]:
+        return {host for host, _, _ in self.calls}
+
+    def take_earlier(self, at: int) -> None:
+        """Keeps the widest step back in time: after a time far ahead all later lines seem to be from before it."""
+        if self.greatest - at > 3600_000 and (self.back_jump is None or self.greatest - at > self.back_jump[0] - self.back_jump[1]):
+            self.back_jump = (self.greatest, at)
+        self.least = at if self.least is None else min(self.least, at)
+        self.greatest = max(self.greatest, at)
+
+    def life_of(self, pid: int, number: int) -> tuple[Life | None, bool]:
+        """The lines of a life of a process, and whether they can be distinguished from the lines of its other lives."""
+        lives = self.lives.get(pid, [])
+        if number < len(lives):
+            return lives[number], True
+        return (lives[-1], False) if lives else (None, False)
+
+    def arguments_of(self, life: Life) -> list[list[str]]:
+        return [argument_words(self.arguments[it]) for it in life.execs if it in self.arguments]
+
+
+def user_text(number: bytes, name: bytes = b'') -> str:
+    text = number.decode()
+    if text == UNSET:
+        return 'unset'
+    return f'{text} ({name.decode("utf-8", "replace")})' if name and name != b'unset' else text or 'not recorded'

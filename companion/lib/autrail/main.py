@@ -1,0 +1,78 @@
+"""A run of autrail, from its words to its status."""
+from __future__ import annotations
+
+import argparse
+import os
+import signal
+import sys
+from typing import Sequence
+
+from .basics import INTERRUPTED, READ_FAULT, Refused, WRITE_FAULT, bad_words, say, shown
+from .commands import answered
+from .keep import keep
+from .options import options_of
+from .prompt import ask
+from .rules import rules
+from .session import Session
+from .stores import NO_LINES
+from .times import moment, spelled
+from .trust import IN_ORDER, warnings_of
+
+
+def run(words: Sequence[str]) -> int:
+    options = options_of(words)
+    if options.command == 'rules':
+        return rules()
+    if options.command == 'keep':
+        return keep(options)
+    if options.command == 'ask' and '-' in options.input:
+        bad_words('ask reads its commands from standard input, so the log can\'t come from there')
+    bounds_are_times(options)
+    if options.store is not None:
+        must_go_with_a_store(options)
+    with Session.over(options) as session:
+        if not options.quiet and options.command != 'stat':
+            for text in warnings_of(session):
+                say(f'warning: {text}')
+            if not session.has_lines and options.command != 'find':
+                say(f'without arguments and users: {NO_LINES}')
+        if session.ordered:
+            say(IN_ORDER)
+        return ask(session) if options.command == 'ask' else answered(session, options)
+
+
+def must_go_with_a_store(options: argparse.Namespace) -> None:
+    """Refuses options that a store leaves no choice of."""
+    if options.mode:
+        bad_words('a store has the mode in which it was begun, so -m doesn\'t stand beside --store')
+    if options.order:
+        bad_words('a store has the order in which its logs were taken, so --order doesn\'t stand beside --store')
+
+
+def bounds_are_times(options: argparse.Namespace) -> None:
+    """Refuses words that aren't a time before a long log is read."""
+    if getattr(options, 'time', None):
+        spelled(moment(' '.join(options.time)))
+
+
+def main() -> int:
+    for stream in (sys.stdout, sys.stderr):
+        stream.reconfigure(errors='backslashreplace')
+    signal.signal(signal.SIGTERM, lambda number, _: sys.exit(128 + number))
+    try:
+        status = run(sys.argv[1:])
+        sys.stdout.flush()
+        return status
+    except Refused as fault:
+        sys.stdout.flush()
+        say(str(fault))
+        return fault.status
+    except KeyboardInterrupt:
+        return INTERRUPTED
+    except BrokenPipeError:
+        os.dup2(os.open(os.devnull, os.O_WRONLY), sys.stdout.fileno())
+        return 128 + signal.SIGPIPE
+    except OSError as fault:
+        os.dup2(os.open(os.devnull, os.O_WRONLY), sys.stdout.fileno())
+        say(f'{shown(str(fault.filename))}: {fault.strerror}' if fault.filename else f'the answer can\'t be written ({fault.strerror})')
+        return READ_FAULT if fault.filename else WRITE_FAULT

@@ -1,0 +1,109 @@
+"""Which objects a word of the command line means."""
+from __future__ import annotations
+
+import contextlib
+import fnmatch
+import ipaddress
+import os
+import re
+from dataclasses import dataclass
+
+from .basics import NO_ANSWER, Refused, bad_words, many, say, shown
+from .session import Session
+from .things import Thing
+
+
+@dataclass
+class Match:
+    """The objects that WHAT may mean, and whether they are those of one name, of which the last may be meant."""
+    things: list[Thing]
+    one_name: bool = False
+
+    @property
+    def ran_it(self) -> list[Thing]:
+        """The processes that ran the program of this name, which are meant only if nothing else has the name."""
+        files = [it for it in self.things if it.kind != 'process']
+        return [it for it in self.things if it.kind == 'process'] if files and self.one_name else []
+
+
+def candidates(session: Session, what: str) -> Match:
+    if match := re.fullmatch(r'#(\d{1,10})', what):
+        return Match([session.numbered(int(match[1]))])
+    prefix, _, rest = what.partition(':')
+    if prefix == 'name':
+        return Match(session.named(rest), one_name=True)
+    if match := re.fullmatch(r'pid:(\d+)(?:\.(\d+))?', what):
+        key = f'process {match[1]} ' + (match[2] or '')
+        return Match([it for it in session.everything() if it.key == key or not match[2] and it.key.startswith(key)], one_name=True)
+    if prefix == 'exe':
+        return Match([it for it in session.named(rest) if it.kind == 'process'])
+    if match := re.fullmatch(r'inode:(\w+:\w+):(\d+)', what):
+        key = f'file {match[1]} {match[2]} '
+        return Match([it for it in session.everything() if it.key.startswith(key)], one_name=True)
+    found = session.named(spelled_out(what))
+    only_processes = all(it.kind == 'process' for it in found)
+    return Match(found or alike(session, what), one_name=not only_processes)
+
+
+def spelled_out(what: str) -> str:
+    """An IPv6 address with its port as the program spells it, and everything else as it is."""
+    if match := re.fullmatch(r'\[([0-9A-Fa-f:.]+)\]:(\d{1,5})', what):
+        with contextlib.suppress(ValueError):
+            return f'[{ipaddress.IPv6Address(match[1]).exploded}]:{match[2]}'
+    return what
+
+
+def alike(session: Session, what: str) -> list[Thing]:
+    """Objects by a pattern, an address without its port, a port, a base name, or the program of a process."""
+    everything = session.everything()
+    if re.search(r'[*?\[]', what):
+        found = [it for it in everything if any(fnmatch.fnmatchcase(name, what) for name in it.names)]
+        if found:
+            return found
+    ends = [it for it in everything if it.kind == 'address' and any(is_end(name, what) for name in it.names)]
+    bases = [it for it in everything if it.kind != 'process' and any(is_base(name, what) for name in it.names)]
+    return ends or bases or [it for it in everything if it.kind == 'process' and any(what in (name, os.path.basename(name)) for name in it.names)]
+
+
+def is_end(address: str, what: str) -> bool:
+    """Whether WHAT is the address's host alone, or its port alone as :PORT."""
+    host, _, port = address.rpartition(':')
+    if what.startswith(':'):
+        return what[1:] == port
+    try:
+        return ipaddress.ip_address(host.strip('[]')) == ipaddress.ip_address(what.strip('[]'))
+    except ValueError:
+        return False
+
+
+def is_base(name: str, what: str) -> bool:
+    return os.path.basename(name) == what or name == 'unix:' + what
+
+
+def describe(thing: Thing) -> str:
+    return f'#{thing.number} {thing.label} ({shown(thing.key)})'
+
+
+def matching(session: Session, what: str) -> Match:
+    match = candidates(session, what)
+    if not match.things:
+        said = f'nothing in the {session.holder} is called {shown(what)}'
+        base = os.path.basename(what)
+        near = sorted({it for thing in session.everything() for it in thing.names if base and base.lower() in it.lower()})
+        raise Refused(NO_ANSWER, said + ('; there is ' + ', '.join(map(shown, near[:5])) if near else ''))
+    return match
+
+
+def resolve(session: Session, what: str, each: bool) -> list[Thing]:
+    """The objects that are asked about: one, or with `each` all that WHAT may mean."""
+    match = matching(session, what)
+    if match.ran_it:
+        say(f'{many(len(match.ran_it), "process", "processes")} ran {shown(what)}: exe:{shown(what)} asks about them')
+    things = [it for it in match.things if it not in match.ran_it]
+    if each or len(things) == 1:
+        return things
+    listed = ', '.join(map(describe, things[:8])) + (', ..' if len(things) > 8 else '')
+    if not match.one_name:
+        bad_words(f'{shown(what)} may mean {many(len(things), "object")}: {listed}; name one, or ask for all by --each')
+    say(f'{shown(what)} is the name of {many(len(things), "object")}: {listed}; the last is taken, --each takes all')
+    return things[-1:]

@@ -1,0 +1,132 @@
+"""What to mistrust in a log or a store, and what no answer over it can show."""
+from __future__ import annotations
+
+import re
+from collections import Counter
+from datetime import datetime
+from typing import Sequence
+
+from .basics import many, shown
+from .kept import Taken, gap_text, time_text
+from .lines import NEEDED_CALLS, Reading, X86_64
+from .session import Session
+from .times import DAY, clock, zone
+
+OTHER_MACHINES = {b'40000003': 'the 32-bit gate (i386)', b'c00000b7': 'AArch64', b'40000028': 'ARM', b'c00000f3': 'RISC-V'}
+
+
+def warnings_of(session: Session) -> list[str]:
+    """What may make the answers mean less than they seem to, each in one line with what to do."""
+    counts, reading = session.counts, session.reading
+    unfit = unfit_for_answers(counts, session.holder, reading.start)
+    if unfit:
+        return unfit
+    found = list(session.program.logs.warnings)
+    if session.noted:
+        found += noted_warnings(session.noted)
+    if session.has_lines:
+        found += missing_calls(reading) + other_machines(reading) + wrong_times(session)
+    found += counted_warnings(counts)
+    if len(reading.hosts) > 1:
+        found.append(f'the log has lines of {many(len(reading.hosts), "host")}, and their process and file numbers are mixed up: '
+                     'ask about each host\'s log apart ('
+                     + ', '.join(shown(it.decode('utf-8', 'replace')) or 'no name' for it in sorted(reading.hosts)[:5]) + ')')
+    if session.ordered:
+        found.append('in the order of effects a read of a regular file may count too late, so a path may be shown that can\'t be: '
+                     'look at it by "why A B --lines", and without --order')
+    return found
+
+
+def unfit_for_answers(counts: dict, holder: str, start: bytes) -> list[str]:
+    """The only warning that is given of a log or store about which no question makes sense."""
+    if not counts or counts['lines'] == 0:
+        return [f'the {holder} is empty']
+    if counts['malformed'] * 2 > counts['lines']:
+        return [f'{counts["malformed"]:,} of {many(counts["lines"], "line")} are malformed: {not_a_log(start)}']
+    return []
+
+
+def counted_warnings(counts: dict) -> list[str]:
+    """What the program's counts say."""
+    found = []
+    if counts['late'] * 50 > counts['events']:
+        found.append(f'{counts["late"]:,} of {many(counts["events"], "event")} came late, '
+                     'so a path over them may be missing or have a later time')
+    if counts['excess']:
+        found.append(f'{many(counts["excess"], "record")} of overlong events were dropped')
+    return found
+
+
+def noted_warnings(noted: Taken) -> list[str]:
+    """What keep noted of a store."""
+    return list(map(gap_text, noted.gaps)) + missing_kinds(noted.unseen)
+
+
+def not_a_log(start: bytes) -> str:
+    """Why a log isn't one that auditd writes, and what to do."""
+    if start.startswith(b'\x28\xb5\x2f\xfd'):
+        return 'it is packed by zstd; unpack it first'
+    if b'\0' in start:
+        return 'it isn\'t text; unpack it first'
+    if re.search(rb'msg=audit\(\d+/\d+/\d+ ', start):
+        return 'it is interpreted (ausearch -i); take it by ausearch --raw'
+    if start.lstrip().startswith(b'{') or re.search(rb'audit(\[\d+\])?: ', start):
+        return 'it comes from the journal or syslog; take /var/log/audit/audit.log'
+    return 'it isn\'t an audit log as auditd writes it'
+
+
+def missing_calls(reading: Reading) -> list[str]:
+    numbers = {call for _, arch, call in reading.calls if arch == X86_64}
+    missing = [name for name, calls in NEEDED_CALLS.items() if not calls & numbers]
+    return [] if not numbers and reading.calls else missing_kinds(missing)
+
+
+def missing_kinds(missing: Sequence[str]) -> list[str]:
+    if not missing:
+        return []
+    return [f'the log has no {" and no ".join(missing)}, so paths over them are missing: load the rules that "autrail rules" prints']
+
+
+def other_machines(reading: Reading) -> list[str]:
+    counts: Counter[bytes] = Counter()
+    for (_, arch, _), count in reading.calls.items():
+        counts[arch] += count
+    return [f'{many(count, "call")} of {OTHER_MACHINES.get(arch, "arch " + arch.decode())} {"isn" if count == 1 else "aren"}\'t followed'
+            for arch, count in sorted(counts.items()) if arch != X86_64]
+
+
+def wrong_times(session: Session) -> list[str]:
+    found, reading = [], session.reading
+    if reading.back_jump:
+        what_follows = ('later reads may count at the end of the log, so paths may be shown that can\'t be: ask again without its lines'
+                        if session.ordered else 'all later events have it in the answers')
+        found.append(f'the log goes back in time, from {clock(reading.back_jump[0])} to {clock(reading.back_jump[1])}: if the first is a wrong time, '
+                     + what_follows)
+    elif reading.greatest > (datetime.now().timestamp() + DAY) * 1000:
+        found.append(f'the log has the time {clock(reading.greatest)}, more than a day ahead of this machine\'s clock')
+    return found
+
+
+def span(session: Session) -> str:
+    reading = session.reading
+    if reading.least is None:
+        return 'no calls'
+    return f'calls from {clock(reading.least)} to {clock(reading.greatest)} {zone(reading.greatest)}'
+
+
+def store_span(session: Session) -> str:
+    """What a store has of logs, as far as it tells that itself."""
+    noted = session.noted
+    times = f' from {clock(time_text(noted.first))} to {clock(time_text(noted.last))}' if noted and noted.first else ''
+    return f'{many(session.counts["events"], "event")} of {many(session.counts["bytes"], "byte")} of logs{times}'
+
+
+def blind_spots(session: Session) -> str:
+    """What no answer over this log or store can show."""
+    has = span(session) if session.store is None else store_span(session)
+    return (f'  the {session.holder} has {has}; it can\'t show what came before or after,\n'
+            f'  calls without a record, calls that aren\'t followed ({session.counts["unmapped"]:,} in it), '
+            + ('or an order that audit_order can\'t tell' if session.ordered else 'or flows that it has in another order than they happened'))
+
+
+IN_ORDER = 'in the order of effects'
