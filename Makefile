@@ -16,10 +16,10 @@ install: built
 		install -m 755 "$(ORDER)" "$(DESTDIR)$(PREFIX)/lib/kitrevasu/audit_order" && \
 		install -m 644 companion/words/audit_order "$(DESTDIR)$(PREFIX)/lib/kitrevasu/audit_order.words" && \
 		install -m 755 companion/installed.sh "$(DESTDIR)$(PREFIX)/bin/audit_order"; \
-	else \
-		echo 'audit_order is not built, so it is not installed, and autrail --order needs it: ./audit_order </dev/null builds it; then install again'; \
 	fi
 	install -m 755 companion/autrail "$(DESTDIR)$(PREFIX)/bin/autrail"
+	install -d "$(DESTDIR)$(PREFIX)/lib/kitrevasu/autrail"
+	install -m 644 companion/lib/autrail/*.py "$(DESTDIR)$(PREFIX)/lib/kitrevasu/autrail"
 	install -m 644 companion/kitrevasu.rules "$(DESTDIR)$(PREFIX)/share/autrail/kitrevasu.rules"
 	install -m 644 companion/man/autrail.1 "$(DESTDIR)$(PREFIX)/share/man/man1/autrail.1"
 	install -m 644 companion/autrail.bash "$(DESTDIR)$(PREFIX)/share/bash-completion/completions/autrail"
@@ -34,6 +34,7 @@ install: built
 		sed 's|@PREFIX@|$(PREFIX)|g' "companion/autrail-keep.$$unit" > "$(DESTDIR)$(PREFIX)/lib/systemd/system/autrail-keep.$$unit" && \
 		chmod 644 "$(DESTDIR)$(PREFIX)/lib/systemd/system/autrail-keep.$$unit" || exit 1; \
 	done
+	@[ -x "$(ORDER)" ] || echo 'audit_order is not built, so it is not installed, and autrail --order needs it: ./audit_order </dev/null builds it; then install again'
 
 # The scripts prove and build a program if the code has changed since; a program of another place is taken as it is. The second
 # program is built anew only if it was built before.

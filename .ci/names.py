@@ -1,10 +1,13 @@
-"""Whether what docs/GLOSSARY.md and docs/CLAIMS.md name is there.
+"""Whether what docs/GLOSSARY.md, docs/CLAIMS.md, docs/ARCHITECTURE.md and CONTRIBUTING.md name is there.
 
 In GLOSSARY.md `CRATE:Module` is a file of the crate's specs/, and a plain name is a word of a definition or of code.
 In CLAIMS.md `FUNCTION: CLAUSE, ..` is a function that has clauses of these names, and a plain name is a word of a definition or of code.
+In ARCHITECTURE.md and CONTRIBUTING.md, which say where to change what, a plain name is a word of a definition, of a proof or of code, or a file's,
+and what has a slash or a suffix is a file or a folder of the repository.
 Prints each name that isn't there, and ends with status 1 if there is one.
 """
 import re
+import subprocess
 import sys
 from pathlib import Path
 
@@ -63,11 +66,33 @@ def faults_of(document, words, clauses):
                 yield name, 'no such word in code or definitions'
 
 
+def paths():
+    """Each file and folder of the repository, also without the suffix, with a slash at both ends."""
+    files = subprocess.run(['git', 'ls-files'], capture_output=True, text=True, check=True).stdout.splitlines()
+    found = {str(folder) for file in files for folder in Path(file).parents} | set(files) | {str(Path(file).with_suffix('')) for file in files}
+    return [f'/{it}/' for it in found]
+
+
+def places_of(document, words, places):
+    """The names of a document that are neither words of code, definitions and proofs nor files."""
+    for name in QUOTED.findall(Path(document).read_text(encoding='utf-8')):
+        path = name.rstrip('/')
+        if any(it.endswith(f'/{path}/') for it in places):
+            continue
+        if NAME.fullmatch(name) and not all(it in words for it in name.split('::')):
+            yield name, 'no such word in code, definitions or proofs, and no such file'
+        elif re.fullmatch(r'[\w.-]+(/[\w.-]*)+|[\w-]+\.(rt|antt|py|md|log|txt)', name):
+            yield name, 'no such file'
+
+
 def main():
     sources, specs = texts_of('*/src/**/*.rt'), texts_of('*/specs/**/*.antt')
     words = set(re.findall(r'\w+', '\n'.join([*sources, *specs, Path('crates.txt').read_text(encoding='utf-8')])))
     clauses = clauses_of(sources, specs)
     faults = [(document, *fault) for document in ('docs/GLOSSARY.md', 'docs/CLAIMS.md') for fault in faults_of(document, words, clauses)]
+    words |= set(re.findall(r'\w+', '\n'.join(texts_of('*/proofs/**/*.antt') + [it.read_text(encoding='utf-8') for it in Path('bench').glob('*.py')])))
+    there = paths()
+    faults += [(document, *fault) for document in ('docs/ARCHITECTURE.md', 'CONTRIBUTING.md') for fault in places_of(document, words, there)]
     for document, name, why in faults:
         print(f'{document}: `{name}`: {why}')
     return 1 if faults else 0

@@ -7,7 +7,8 @@ The logs are the real ones of examples/ and three generated ones, the last of th
 `reduce`, by one of each of several parts, and by one that goes on with `--resume` as the log grows, cut at ends of lines and within lines. Then each
 question is asked of the store, and of `watch` over the whole log with a `settle` wherever a part ends: the counts, all objects of a small log or so many
 random ones of a large one, backward and forward, also at times, paths of random pairs, names, and questions outside the grammar. The replies must be
-the same byte for byte. Prints the first difference, and ends with status 1 if there is one.
+the same byte for byte. And the commands that docs/QUESTIONS.md names for a log that grows and is rotated are run in their order, in each mode, over a log
+that does so. Prints the first difference, and ends with status 1 if there is one.
 """
 import argparse
 import os
@@ -52,6 +53,10 @@ class Stores:
         self.folder, self.program, self.asked = folder, os.path.abspath(options.program), options.asked
         self.rng, self.replies, self.stores = random.Random(options.seed), 0, 0
 
+    def file(self, name, content):
+        (self.folder / name).write_bytes(content)
+        return self.folder / name
+
     def reduce(self, mode, log, store, *words):
         ran = run(['reduce', mode, log, store, *words], program=self.program)
         if ran.status != 0:
@@ -87,6 +92,37 @@ class Stores:
         return None
 
 
+def commands_for_rotated_logs():
+    """The words of the commands in docs/QUESTIONS.md, in their order."""
+    text = (TOP / 'docs/QUESTIONS.md').read_text()
+    return [line.partition('#')[0].split()[1:] for line in text.splitlines() if line.startswith('    ./audit_cli reduce ') and '/var/log/audit' in line]
+
+
+def difference_of_rotated_logs(here, mode):
+    """What differs if a log is kept by these commands as it grows and is rotated, and then grows again; or None."""
+    log, older, store = here.folder / 'audit.log', here.folder / 'audit.log.1', here.folder / 'host.store'
+    text = (TOP / 'examples/web1_sample.log').read_bytes()
+    ends = sorted(here.rng.sample(range(1, len(text)), 5)) + [len(text)]
+    first, begun, grown, rotated, new, last = ends
+    store.unlink(missing_ok=True)
+    whole, begins, goes_on, rest, begins_again = commands_for_rotated_logs()
+    # Each command, and what the two files are when it is given.
+    for words, of_older, of_log in [(whole, (0, first), None), (begins, (0, first), (first, begun)), (goes_on, (0, first), (first, grown)),
+                                    (rest, (first, rotated), (rotated, rotated)), (begins_again, (first, rotated), (rotated, new)),
+                                    (goes_on, (first, rotated), (rotated, last))]:
+        for path, part in ((older, of_older), (log, of_log)):
+            path.write_bytes(text[part[0]:part[1]] if part else b'')
+        places = {'full': mode, '/var/log/audit/audit.log': log, '/var/log/audit/audit.log.1': older, 'host.store': store}
+        ran = run([places.get(word, word) for word in words], program=here.program)
+        if ran.status != 0:
+            return f'{words} has status {ran.status}, {ran.text!r}'
+    taken = [f'take {end - begin}\nsettle' for begin, end in zip([0, *ends], ends)]
+    asked = questions_for(here.rng, here.file('whole.log', text), 52, here.asked)
+    wanted = run(['watch', mode, here.file('whole.log', text)], lines_of(taken) + asked, here.program).out.split(b'\n', 2 * len(taken))[-1]
+    here.stores, here.replies = here.stores + 1, here.replies + wanted.count(b'\n')
+    return None if run(['query', store], asked, here.program).out == wanted else f'parts that end at {ends} are answered otherwise'
+
+
 def main():
     parser = argparse.ArgumentParser(description=__doc__, formatter_class=argparse.RawDescriptionHelpFormatter)
     parser.add_argument('--program', default=PROGRAM)
@@ -98,6 +134,10 @@ def main():
         logs = [TOP / 'examples' / log for log in EXAMPLES]
         logs += [made_log(here.folder / f'log{number}', options.seed + number, events, *words) for number, (events, words) in enumerate(GENERATED)]
         for mode in MODES:
+            text = difference_of_rotated_logs(here, mode)
+            if text:
+                print(f'{mode}, a log that is rotated: {text}')
+                return 1
             for log in logs:
                 for parts in cuts_of(here.rng, log):
                     text = here.difference(mode, log, parts)

@@ -3,22 +3,24 @@
 
     bench/large.py [--program ./audit_cli] [--mode plain] [--only WORD] [--scale 1.0] [--store]
 
-For each shape, at a size and at four times of it: the seconds, the peak of memory, and the exponent of the seconds between the two, after the time of
-an empty run is taken off. With `--store` the logs are taken by `reduce` into a store, whose bytes are printed, and the questions are asked of it. It ends
-with status 1 if a run has another status than 0, or if an exponent is above 1.3 where the larger run takes a second or more.
+For each shape, at a size and at four times of it: the seconds of the processor, the peak of memory, and the exponent of the seconds between the two, after
+the time of an empty run is taken off. With `--store` the logs are taken by `reduce` into a store, whose bytes are printed, and the questions are asked of
+it. It ends with status 1 if a run has another status than 0, or if an exponent is above 1.3 where the larger run takes a second or more.
 """
 import argparse
 import math
 import os
+import random
 import subprocess
 import sys
 import tempfile
-import time
 
 from compare import HERE
 
 TAKE_ALL = b'take 999999999999999\nsettle\nstat\nend\n'
 STEEPEST = 1.3
+# The last second of that year, in milliseconds after the first time of these logs.
+YEAR_9999 = (253_402_300_799 - 1_700_000_000) * 1000
 
 
 def stamp(number, ms=None):
@@ -47,6 +49,12 @@ def one_line(size):
 def line_feeds(size):
     for _ in range(size // 1_000_000):
         yield '\n' * 1_000_000
+
+
+def random_bytes(size):
+    rng = random.Random(1)
+    for _ in range(size // 1_000_000):
+        yield rng.randbytes(1_000_000).decode('latin1')
 
 
 def one_key(size):
@@ -94,6 +102,17 @@ def falling_times(size):
         yield call(number, 1, 9, exit_=5, ms=10 ** 10 - number) + end(number, ms=10 ** 10 - number)
 
 
+def standing_times(size):
+    for number in range(1, size):
+        yield call(number, 1, 9, exit_=5, ms=0) + end(number, ms=0)
+
+
+def jumping_times(size):
+    for number in range(1, size):
+        ms = YEAR_9999 if number % 2 else number
+        yield call(number, 1, 9, exit_=5, ms=ms) + end(number, ms=ms)
+
+
 def far_future(size):
     yield 'type=EOE msg=audit(999999999999999.999:1): \n'
     for number in range(2, size):
@@ -136,6 +155,7 @@ def bad_questions(size):
 SHAPES = {
     'one line without a line feed': (256_000_000, one_line, take_all),
     'line feeds alone': (64_000_000, line_feeds, take_all),
+    'random bytes': (16_000_000, random_bytes, take_all),
     'records of one key': (250_000, one_key, take_all),
     'waiting groups': (250_000, waiting_groups, take_all),
     'descriptors of one process': (250_000, descriptors, take_all),
@@ -144,6 +164,8 @@ SHAPES = {
     'names of 4,096 bytes, all different': (25_000, long_names, take_all),
     'one name of 4,096 bytes': (25_000, one_long_name, take_all),
     'times that fall': (250_000, falling_times, take_all),
+    'times that stand still': (250_000, standing_times, take_all),
+    'times that jump to the year 9999 and back': (250_000, jumping_times, take_all),
     'a far future time first': (250_000, far_future, take_all),
     'many sources': (20_000, many_sources, take_all),
     'many questions': (250_000, nothing, many_questions),
@@ -153,13 +175,12 @@ SHAPES = {
 
 
 def cost(words, questions):
-    """The seconds and the peak of memory in MB of one run, and its status."""
+    """The seconds of the processor and the peak of memory in MB of one run, and its status."""
     with open(questions, 'rb') as asked:
-        begun = time.perf_counter()
         child = subprocess.Popen(words, stdin=asked, stdout=subprocess.DEVNULL, stderr=subprocess.DEVNULL)
         _, status, usage = os.wait4(child.pid, 0)
         child.returncode = 0
-        return time.perf_counter() - begun, usage.ru_maxrss / 1024, os.waitstatus_to_exitcode(status)
+        return usage.ru_utime + usage.ru_stime, usage.ru_maxrss / 1024, os.waitstatus_to_exitcode(status)
 
 
 def costs(program, mode, log, questions, store):
@@ -192,7 +213,7 @@ def main():
             seconds = []
             for factor in (1, 4):
                 count = int(size * factor * options.scale)
-                with open(log, 'w') as file:
+                with open(log, 'w', encoding='latin1') as file:
                     file.writelines(log_of(count))
                 with open(questions, 'wb') as file:
                     file.writelines(asked_of(count))

@@ -5,7 +5,7 @@
 
 A store of another mode, files that are none, empty files, folders, files without permission, logs and stores in each other's place, a shorter
 log, a full disk, numbers at the edge of what continues a store, a store cut short at each length, and one of which each byte is changed in turn, to
-so many values. A changed store is refused, with its place, or answered as the plain reading of bench/plain_store.py answers it, and a further log can
+`--values` values. A changed store is refused, with its place, or answered as the plain reading of bench/plain_store.py answers it, and a further log can
 be taken into it. The stores that are changed are the example of docs/FORMATS.md and one that the program wrote. Prints what is wrong, and ends with
 status 1 if something is.
 """
@@ -24,6 +24,11 @@ from runs import MODES, PROGRAM, TOP, lines_of, made_log, run
 TWO_FLOWS = TOP / 'examples/two_flows.log'
 FIRST_LINE = 140
 QUESTIONS = ['stat', *(f'{way} {of}' for of in range(4) for way in ('back', 'fore', 'show')), 'back 1 1.000', 'fore 0 1.001', 'find /p', 'end']
+# Two processes write a file, and then the first one again.
+THREE_WRITES = ''.join(
+    f'type=SYSCALL msg=audit({at}.000:{at}): arch=c000003e syscall=90 success=yes exit=0 a0=0 a1=0 a2=0 a3=0 items=0 ppid=1 pid={pid} comm="p" exe="/p"\n'
+    f'type=PATH msg=audit({at}.000:{at}): item=0 name="/f7" inode=7 dev=08:01 nametype=NORMAL\ntype=EOE msg=audit({at}.000:{at}): \n'
+    for at, pid in ((1, 100), (2, 200), (3, 100)))
 LIMITED_EVENTS, DISKS, PAGE = 24_000, 3, 4096
 SHOWN = 20
 
@@ -87,6 +92,28 @@ def files_that_are_no_stores(here):
         path = here.file('no.store', content)
         for words in (['reduce', 'continuous', TWO_FLOWS, path], ['reduce', 'continuous', TWO_FLOWS, path, '--resume'], ['query', path]):
             here.expect(7, f'bad store at {place}', *words, keeps=[path])
+
+
+def one_change(here):
+    """The store of three writes in full mode, changed at one place: where it is refused, or what it still answers."""
+    log = here.file('writes.log', THREE_WRITES.encode())
+    store = here.store('full.store', 'full', log)
+    one, counts = store.read_bytes(), here.run('query', store, questions=b'stat\n').out
+    last = 9 + int.from_bytes(one[1:9], 'little')
+    if (one[:1], one[9:14], one[last:]) != (b'\xa5', b'ADLR\x01', b'\x5a'):
+        here.faults.append(f'a new store is {one[:14].hex()} .. {one[last:].hex()}')
+    for content, place in [(b'\x5a' + one[1:], 0), (b'\x41' + one[1:], 0), (one[:9] + b'\x42' + one[10:], 0), (one[:13] + b'\x09' + one[14:], 0),
+                           (one[:-1], 0), (one[:-1] + b'\x00', last)]:
+        path = here.file('changed.store', content)
+        here.expect(7, f'bad store at {place}', 'query', path, keeps=[path])
+        if content[:1] == b'\x5a':
+            if here.expect(0, '', 'reduce', 'full', log, path).out != counts or path.read_bytes() != one:
+                here.faults.append('a store whose first gate was closed is made again otherwise')
+        else:
+            here.expect(7, f'bad store at {place}', 'reduce', 'full', log, path, keeps=[path])
+    path = here.file('longer.store', one + b'\x00')
+    if here.expect(0, '', 'query', path, questions=b'stat\n', keeps=[path]).out != counts:
+        here.faults.append('a store with a byte behind its end has other counts')
 
 
 def empty_files(here):
@@ -279,7 +306,8 @@ def edges(here):
                 here.faults.append(f'{what}, {value}: status {ran.status}, {ran.text!r}, by the plain reading {wanted_of(content)[0]}; wanted {status}')
 
 
-KINDS = [other_modes, files_that_are_no_stores, empty_files, no_files, files_without_permission, logs_and_stores, full_disks, edges, cut_stores, changed_stores]
+KINDS = [other_modes, files_that_are_no_stores, one_change, empty_files, no_files, files_without_permission, logs_and_stores, full_disks, edges, cut_stores,
+         changed_stores]
 
 
 def main():

@@ -3,10 +3,10 @@
 
     bench/stopped.py [--program ./crates/audit_cli/out/audit_cli] [--seed 7] [--events 24000] [--kills 4]
 
-A generated log is taken into a store by one run. Then, in each mode and so many times, it is taken by a run that is killed at a random moment, and by one
-with `--resume` that is killed too. What a crash of the machine could leave is made of the file: as it is; cut at a random place behind the
+A generated log is taken into a store by one run. Then, in each mode and `--kills` times, it is taken by a run that is killed at a random moment, and by one
+with `--resume` that is killed too. What a crash of the machine could leave is made of the file: as it is; cut at a random place after the
 last closed gate, up to which everything was synced; with random bytes from there on; and with its last batch closed again, as if the gate's byte had been
-lost, and random bytes behind that gate. Each is resumed to its end. The file must be whole batches up to a closed gate, and the counts and
+lost, and random bytes after that gate. Each is resumed to its end. The file must be whole batches up to a closed gate, and the counts and
 the replies to some questions must be those of the first store. Prints what differs, and ends with status 1 if something does.
 """
 import argparse

@@ -4,7 +4,7 @@
     bench/time_stores.py [--program ./crates/audit_cli/out/audit_cli] [--seed 1] [--size 100] [--further 10] [--modes plain,continuous,full,source] [--runs 3]
 
 The log comes from make_log.py. In each mode it is taken by `watch` (take all of it, settle, stat) and by `reduce` into a new store; the store is opened by
-`query` without a question; and a further log is taken into the store, and alone into a new one. Printed are seconds (the best of so many runs), of these the
+`query` without a question; and a further log is taken into the store, and alone into a new one. Printed are seconds (the best of `--runs` runs), of these the
 seconds of processor in brackets, the peak of memory, and the store's bytes by kind of row. On a machine that does something else too, look at the seconds
 of processor.
 """
