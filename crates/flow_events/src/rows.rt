@@ -33,12 +33,22 @@ pub struct TableRows {
     pub others: List<StoreRow>,
 }
 
+/// How many rows there is room for behind those of tables: what waits, and the State.
+const BEHIND: usize = 64;
+
+// No rows, and room for this many. A list that grows by and by is copied again and again.
+fn room_for(alloc: Global, count: usize) -> Result<List<StoreRow>, NoMemory>
+    ensures { IfOk result (λ rows. rows ≡ []) }
+{
+    Ok(List::from_vec(Vec::with_capacity(alloc, count)?))
+}
+
 /// An Entity row for each key.
 fn entity_rows(alloc: Global, keys: List<Key>) -> Result<List<StoreRow>, NoMemory>
     ensures { IfOk result (λ rows. rows ≡ map row.Entity keys) }
 {
+    let mut rows = room_for(alloc, keys.as_slice().len())?;
     let mut keys = newest_first(alloc, keys)?;
-    let mut rows = List::new(alloc);
     while let Some(key) = keys.pop() {
         rows.push(StoreRow::Entity { key })?;
     }
@@ -337,7 +347,13 @@ fn lay(alloc: Global, all: Collected) -> Result<TableRows, NoMemory>
         births,
     } = all;
     let entities = entity_rows(alloc, keys)?;
-    let mut others = List::new(alloc);
+    let count = BEHIND
+        .saturating_add(names.as_slice().len())
+        .saturating_add(lives.len())
+        .saturating_add(held.len())
+        .saturating_add(addresses.len())
+        .saturating_add(births.len());
+    let mut others = room_for(alloc, count)?;
     push_names(alloc, &mut others, names)?;
     push_lives(&mut others, lives)?;
     push_held(&mut others, held)?;

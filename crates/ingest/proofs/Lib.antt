@@ -32,6 +32,7 @@ pub mod StoreTimes
 pub mod StoreMoments
 pub mod Parting
 pub mod Restored
+pub mod SoundRows
 pub mod WaitingRowLemmas
 pub mod CommitRowLemmas
 pub mod Saving

@@ -60,7 +60,7 @@ on_false b x y e = ap (λ v. cond v x y) e
 
 -- ---- the least key
 
-abbrev IsNotBelow : EventKey → Option EventKey → Type 0
+abbrev pub IsNotBelow : EventKey → Option EventKey → Type 0
 IsNotBelow k None = ⊤
 IsNotBelow k (Some m) = is_below m k ≡ false
 
@@ -72,11 +72,11 @@ lesser_not_below k x (Some m) e n = by (is_below m x)
     by true = n
     by false = e
 
-least_not_below : (k : EventKey) (rs : List Record) → AllByRecursion (λ x. is_below x.key k ≡ false) rs → IsNotBelow k (least_key rs)
+pub least_not_below : (k : EventKey) (rs : List Record) → AllByRecursion (λ x. is_below x.key k ≡ false) rs → IsNotBelow k (least_key rs)
 least_not_below k [] all = tt
 least_not_below k (r ∷ rs) all = lesser_not_below k r.key (least_key rs) all.0 (least_not_below k rs all.1)
 
-stays_least : (k : EventKey) (o : Option EventKey) → IsNotBelow k o → lesser_key k o ≡ k
+pub stays_least : (k : EventKey) (o : Option EventKey) → IsNotBelow k o → lesser_key k o ≡ k
 stays_least k None n = refl
 stays_least k (Some m) n = on_false (is_below m k) m k n
 
@@ -610,7 +610,7 @@ module _ (limits : Limits) where
   not_below_before a b (inl lt) = grind (arith, nat_tests)
   not_below_before a b (inr e) = let lt = e.1 in grind (arith, nat_tests)
 
-  keyed : (P : EventKey → Type 0) (key : EventKey) (lines : List (List ℕ)) → P key → AllByRecursion (IsLineOf limits.line key) lines → AllByRecursion (λ (r : Record). P r.key) (records_in lines)
+  pub keyed : (P : EventKey → Type 0) (key : EventKey) (lines : List (List ℕ)) → P key → AllByRecursion (IsLineOf limits.line key) lines → AllByRecursion (λ (r : Record). P r.key) (records_in lines)
   keyed P key [] holds own = tt
   keyed P key (line ∷ lines) holds own =
       let at = own_at key (record_of limits.line line) own.0 in

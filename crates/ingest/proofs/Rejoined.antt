@@ -64,7 +64,7 @@ module _ (limits : Limits) where
       subst (Goes (state limits (left_after limits t) steps)) (append_assoc done (released_after limits t) (events limits (left_after limits t) steps))
       (steps_go (left_after limits t) (done ++ released_after limits t) steps (left_goes (length t.waiting) t done (told_goes s step done goes)))
 
-  all_go : (h : History) → Goes (state_of limits h) (events_of limits h)
+  pub all_go : (h : History) → Goes (state_of limits h) (events_of limits h)
   all_go h = steps_go start [] (told_of limits h) (record { in_time = record { rise = tt; later = omega arith }; last = record { key = refl; time = refl } })
 
 -- what a store says of a history was left of it

@@ -37,7 +37,7 @@ use Rattle.ingest.specs.Events.{taken_in, flows_in, events_of}
 use Rattle.ingest.specs.GoingOn.{StaysJoined}
 use Rattle.ingest.specs.PartTaken.{StandsWith}
 use Rattle.ingest.specs.Parts.{Engine, Reader}
-use Rattle.ingest.specs.Saving.{IsSaved, IsEither, LeavesEither, PassesFull, Saves}
+use Rattle.ingest.specs.Saving.{AddsOne, IsSaved, IsEither, LeavesEither, PassesFull, Saves}
 use Rattle.ingest.specs.StandsFor.{ReaderStandsFor, WhereRead}
 use Rattle.ingest.specs.Storing.{HasSince, IsCommitFor, IsStoreFor, StoresHistory, moment_of}
 use Rattle.ingest.proofs.Following.{EventsAdmitted, admitted_in, same_some}
@@ -225,6 +225,20 @@ leaves_still {D} state mode old new disks same = λ limits h more before part ha
           (subst (λ (n : ℕ). IsStore n saved.stores.store.payloads c) saved.most (old.joined.keep.log.last, saved.image c ((disks old.joined.keep.disk).only_now c left))));
       before = λ t c low left. inl left;
     })
+
+-- a commit that was refused adds no batch
+pub adds_none : {D : Type 0} (state : D → DiskState) (old new : Engine (OnDisk D)) → ((disk : D) → IsDisk (state disk)) → new.joined.keep ≡ old.joined.keep → AddsOne state old new
+adds_none {D} state old new disks same = λ payloads each.
+    let now = state old.joined.keep.disk in
+    let log = old.joined.keep.log in (
+      [],
+      subst (λ (s : OnDisk D). LeavesOnly now (state s.disk) (IsBeforeOrAfter log.most payloads [])) (sym same)
+          (record {
+            later = omega arith;
+            each = λ c left. inl (log.last, each c ((disks old.joined.keep.disk).only_now c left));
+            before = λ t c low left. inl left;
+          }),
+    )
 
 -- at any moment of the commit a crash leaves a store of what was saved, or of all
 module _ {D : Type 0} (state : D → DiskState) (faults : D → ℕ) (spent : D → Type 0) (mode : Mode) (old new : Engine (OnDisk D)) (entities others : List StoreRow)

@@ -36,10 +36,10 @@ module _ (limits : Limits) where
   read_in lines = records_of (record_of limits.line) lines
 
   -- a group as one of records
-  abbrev part_of : EventKey × Group → EventKey × AGroup
+  abbrev pub part_of : EventKey × Group → EventKey × AGroup
   part_of e = (e.0, record { closed = e.1.closed; records = read_in e.1.lines })
 
-  abbrev parts_of : List (EventKey × Group) → List (EventKey × AGroup)
+  abbrev pub parts_of : List (EventKey × Group) → List (EventKey × AGroup)
   parts_of groups = map part_of groups
 
   lookup_if : (b : Bool) (g : Group) (o : Option Group) (p : Option AGroup) → p ≡ group_of_lines (record_of limits.line) o
@@ -47,13 +47,13 @@ module _ (limits : Limits) where
   lookup_if true g o p e = refl
   lookup_if false g o p e = e
 
-  lookup_parts : (k : EventKey) (es : List (EventKey × Group)) → lookup (is_key k) (parts_of es) ≡ group_of_lines (record_of limits.line) (lookup (is_key k) es)
+  pub lookup_parts : (k : EventKey) (es : List (EventKey × Group)) → lookup (is_key k) (parts_of es) ≡ group_of_lines (record_of limits.line) (lookup (is_key k) es)
   lookup_parts k [] = refl
   lookup_parts k (e ∷ es) = lookup_if (is_key k e.0) e.1 (lookup (is_key k) es) (lookup (is_key k) (parts_of es)) (lookup_parts k es)
 
   -- ---- keys that ascend
 
-  before_less : (a b : EventKey) → IsKeyBefore a b → key_cmp a b ≡ Less
+  pub before_less : (a b : EventKey) → IsKeyBefore a b → key_cmp a b ≡ Less
   before_less a b (inl lt) = grind (arith, nat_tests)
   before_less a b (inr e) = let lt = e.1 in grind (arith, nat_tests)
 
@@ -61,7 +61,7 @@ module _ (limits : Limits) where
   all_less k [] up = tt
   all_less k (e ∷ es) up = (before_less k e.0 up.0, all_less k es up.1)
 
-  sorted : (es : List (EventKey × Group)) → Ascends (λ x y. IsKeyBefore x.0 y.0) es → IsStrictlySortedBy key_cmp (keys_of (parts_of es))
+  pub sorted : (es : List (EventKey × Group)) → Ascends (λ x y. IsKeyBefore x.0 y.0) es → IsStrictlySortedBy key_cmp (keys_of (parts_of es))
   unfolding IsStrictlySortedBy
   sorted [] up = tt
   sorted (e ∷ es) up = (all_less e.0 es up.0, sorted es up.1)
@@ -135,7 +135,7 @@ module _ (limits : Limits) where
       by true held some there sound_held = closed_end held e.0 (read_in e.1.lines) some there sound_held
       by false held some there sound_held = refl
 
-  entered_groups : (t w : Joining) (es : List (EventKey × Group)) → AllByRecursion (HasOwnLines limits.line) es → Leads (with_groups limits.line t es) w → IsSound limits w
+  pub entered_groups : (t w : Joining) (es : List (EventKey × Group)) → AllByRecursion (HasOwnLines limits.line) es → Leads (with_groups limits.line t es) w → IsSound limits w
       → entered limits t (put_back (parts_of es)) ≡ with_groups limits.line t es
   entered_groups t w [] own leads sound = refl
   entered_groups t w (e ∷ es) own leads sound =

@@ -21,6 +21,7 @@ pub mod Faults
 pub mod Asking
 pub mod Storing
 pub mod Waiting
+pub mod Soundness
 pub mod Rejoining
 pub mod StateParts
 pub mod WaitingRows

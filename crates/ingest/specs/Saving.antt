@@ -5,6 +5,7 @@ use Rattle.flow_base.specs.declared.limits.Limit.TheVariants.{Payload}
 use Rattle.flow_base.specs.declared.limits.Limits.{Limits}
 use Rattle.outside.specs.Disk.{DiskState, LeavesOnly}
 use Rattle.audit_lex.specs.History.{History}
+use Rattle.batch_log.specs.Batches.{IsBeforeOrAfter}
 use Rattle.batch_log.specs.Log.{EachHas, Log, LogHas, passed}
 use Rattle.reach_model.specs.declared.modes.Mode.{Mode}
 use Rattle.reach_model.specs.Rows.{Keeps}
@@ -41,6 +42,11 @@ abbrev pub LeavesEither : {D : Type 0} → (D → DiskState) → Mode → (old n
 LeavesEither state mode old new = (limits : Limits) (h more : History) (before part : ℕ)
     → StandsWith limits old (h ++ more) part → IsSaved state limits mode old h before
     → LeavesOnly (state old.joined.keep.disk) (state new.joined.keep.disk) (IsEither limits mode h more before part)
+
+-- whatever batches a crash would have left, a crash at any moment leaves these, or these and one more
+abbrev pub AddsOne : {D : Type 0} → (D → DiskState) → (old new : Engine (OnDisk D)) → Type 0
+AddsOne state old new = (payloads : List (List ℕ)) → EachHas old.joined.keep.log payloads (state old.joined.keep.disk).image
+    → (payload : List ℕ) × LeavesOnly (state old.joined.keep.disk) (state new.joined.keep.disk) (IsBeforeOrAfter old.joined.keep.log.most payloads payload)
 
 -- Each batch of these rows passes this limit. If a text in them is too long to be spelled, so that they have no batch, then the
 -- limit is that of a payload.

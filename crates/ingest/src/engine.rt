@@ -32,7 +32,7 @@ ghost use Rattle.ingest.specs.PartTaken.{count_on, done_in};
 ghost use Rattle.ingest.specs.Replies.{IsQuestion, IsReply};
 ghost use Rattle.ingest.specs.Rejoining.{StandsForLeft};
 ghost use Rattle.ingest.specs.Restoring.{IsBadWaiting, IsPastInput, IsRemade, StandsForStored, store_after};
-ghost use Rattle.ingest.specs.Saving.{LeavesEither, PassesFull, Saves};
+ghost use Rattle.ingest.specs.Saving.{AddsOne, LeavesEither, PassesFull, Saves};
 ghost use Rattle.ingest.specs.StandsFor.{StandsFor, HasNoTail, WhereJoined};
 ghost use Rattle.ingest.specs.Stops.{Fits, Stops};
 ghost use Rattle.ingest.specs.declared.ask_fault.AskFault.TheVariants as fault;
@@ -562,6 +562,8 @@ impl<R: Reducer, D: Disk> Ingest<R, Store<D>> {
             → OnOk result (Saves D.state R.mode self.old self.new) }
         ensures leaves { (D.state self.old.joined.keep.disk).told
             → LeavesEither D.state R.mode self.old self.new }
+        ensures adds { (D.state self.old.joined.keep.disk).told
+            → AddsOne D.state self.old self.new }
         ensures durable { OnOk result (IsDurable (D.state self.new.joined.keep.disk)) }
         ensures full { (full : Full) → result ≡ Err (commit.Full full)
             → PassesFull D.state R.mode self.old full }

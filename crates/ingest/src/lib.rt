@@ -36,7 +36,8 @@ pub use laws::{
 pub use restoring::{RestoreFault, Unrestored};
 pub use stop::{Stop, StopWhy};
 pub use store_laws::{
-    histories_may_be_committed, stores_follow_histories, stores_say_what_was_left,
-    what_can_commit_still_can, what_is_saved_stays_saved,
+    a_store_of_a_history_is_no_bad_store, histories_may_be_committed, stores_follow_histories,
+    stores_say_what_was_left, what_can_commit_still_can, what_is_saved_stays_saved,
+    what_waits_is_sound,
 };
 pub use waiting::restore_join;

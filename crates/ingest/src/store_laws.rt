@@ -3,12 +3,14 @@ ghost use Rattle.std.specs.Prelude.{◌≡◌, ◌⊎◌, ◌≤◌, ◌^◌, �
 ghost use Rattle.flow_base.specs.declared.limits.Limits.{Limits};
 ghost use Rattle.audit_lex.specs.History.{History};
 ghost use Rattle.batch_log.specs.Batches.{IsStore, IsBeforeOrAfter};
+ghost use Rattle.batch_log.specs.Log.{Log};
 ghost use Rattle.reach_model.specs.declared.modes.Mode.{Mode};
 ghost use Rattle.row_codec.specs.declared.rows.StoreRow.{StoreRow};
 ghost use Rattle.row_codec.specs.Payload.{IsPayload};
 ghost use Rattle.store_check.specs.Conditions.{bounds_of};
 ghost use Rattle.stored.specs.Going.{MayCommit};
 ghost use Rattle.stored.specs.Moment.{nothing};
+ghost use Rattle.stored.specs.Stored.{ClosesAt};
 ghost use Rattle.flow_events.specs.declared.tables.Tables.{Tables};
 ghost use Rattle.reach_model.specs.Rows.{Row};
 ghost use Rattle.record_join.specs.StandsFor.{Joiner};
@@ -20,14 +22,22 @@ ghost use Rattle.ingest.specs.PartTaken.{StandsWith};
 ghost use Rattle.ingest.specs.StandsFor.{StandsFor};
 ghost use Rattle.kept_flows.specs.Committing.{CanCommit};
 ghost use Rattle.reduced_store.specs.OnDisk.{OnDisk, SameBut};
+ghost use Rattle.reduced_store.specs.Opening.{IsBadAt, IsStoreRead};
+ghost use Rattle.reduced_store.specs.declared.reading.Found.{Found};
 ghost use Rattle.ingest.specs.Saving.{IsSaved};
-ghost use Rattle.ingest.specs.Storing.{HasSince, IsCommitFor, IsStoreFor, moment_of};
+ghost use Rattle.ingest.specs.Storing.{HasSince, IsCommitFor, IsStoreFor, StoresHistory, moment_of};
+ghost use Rattle.ingest.specs.Soundness.{WaitsSoundly};
+ghost use Rattle.ingest.specs.Waiting.{AscendByKey};
 
+use acts::flows_of_acts_are_lawful;
 use audit_lex::lines_are_counted;
 use call_acts::acts_are_few;
 use outside::Disk;
 use reach_rows::Keep;
-use record_join::states_are_sound;
+use record_join::{a_joiner_is_made_again, states_are_sound};
+use reduced_store::{
+    a_store_is_no_bad_store, what_is_found_can_be_restored, what_is_found_was_stored,
+};
 use stored::commits_store;
 
 /// A history that an engine stands for may be committed after any of its prefixes, and goes on with the acts of it.
@@ -78,6 +88,32 @@ pub fn stores_say_what_was_left()
         → IsLeftOf limits mode told join tables state h part
         → WereLeft limits mode told join tables state (state_of limits h) (events_of limits h) }
 {}
+
+/// What a store says that waits is sound: of rows that close after a history, if the keys of their groups ascend, and
+/// of what is found in bytes that store it.
+pub fn what_waits_is_sound()
+    ensures rows { (limits : Limits) (h : History) (part : ℕ) (rows : List StoreRow)
+        → ClosesAt (moment_of limits h part) rows → AscendByKey rows → WaitsSoundly limits rows }
+    ensures found { (limits : Limits) (mode : Mode) (bytes : List ℕ) (h : History) (part : ℕ)
+        (log : Log) (found : Found)
+        → StoresHistory limits mode bytes h part → IsStoreRead limits bytes (log, found)
+        → WaitsSoundly limits found.others }
+{
+    a_joiner_is_made_again();
+    states_are_sound();
+    what_is_found_can_be_restored();
+    what_is_found_was_stored();
+}
+
+/// A store of a history is no bad store: its batches are whole, each goes on with those before it, and no two of its kept
+/// rows have one last place.
+pub fn a_store_of_a_history_is_no_bad_store()
+    ensures { (limits : Limits) (mode : Mode) (bytes : List ℕ) (h : History) (part place : ℕ)
+        → StoresHistory limits mode bytes h part → ¬ IsBadAt limits place bytes }
+{
+    flows_of_acts_are_lawful();
+    a_store_is_no_bad_store();
+}
 
 /// A store that can commit still can while its disk and its log are as they were.
 pub fn what_can_commit_still_can<D: Disk>()

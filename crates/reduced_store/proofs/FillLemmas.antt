@@ -1,5 +1,5 @@
 -- What the conditions on a store give of its kept rows.
-use Rattle.std.proofs.Common.{◌≡◌, ◌≢◌, ℕ, zero, suc, ◌^◌, ◌<◌, ◌≤◌, max, List, [], ◌∷◌, ◌++◌, length, get_or, set, map, take, drop, drop-cons, Some, refl, sym, ap, subst, ◌∙◌, arith, inl, inr, append_assoc}
+use Rattle.std.proofs.Common.{◌≡◌, ◌≢◌, ℕ, zero, suc, ◌+◌, ◌^◌, ◌<◌, ◌≤◌, max, List, [], ◌∷◌, ◌++◌, length, get_or, set, map, take, drop, drop-cons, Some, refl, sym, ap, subst, ◌∙◌, arith, inl, inr, append_assoc}
 use Rattle.std.specs.Prelude.{slice_get, nat_eq, Bool, true, false, not, ◌||◌}
 use Rattle.std.specs.List.{Contains, AllByRecursion, IsDistinct, list_any}
 use Rattle.std.proofs.lemmas.List.{get_or_append_left, get_or_push, length-append, length-set, length-map, get_or-set_same, get_or-set_other, map-append, map-set, append-nil, take-append-drop}
@@ -249,3 +249,32 @@ pub second : (rows : List MemoryRow) (i : ℕ) (d : MemoryRow) (keys : List ℕ)
     → added ≡ not (list_any (nat_eq (last_place (get_or rows i d))) keys) → added ≡ false → ¬ IsDistinct nat_eq (map last_place rows)
 second rows i d keys added h is new old =
     twice rows i d h (subst (λ ks. list_any (nat_eq (last_place (get_or rows i d))) ks ≡ true) is (not_false _ (sym old ∙ new)))
+
+-- ---- rows whose last places ascend
+
+step_up : (rows : List MemoryRow) → ((k : ℕ) (d : MemoryRow) → k + 1 < length rows → last_place (get_or rows k d) < last_place (get_or rows (k + 1) d))
+    → (i j : ℕ) (d : MemoryRow) → i < j → j < length rows → last_place (get_or rows i d) < last_place (get_or rows j d)
+step_up rows asc i zero d low h = absurd (omega (arith, low))
+step_up rows asc i (suc j) d low h =
+    let next : j + 1 ≡ suc j = omega arith in
+    let step : last_place (get_or rows j d) < last_place (get_or rows (suc j) d) =
+    subst (λ (m : ℕ). last_place (get_or rows j d) < last_place (get_or rows m d)) next (asc j d (omega (arith, h, next))) in
+    elim (cases_lt i j) [
+      | inl before ↦ let front : last_place (get_or rows i d) < last_place (get_or rows j d) = step_up rows asc i j d before (omega (arith, h)) in omega (arith, front, step)
+      | inr last ↦ let same : j ≡ i = omega (arith, low, last) in subst (λ (m : ℕ). last_place (get_or rows m d) < last_place (get_or rows (suc j) d)) same step
+    ]
+
+map_at : (rows : List MemoryRow) (i : ℕ) (r : MemoryRow) (d : ℕ) → i < length rows → get_or (map last_place rows) i d ≡ last_place (get_or rows i r)
+map_at [] i r d h = absurd (omega (arith, h))
+map_at (x ∷ rows) zero r d h = refl
+map_at (x ∷ rows) (suc i) r d h = map_at rows i r d (omega (arith, h))
+
+pub rising_rows : (rows : List MemoryRow) → ((k : ℕ) (d : MemoryRow) → k + 1 < length rows → last_place (get_or rows k d) < last_place (get_or rows (k + 1) d)) → IsDistinct nat_eq (map last_place rows)
+rising_rows [] asc = IsDistinct-from_apart nat_eq [] (λ i j d low h. absurd (omega arith))
+rising_rows (r ∷ rest) asc =
+    let rows = r ∷ rest in
+    IsDistinct-from_apart nat_eq (map last_place rows) (λ i j d low h.
+    let hj : j < length rows = simp length-map at h in
+    let hi : i < length rows = omega arith in
+    let up : last_place (get_or rows i r) < last_place (get_or rows j r) = step_up rows asc i j r low hj in
+    rw (map_at rows i r d hi, map_at rows j r d hj) (no_test (last_place (get_or rows i r)) (last_place (get_or rows j r)) (λ e. absurd (omega (arith, up, e)))))

@@ -14,3 +14,4 @@ pub mod PickedLemmas
 pub mod OrderLemmas
 pub mod RestoreLemmas
 pub mod StoringLemmas
+pub mod NoBadLemmas

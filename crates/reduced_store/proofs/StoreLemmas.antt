@@ -1,5 +1,5 @@
 -- What an opened store has, from what was read of its disk.
-use Rattle.std.proofs.Common.{◌≡◌, ◌∙◌, sym, ap, subst, ℕ, List, Option, Result, Ok, Err}
+use Rattle.std.proofs.Common.{◌≡◌, ◌∙◌, sym, ap, subst, true, ℕ, List, Option, Result, Ok, Err}
 use Rattle.std.specs.Result.{IfOk, IfErr}
 use Rattle.flow_base.specs.declared.limits.Limits.{Limits}
 use Rattle.reach_model.specs.declared.modes.Mode.{Mode}
@@ -56,16 +56,17 @@ module _ {D : Type 0} (log : Log) (found : Found) where
   opened_agree asked (Err back) made agree = made
 
   pub refused_wrong : (limits : Limits) (bytes : List ℕ) (asked : Option Mode) (kept want : Mode) (result : Result (Opened D) (Unopened D))
-      → IfErr result (λ back. IsWrong found.mode asked back.fault) → IsStoreRead limits bytes (log, found)
+      → IfErr result (λ back. IsWrong found.mode asked back.fault) → IsStoreRead limits bytes (log, found) → found.rows.lawful ≡ true
       → IfErr result (λ back. back.fault ≡ WrongMode kept want → IsOfWrongMode limits bytes asked kept want)
-  refused_wrong limits bytes asked kept want (Ok opened) wrong read = wrong
-  refused_wrong limits bytes asked kept want (Err back) wrong read = λ is.
+  refused_wrong limits bytes asked kept want (Ok opened) wrong read lawful = wrong
+  refused_wrong limits bytes asked kept want (Err back) wrong read lawful = λ is.
       let m = wrong.0 in
       let n = wrong.1 in
       let one : WrongMode m n ≡ WrongMode kept want = sym wrong.2 ∙ is in
       record {
         read = (log, found);
         is = read;
+        lawful = lawful;
         differ = subst (λ x. Differ found.mode asked x want) (ap (kept_in m) one) (subst (λ x. Differ found.mode asked m x) (ap (asked_in n) one) wrong.3);
       }
 

@@ -4,6 +4,7 @@ pub mod Reading
 pub mod Restoring
 pub mod Storing
 pub mod Opening
+pub mod OneReading
 pub mod Saving
 pub mod OnDisk
 pub mod Stores

@@ -1,5 +1,5 @@
 -- Stores, and what opening one hands back.
-use Rattle.std.specs.Prelude.{◌≡◌, ◌≢◌, ℕ, List, Option, Some, Result, Ok, Err}
+use Rattle.std.specs.Prelude.{◌≡◌, ◌≢◌, ℕ, true, List, Option, Some, Result, Ok, Err}
 use Rattle.flow_base.specs.declared.limits.Limits.{Limits}
 use Rattle.reach_model.specs.declared.modes.Mode.{Mode}
 use Rattle.batch_log.specs.Log.{Log}
@@ -50,8 +50,9 @@ refusal log.StoreFault = StoreFault
 refusal (log.BadStore place) = BadStore place
 refusal log.NoMemory = NoMemory
 
--- the bytes are a store of another mode than the one asked for
+-- the bytes are a store of another mode than the one asked for, and no two of its rows have one last place
 pub record IsOfWrongMode (limits : Limits) (bytes : List ℕ) (asked : Option Mode) (m n : Mode) : Type 0 where
   pub read : Log × Found
   pub is : IsStoreRead limits bytes read
+  pub lawful : read.1.rows.lawful ≡ true
   pub differ : Differ read.1.mode asked m n

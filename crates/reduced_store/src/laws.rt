@@ -1,6 +1,7 @@
-//! Which rows are lawful, which batch a commit by rows writes, what can be restored, and that what is
-//! found was stored.
+//! Which rows are lawful, which batch a commit by rows writes, what can be restored, that what is found
+//! was stored, that a store is never a bad one, and that bytes are read in one way.
 ghost use Rattle.std.specs.Prelude.{◌≡◌, ◌++◌, ℕ, List, Some};
+ghost use Rattle.acts.specs.Flows.{flows};
 ghost use Rattle.batch_log.specs.Log.{Log};
 ghost use Rattle.flow_base.specs.declared.limits.Limits.{Limits};
 ghost use Rattle.flow_base.specs.declared.types.Flow.{Flow};
@@ -9,7 +10,8 @@ ghost use Rattle.reach_model.specs.Flows.{IsLawful};
 ghost use Rattle.reach_model.specs.Rows.{Row, Keeps};
 ghost use Rattle.reduced_store.specs.Committing.{CommitsByRows};
 ghost use Rattle.reduced_store.specs.Filling.{AreApart};
-ghost use Rattle.reduced_store.specs.Opening.{IsStoreRead};
+ghost use Rattle.reduced_store.specs.OneReading.{BadAtOnePlace, BadNowhere, OneLast, OneMode, SameOthers};
+ghost use Rattle.reduced_store.specs.Opening.{IsBadAt, IsStoreRead};
 ghost use Rattle.reduced_store.specs.Reading.{IsFound, table_rows, closing_rows};
 ghost use Rattle.reduced_store.specs.Restoring.{CanBeRestored, SaySame};
 ghost use Rattle.reduced_store.specs.Storing.{WasStored};
@@ -58,6 +60,33 @@ pub fn what_is_found_was_stored()
         → IsStoreRead limits bytes (log, found)
         → IsStoreOf text limits.names limits.payload (bounds_of limits) mode bytes m
         → WasStored text limits.names mode found m }
+{
+    a_disk_reads_in_one_way();
+    payloads_are_apart();
+}
+
+/// A store of a moment whose flows are lawful is no bad store: its batches are whole, each goes on with
+/// those before it, and no two of its kept rows have one last place.
+pub fn a_store_is_no_bad_store()
+    ensures { (text : List ℕ → List ℕ) (limits : Limits) (mode : Mode) (bytes : List ℕ)
+        (m : Moment) (place : ℕ)
+        → IsLawful (flows m.taken)
+        → IsStoreOf text limits.names limits.payload (bounds_of limits) mode bytes m
+        → ¬ IsBadAt limits place bytes }
+{
+    a_disk_reads_in_one_way();
+    payloads_are_apart();
+}
+
+/// The bytes of a disk are read as a store in one way: they have one mode, one last batch, and one list
+/// of the rows that aren't kept ones. What is bad is so at one place, and it is no store in which no two
+/// rows have one last place.
+pub fn a_store_reads_in_one_way()
+    ensures mode { OneMode }
+    ensures others { SameOthers }
+    ensures last { OneLast }
+    ensures one_place { BadAtOnePlace }
+    ensures never_bad { BadNowhere }
 {
     a_disk_reads_in_one_way();
     payloads_are_apart();

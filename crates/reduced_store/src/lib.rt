@@ -26,8 +26,9 @@ mod spelling;
 mod store;
 
 pub use laws::{
-    a_commit_by_rows_is_that_of_its_moments, others_say_what_all_rows_say,
-    rows_of_a_mode_are_apart, what_is_found_can_be_restored, what_is_found_was_stored,
+    a_commit_by_rows_is_that_of_its_moments, a_store_is_no_bad_store, a_store_reads_in_one_way,
+    others_say_what_all_rows_say, rows_of_a_mode_are_apart, what_is_found_can_be_restored,
+    what_is_found_was_stored,
 };
 pub use open::{StoreRead, read_store};
 pub use opened::{OpenFault, Opened, Unopened};

@@ -1,4 +1,4 @@
-//! New rows, as rows of a batch.
+//! The rows of a batch that a row kept since the last commit makes.
 ghost use Rattle.std.specs.Prelude.{◌≡◌, ◌<◌, ◌≤◌, ◌++◌, ℕ, None, map, length, slice_index_or, IfOk, OnOk};
 ghost use Rattle.reach_rows.specs.declared.rows.Row.{Row as ARow};
 ghost use Rattle.reduced_store.specs.Saving.{as_kept, extend_if, extends_over, mark_at};
@@ -10,17 +10,6 @@ use flow_base::{List, NoMemory};
 use reach_rows::Row;
 use row_codec::{ExtendRow, KeptRow, StoreRow};
 use std::alloc::Global;
-
-/// The Kept rows of these rows.
-pub fn kept_rows(alloc: Global, rows: &[Row]) -> Result<List<StoreRow>, NoMemory>
-    ensures { IfOk result (λ kept. kept ≡ map as_kept rows.now) }
-{
-    let mut kept = List::new(alloc);
-    for row in rows {
-        kept.push(StoreRow::Kept(kept_row(row)))?;
-    }
-    Ok(kept)
-}
 
 /// The Extend rows of the rows that are listed with another last place than they have now.
 pub fn extend_rows(
@@ -60,8 +49,8 @@ fn put_extend(
     }
 }
 
-// A row as its Kept row says it.
-fn kept_row(row: &Row) -> KeptRow
+/// A row as its Kept row says it.
+pub fn kept_row(row: &Row) -> KeptRow
     ensures { Kept result ≡ as_kept row.now }
 {
     KeptRow {

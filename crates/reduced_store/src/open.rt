@@ -54,6 +54,7 @@ pub fn read_store<D: Disk>(
         (IsErrOf result fault.StoreFault) }
 {
     listed_batches_have_their_payloads();
+    keep_freed(alloc);
     let (log, batches) = BatchLog::open_on(alloc, limits, disk)?;
     let found = read_batches(alloc, limits, disk, batches.as_slice())?;
     let last = last_gate(batches.as_slice());
@@ -62,6 +63,15 @@ pub fn read_store<D: Disk>(
         None => Ok(StoreRead { log, last, found }),
     }
 }
+
+// Frees a block of this many bytes. The C library then keeps what smaller blocks give back for those that are taken next.
+// Otherwise it hands the memory of each batch back to the system, which clears it anew for the next.
+fn keep_freed(alloc: Global) {
+    let _ = Vec::<u8>::with_capacity(alloc, KEPT);
+}
+
+/// How many bytes a block has that `keep_freed` frees.
+const KEPT: usize = 4 << 20;
 
 // The place of the last batch's gate, if two rows have one last place.
 fn unless_lawful(last: Option<u64>, rows: &StoreRows) -> Option<u64>

@@ -60,7 +60,7 @@ fn turned(alloc: Global, rows: List<StoreRow>) -> Result<List<StoreRow>, NoMemor
     ensures { IfOk result (λ turned. turned ≡ reverse rows) }
 {
     let mut rows = rows;
-    let mut turned = List::new(alloc);
+    let mut turned = List::from_vec(Vec::with_capacity(alloc, rows.as_slice().len())?);
     while let Some(row) = rows.pop() {
         turned.push(row)?;
     }

@@ -5,8 +5,8 @@
 //! is said of rows is said of lawful ones. Opening refuses a store of others, so a `Store` has lawful
 //! rows.
 ghost use Rattle.std.specs.Prelude.{◌≡◌, ◌-◌, ◌+◌, ◌<◌, ◌≤◌, ◌∷◌, ◌++◌, ◌↔◌, [], ℕ, None, true, false, map, fold, length, vec_len, vec_capacity, slice_index_or, IfOk, IfSome, OnOk};
-ghost use Rattle.std.specs.List.{All};
-ghost use Rattle.row_codec.specs.Rows.{CanBeSpelled};
+ghost use Rattle.std.specs.List.{All, flat_map};
+ghost use Rattle.row_codec.specs.Rows.{row as spelling, Fits};
 ghost use Rattle.reach_model.specs.Numbers.{known};
 ghost use Rattle.reach_model.specs.Rows.{Row as ARow, firsts, row_of};
 ghost use Rattle.reach_rows.specs.Kept.{AreRows, GoesOn, IsRowAt, row_of_kept};
@@ -18,8 +18,9 @@ ghost use Rattle.reduced_store.specs.Saving.{extends_over, kept_after, mark_at};
 
 use crate::apart::are_apart;
 use crate::earlier::Earlier;
-use crate::new_rows::{extend_rows, kept_rows};
-use flow_base::{EntityId, Flow, List, NoMemory};
+use crate::new_rows::extend_rows;
+use crate::spelling::write_kept;
+use flow_base::{Bytes, EntityId, Flow, List, NoMemory};
 use reach_rows::{
     First, Keep, Mark, Object, Row, RowFault, Rows, enter, last_from_of, last_into_of, leave,
 };
@@ -193,13 +194,15 @@ impl StoreRows {
         extend_rows(alloc, self.rows.as_slice(), earlier)
     }
 
-    /// The Kept rows of the rows from an index on.
-    pub(crate) fn kept_after(&self, alloc: Global, count: u64) -> Result<List<StoreRow>, NoMemory>
+    /// Appends the spellings of the Kept rows of the rows from an index on. At NoMemory a part of them may have been
+    /// appended.
+    pub(crate) fn write_kept_after(&self, count: u64, to: &mut Bytes) -> Result<(), NoMemory>
         requires { count ≤ length self.now.rows }
-        ensures are { IfOk result (λ kept. kept ≡ kept_after count self.now.rows) }
-        ensures spelled { IfOk result (λ kept. All CanBeSpelled kept) }
+        ensures bytes { OnOk result
+            (to.new ≡ to.old ++ flat_map spelling (kept_after count self.now.rows)) }
+        ensures fit { OnOk result (All Fits (kept_after count self.now.rows)) }
     {
-        kept_rows(alloc, &self.rows.as_slice()[count as usize..])
+        write_kept(&self.rows.as_slice()[count as usize..], to)
     }
 }
 

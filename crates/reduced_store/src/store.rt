@@ -2,7 +2,6 @@
 ghost use Rattle.std.specs.Prelude.{◌≡◌, ◌⊎◌, ◌↔◌, ◌+◌, ◌++◌, ◌∷◌, [], Some, true, OnOk, OnErr, IsErrOf, ℕ, List, IfOk, IfErr, MatchOption, map, drop, length};
 ghost use Rattle.outside.specs.Disk.{put_at, IsDurable, LeavesOnly, OnlyLooks, Settles, UsesDisk};
 ghost use Rattle.reach_model.specs.declared.modes.Mode.{Mode as AMode};
-ghost use Rattle.reach_model.specs.Rows.{firsts};
 ghost use Rattle.batch_log.specs.Log.{log_of, log_after, next_gate, passed, IsRefused, LogHas, EachHas};
 ghost use Rattle.batch_log.specs.Batches as on_disk;
 ghost use Rattle.batch_log.specs.Batches.{after_gate, IsBeforeOrAfter};
@@ -11,8 +10,8 @@ ghost use Rattle.std.specs.List.{All};
 ghost use Rattle.row_codec.specs.Payload.{IsPayload};
 ghost use Rattle.row_codec.specs.Rows.{CanBeSpelled};
 ghost use Rattle.reduced_store.specs.OnDisk.{IsCommit, UnlessNoMemory, rows_between, payload_between};
-ghost use Rattle.row_codec.specs.declared.rows.StoreRow.TheVariants.{Kept, Extend};
-ghost use Rattle.stored.specs.Batch.{kept_from, extends_from, fresh};
+ghost use Rattle.row_codec.specs.declared.rows.StoreRow.TheVariants.{Extend};
+ghost use Rattle.stored.specs.Batch.{extends_from, fresh};
 ghost use Rattle.store_check.specs.Conditions.{bounds_of};
 ghost use Rattle.reduced_store.specs.Opening.{BeginsLast, IsBadAt};
 ghost use Rattle.reduced_store.specs.Reading.{IsFound};
@@ -122,16 +121,6 @@ impl<D: Disk> Store<D> {
         self.log.usable()
     }
 
-    /// The Kept rows of the rows that were added since the last commit.
-    pub fn new_rows(&self, alloc: Global) -> Result<List<StoreRow>, NoMemory>
-        ensures are { IfOk result (λ kept. kept ≡ map Kept (kept_from (firsts self.now.saved)
-            (drop (length self.now.saved) self.now.rows.rows))) }
-        ensures spelled { IfOk result (λ kept. All CanBeSpelled kept) }
-    {
-        let _ = &self.disk;
-        self.rows.kept_after(alloc, self.count)
-    }
-
     /// The Extend rows since the last commit: one for each row, also a new one, whose last flow has
     /// another place than what the disk has and the new Kept rows say.
     pub fn extended_rows(&self, alloc: Global) -> Result<List<StoreRow>, NoMemory>
@@ -204,11 +193,10 @@ impl<D: Disk> Store<D> {
         ensures { IfOk result
             (IsPayload mode (rows_between self.now front.now back.now)) }
     {
-        let kept = self.new_rows(alloc)?;
         let extends = self.extended_rows(alloc)?;
         let mut payload = Bytes::new(alloc);
         write_payload(mode, front, &mut payload)?;
-        write_rows(kept.as_slice(), &mut payload)?;
+        self.rows.write_kept_after(self.count, &mut payload)?;
         write_rows(extends.as_slice(), &mut payload)?;
         write_rows(back, &mut payload)?;
         Ok(payload)

@@ -1,11 +1,11 @@
 use Rattle.std.proofs.Common.{refl, ap, subst}
 use Rattle.std.specs.Prelude.{OnOk}
-use Rattle.reduced_store.specs.OnDisk.{OnDisk}
+use Rattle.reduced_store.specs.OnDisk.{OnDisk, payload_between}
 use Rattle.ingest.specs.Asking.{StandsStill}
 use Rattle.ingest.specs.Parts.{Engine, Joined}
-use Rattle.ingest.specs.Saving.{LeavesEither, PassesFull, Saves}
+use Rattle.ingest.specs.Saving.{AddsOne, LeavesEither, PassesFull, Saves}
 use Rattle.ingest.proofs.FewActs.{few_stays}
-use Rattle.ingest.proofs.Saving.{HasParts, has_parts, leaves_now, leaves_still, named, passes_now, passes_unspelled, saves_now, still_stands}
+use Rattle.ingest.proofs.Saving.{HasParts, adds_none, has_parts, leaves_now, leaves_still, named, passes_now, passes_unspelled, saves_now, still_stands}
 use Rattle.ingest.proofs.engine.Ingest+R+Store+D.commit.Goals as goal
 
 pub returns-in_err-state-clause-leaves : goal.returns-in_err-state-clause-leaves
@@ -48,6 +48,22 @@ returns-clause-leaves g c =
     subst (λ (old : Engine (OnDisk g.row.D.Denot)). (g.D.Disk.state old.joined.keep.disk).told → LeavesEither g.D.Disk.state g.R.Reducer.mode old new) c.self.view_is
     (λ told. leaves_now g.D.Disk.state g.D.Disk.faults g.D.Disk.spent g.R.Reducer.mode seen new _ _ c.histories_may_be_committed.ensures.since c.acts_of_events_are_admitted.ensures
     c.a_commit_by_rows_is_that_of_its_moments.ensures c.a_disk_reads_in_one_way.ensures.one_list c.stores_follow_histories.ensures.bytes parts c.save.ensures.own.1 told g.met.D.Disk.lawful c.save.result c.save.ensures.commits)
+
+pub returns-in_err-state-clause-adds : goal.returns-in_err-state-clause-adds
+returns-in_err-state-clause-adds g c = λ told. adds_none g.D.Disk.state c.args.self.now c.args.self.now g.met.D.Disk.lawful refl
+
+pub returns-in_err-rows-clause-adds : goal.returns-in_err-rows-clause-adds
+returns-in_err-rows-clause-adds g c = λ told. adds_none g.D.Disk.state c.args.self.now c.args.self.now g.met.D.Disk.lawful refl
+
+pub returns-then-not-are_spelled-clause-adds : goal.returns-then-not-are_spelled-clause-adds
+returns-then-not-are_spelled-clause-adds g c = λ told. adds_none g.D.Disk.state c.args.self.now c.args.self.now g.met.D.Disk.lawful refl
+
+pub returns-clause-adds : goal.returns-clause-adds
+returns-clause-adds g c =
+    let seen : Engine (OnDisk g.row.D.Denot) = record { reader = c.self.inside.reader; joined = c.self.inside.joined; part = c.self.inside.part } in
+    let new : Engine (OnDisk g.row.D.Denot) = record { reader = c.self.inside.reader; joined = c.save.new.self; part = c.self.inside.part } in
+    subst (λ (old : Engine (OnDisk g.row.D.Denot)). (g.D.Disk.state old.joined.keep.disk).told → AddsOne g.D.Disk.state old new) c.self.view_is
+    (λ told payloads each. (payload_between seen.joined.keep g.R.Reducer.mode c.as_slice-entities.result.now c.as_slice-others.result.now, c.save.ensures.commits.any_moment told payloads each))
 
 pub returns-clause-full : goal.returns-clause-full
 returns-clause-full g c = λ full is.

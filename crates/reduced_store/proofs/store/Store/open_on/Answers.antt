@@ -16,7 +16,7 @@ returns-in-Ok-clause-agree g c =
 
 pub returns-in-Ok-clause-wrong : goal.returns-in-Ok-clause-wrong
 returns-in-Ok-clause-wrong g c = λ told kept want.
-    refused_wrong c.in-Ok.read.log c.in-Ok.read.found c.args.limits.now (g.D.Disk.state c.args.disk).reads c.args.asked kept want c.admit.result c.admit.ensures.wrong (c.in-Ok.ensures.store told)
+    refused_wrong c.in-Ok.read.log c.in-Ok.read.found c.args.limits.now (g.D.Disk.state c.args.disk).reads c.args.asked kept want c.admit.result c.admit.ensures.wrong (c.in-Ok.ensures.store told) c.in-Ok.ensures.lawful
 
 pub returns-in-Ok-clause-last : goal.returns-in-Ok-clause-last
 returns-in-Ok-clause-last g c = λ told.
