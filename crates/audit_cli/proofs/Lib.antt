@@ -1,12 +1,17 @@
+mod AddLemmas
 mod BackLemmas
+mod EndLemmas
 mod ExactLemmas
 mod HearLemmas
 mod JobLemmas
+mod LackLemmas
 mod ListenLemmas
 mod MomentLemmas
 mod Numbers
+mod RefusalLemmas
 mod ResumeLemmas
 mod SaveLemmas
+mod SettleLemmas
 mod StoreLemmas
 mod StoreRuns
 mod TalkLemmas

@@ -285,7 +285,7 @@ module _ {D : Type 0} (state : D → DiskState) (start : Start (OnDisk D)) (limi
   }
 
   -- the engine stands for what was put away and what came since
-  stands_since : (engine : Engine (OnDisk D)) (m : Moment) → StandsFor limits engine m.history → (away : IsPutAway state start limits engine m)
+  pub stands_since : (engine : Engine (OnDisk D)) (m : Moment) → StandsFor limits engine m.history → (away : IsPutAway state start limits engine m)
       → StandsWith limits engine (away.first ++ away.more) (start.begun.part + bytes_in (since start.begun m))
   stands_since engine m stands away = record {
     stands = subst (λ (h : History). StandsFor limits engine h) away.parts stands;

@@ -1,12 +1,13 @@
 -- A log that is taken into a store.
-use Rattle.std.proofs.Common.{◌≡◌, ◌≤◌, ◌+◌, ℕ, List, [], ◌∷◌, ◌++◌, map, length, take, drop, refl, ap, sym, subst, arith, append_assoc, ◌∙◌, Option, inl, inr}
+use Rattle.std.proofs.Common.{◌≡◌, ◌≤◌, ◌+◌, ℕ, List, [], ◌∷◌, ◌++◌, map, length, take, drop, refl, ap, sym, subst, arith, append_assoc, ◌∙◌, Option, inl, inr, ⊎_elim}
 use Rattle.std.specs.Prelude.{◌⊎◌, cond, Result, Ok, Err, OnErr, IfErr}
 use Rattle.std.proofs.lemmas.List.{map-append, take-append-drop, take_all as list_take_all}
 use Rattle.std.proofs.lemmas.List.Sums.{sum_by-append}
 use Rattle.flow_base.specs.declared.limits.Limits.{Limits}
 use Rattle.flow_base.specs.declared.limits.Full.{Full}
 use Rattle.outside.specs.Cause.{Rose}
-use Rattle.outside.specs.Disk.{DiskState, IsDisk, LeavesOnly, OnlyLooks, UsesDisk}
+use Rattle.outside.specs.Disk.{DiskState, IsDisk, LeavesOnly, OnlyLooks, Settles, UsesDisk}
+use Rattle.outside.proofs.Moments.{leaves_by_looking}
 use Rattle.audit_lex.specs.History.{History, Byte, Settle, with_bytes}
 use Rattle.reach_model.specs.declared.modes.Mode.{Mode}
 use Rattle.reduced_store.specs.OnDisk.{OnDisk, SameBut}
@@ -22,7 +23,8 @@ use Rattle.ingest.specs.Replies.{IsReply}
 use Rattle.audit_cli.specs.declared.halt.Halt.{Halt}
 use Rattle.audit_cli.specs.Dialogue.{Moment, taken_on}
 use Rattle.audit_cli.specs.Course.{IsDue, never}
-use Rattle.audit_cli.specs.Stores.{WroteFront, settled_all}
+use Rattle.audit_cli.specs.declared.halt.StoreHalt.{StoreHalt}
+use Rattle.audit_cli.specs.Stores.{LeavesOnceSynced, MayLeave, WroteFront, settled_all}
 use Rattle.audit_cli.proofs.BackLemmas.{count_bytes}
 use Rattle.audit_cli.proofs.TalkLemmas.{appends_none}
 use Rattle.audit_cli.proofs.MomentLemmas.{Stay, due_weaker}
@@ -83,14 +85,6 @@ leaves_looked a b c P disk looks images run =
           before_both (a.since t bytes) (b.since t bytes) (c.since t bytes) (P bytes) (run.before t bytes (omega (arith, low, early))) (λ old. inl (looks.adds_nothing t bytes low old)) left;
     }
 
--- a look alone
-pub leaves_unwritten : (a b : DiskState) (P : List ℕ → Type 0) → IsDisk a → OnlyLooks a b → ((bytes : List ℕ) → a.image bytes → P bytes) → LeavesOnly a b P
-leaves_unwritten a b P disk looks images = record {
-  later = looks.later;
-  each = λ bytes left. images bytes (disk.only_now bytes (looks.adds_nothing a.moment bytes (omega arith) left));
-  before = λ t bytes low left. inl (looks.adds_nothing t bytes low left);
-}
-
 weaker_of : (A P Q : Type 0) → (P → Q) → A ⊎ P → A ⊎ Q
 weaker_of A P Q f (inl a) = inl a
 weaker_of A P Q f (inr p) = inr (f p)
@@ -109,6 +103,36 @@ leaves_from {D} state a b c P same run = subst (λ (d : D). LeavesOnly (state d)
 -- a run that doesn't touch its disk
 pub leaves_still : {D : Type 0} (state : D → DiskState) (a b : D) (P : List ℕ → Type 0) → b ≡ a → IsDisk (state a) → ((bytes : List ℕ) → (state a).image bytes → P bytes) → LeavesOnly (state a) (state b) P
 leaves_still {D} state a b P same disk images = subst (λ (d : D). LeavesOnly (state a) (state d) P) (sym same) (leaves_same (state a) P disk images)
+
+-- a run over a disk that is durable at its begin
+pub synced_before : (outcome : Result Unit StoreHalt) (a b : DiskState) (P : List ℕ → Type 0) → LeavesOnly a b P → MayLeave outcome a b P
+synced_before outcome a b P run = inr (record {
+  synced = a.moment;
+  after = omega arith;
+  by_now = run.later;
+  since = run.each;
+  ever = leaves_weaker a b P (λ bytes. a.image bytes ⊎ P bytes) (λ bytes p. inr p) run;
+})
+
+-- a look at a disk that settles it, and then a run
+pub synced_by_looking : (outcome : Result Unit StoreHalt) (a b c : DiskState) (P : List ℕ → Type 0) → IsDisk a → IsDisk b → OnlyLooks a b → Settles a b → P b.reads → MayLeave outcome b c P → LeavesOnceSynced a c P
+synced_by_looking outcome a b c P first second looks settles here run =
+    let all : LeavesOnly b c (λ bytes. b.image bytes ⊎ P bytes) = ever_of run in
+    record {
+      synced = settles.from;
+      after = settles.after;
+      by_now = (let early = settles.by_now in let late = all.later in omega (arith, early, late));
+      since = λ bytes left. ⊎_elim (since_now bytes) (λ now. ⊎_elim (λ image. since_now bytes (second.counts_now settles.from bytes settles.by_now image)) (λ p. p) now) (all.before settles.from bytes settles.by_now left);
+      ever = leaves_looked a b c (λ bytes. a.image bytes ⊎ P bytes) first looks (λ bytes image. inl image)
+          (leaves_weaker b c (λ bytes. b.image bytes ⊎ P bytes) (λ bytes. a.image bytes ⊎ P bytes) (λ bytes x. ⊎_elim (λ image. inl (looks.image bytes image)) (λ p. inr p) x) all);
+    }
+  where
+    since_now : (bytes : List ℕ) → b.since settles.from bytes → P bytes
+    since_now bytes past = subst P (sym (settles.only bytes past)) here
+
+    ever_of : MayLeave outcome b c P → LeavesOnly b c (λ bytes. b.image bytes ⊎ P bytes)
+    ever_of (inl unopened) = leaves_weaker b c b.image (λ bytes. b.image bytes ⊎ P bytes) (λ bytes image. inl image) (leaves_by_looking b c second unopened.1)
+    ever_of (inr once) = once.ever
 
 -- ---- calls on a disk, one after another
 

@@ -7,7 +7,7 @@ use Rattle.flow_base.specs.declared.limits.Full.{Full}
 use Rattle.flow_base.specs.declared.limits.Limits.{Limits}
 use Rattle.name_text.specs.Addresses.{text_of}
 use Rattle.outside.specs.Cause.{Rose}
-use Rattle.outside.specs.Disk.{DiskState, IsDisk, IsDurable, LeavesOnly, OnlyLooks, UsesDisk}
+use Rattle.outside.specs.Disk.{DiskState, IsDisk, IsDurable, LeavesOnly, OnlyLooks, Settles, UsesDisk}
 use Rattle.audit_lex.specs.History.{History}
 use Rattle.batch_log.specs.Log.{Log, log_of}
 use Rattle.reach_model.specs.declared.modes.Mode.{Mode}
@@ -30,6 +30,7 @@ use Rattle.ingest.specs.Asking.{StandsStill}
 use Rattle.ingest.specs.Parts.{Engine}
 use Rattle.ingest.specs.Restoring.{IsPastInput, StandsForStored}
 use Rattle.ingest.specs.Stops.{Stops}
+use Rattle.ingest.specs.Soundness.{WaitsSoundly}
 use Rattle.ingest.specs.Storing.{StoresHistory, moment_of}
 use Rattle.ingest.specs.declared.restoring.RestoreFault.{RestoreFault}
 use Rattle.ingest.specs.declared.restoring.RestoreFault.TheVariants as restore
@@ -40,13 +41,14 @@ use Rattle.audit_cli.specs.declared.halt.StoreHalt.{StoreHalt}
 use Rattle.audit_cli.specs.declared.halt.StoreHalt.TheVariants as over
 use Rattle.audit_cli.specs.Dialogue.{Moment, QuestionsStop, asks, lines_in}
 use Rattle.audit_cli.specs.Course.{EndTalked, HasCauses, IsDue, kind_of, never}
+use Rattle.audit_cli.specs.Listening.{AreHeardOut}
 use Rattle.audit_cli.specs.Saves.{Begun, CutShort, IsAllPutAway, IsCutShort, IsOf, IsPutAway, IsReached, PassesStore, Start, since}
-use Rattle.audit_cli.specs.StoreHalts.{HasStoreCauses, IsRunDue, NamesNoBatch, open_halt, over_run, restore_halt}
-use Rattle.audit_cli.specs.Stores.{AnswerCourse, FitsDialogue, FitsWhole, HasBegun, HasNoBatch, HasTaken, IsDoneOrRefused, IsOpenAt, IsWrongIn, IsQueried, IsReduceRun, IsReopened, IsShort, IsWatchRun, PassesIn, Reduces, StoodAt, StoresNothing, StoresUnsoundly, WaitsUnsoundly, Watches, WroteFront, WroteStat, begun_of, first_of, querying, settled_all, steps_of, whole_of}
+use Rattle.audit_cli.specs.StoreHalts.{HasStoreCauses, IsRunDue, NamesNoBatch, no_modes, no_place, open_halt, over_run, restore_halt}
+use Rattle.audit_cli.specs.Stores.{AnswerCourse, FitsDialogue, FitsWhole, HasBegun, HasNoBatch, HasTaken, IsBadIn, IsDoneOrNoMemory, IsOpenAt, IsQueried, IsReduceRun, IsRefusal, IsReopened, IsShort, IsWatchRun, IsWrongIn, MayBeUnopened, MayLeave, PassesIn, Reduces, RefusesAStore, StoodAt, StoresNothing, StoresUnsoundly, WaitsUnsoundly, Watches, WroteFront, WroteStat, begun_of, first_of, querying, settled_all, steps_of, whole_of}
 use Rattle.audit_cli.specs.Statuses.{RefusesStore, status_for, store_status}
 use Rattle.audit_cli.proofs.TalkLemmas.{appends_none, nothing_said, other_halt}
 use Rattle.audit_cli.proofs.SaveLemmas.{away_leaves, counted_whole, cut_leaves, cut_passes, is_of_begun, settled_whole, since_begun, since_whole}
-use Rattle.audit_cli.proofs.StoreLemmas.{StaysSaved, front_none, leaves_looked, leaves_still, leaves_unwritten, leaves_weaker, uses_blamed}
+use Rattle.audit_cli.proofs.StoreLemmas.{StaysSaved, front_none, leaves_still, synced_before, synced_by_looking, uses_blamed}
 
 -- ---- what is found in an opened store
 
@@ -237,7 +239,7 @@ passes_none limits mode begun steps (over.ShortLog taken had) none = tt
 -- a run that ended before it took a byte
 pub reduced_none : (resume : Bool) (limits : Limits) (mode : Mode) (disk after : DiskState) (left old : Option (List ℕ)) (why : StoreHalt) (h : History) (before : ℕ) (bytes : List ℕ)
     → NamesNoBatch why → IsRunDue (Stops limits (whole_of (begun_of resume h before bytes))) why
-    → LeavesOnly disk after (IsReached limits mode (begun_of resume h before bytes) (steps_of (begun_of resume h before bytes)))
+    → MayLeave (Err why) disk after (IsReached limits mode (begun_of resume h before bytes) (steps_of (begun_of resume h before bytes)))
     → ((taken had : ℕ) → ◌≡◌ {A = Result Unit StoreHalt} (Err why) (Err (over.ShortLog taken had)) → IsShort resume before bytes taken had)
     → Reduces resume limits mode disk after left old old (Err why) h before bytes
 reduced_none resume limits mode disk after left old why h before bytes none due leaves short = record {
@@ -283,8 +285,9 @@ reduces_by resume state start limits mode rows left old new (Ok t) h before byte
         whole = whole;
         wrote = subst (λ (g : History). WroteStat limits mode g old new) history wrote;
       };
-      leaves = subst (λ (s : History). LeavesOnly (state start.rows.disk) (state rows.disk) (IsReached limits mode begun s)) steps
-          (subst (λ (b : Begun). LeavesOnly (state start.rows.disk) (state rows.disk) (IsReached limits mode b (since b (settled_all (first_of mode begun))))) same leaves);
+      leaves = synced_before (Ok t) (state start.rows.disk) (state rows.disk) (IsReached limits mode begun (steps_of begun))
+          (subst (λ (s : History). LeavesOnly (state start.rows.disk) (state rows.disk) (IsReached limits mode begun s)) steps
+          (subst (λ (b : Begun). LeavesOnly (state start.rows.disk) (state rows.disk) (IsReached limits mode b (since b (settled_all (first_of mode begun))))) same leaves));
       front = tt;
       due = tt;
       passes = tt;
@@ -297,8 +300,9 @@ reduces_by resume state start limits mode rows left old new (Err why) h before b
     let history = settled_whole mode begun in
     record {
       reduced = tt;
-      leaves = subst (λ (s : History). LeavesOnly (state start.rows.disk) (state rows.disk) (IsReached limits mode begun s)) steps
-          (subst (λ (b : Begun). LeavesOnly (state start.rows.disk) (state rows.disk) (IsReached limits mode b (since b (settled_all (first_of mode begun))))) same leaves);
+      leaves = synced_before (Err (over.Run why)) (state start.rows.disk) (state rows.disk) (IsReached limits mode begun (steps_of begun))
+          (subst (λ (s : History). LeavesOnly (state start.rows.disk) (state rows.disk) (IsReached limits mode begun s)) steps
+          (subst (λ (b : Begun). LeavesOnly (state start.rows.disk) (state rows.disk) (IsReached limits mode b (since b (settled_all (first_of mode begun))))) same leaves));
       front = subst (λ (g : History). WroteFront limits mode g old new) history front;
       due = subst (λ (g : History). IsDue (Stops limits g) why) history due;
       passes = passes_run limits mode begun (steps_of begun) why (λ full is. subst (λ (s : History). PassesStore limits mode begun s full) steps
@@ -307,6 +311,13 @@ reduces_by resume state start limits mode rows left old new (Err why) h before b
       short = λ taken had is. absurd (let no = is in cc);
     }
 
+-- the disk is as the engine has it, and a crash leaves what it stands for
+pub still_reached : {D : Type 0} (state : D → DiskState) (limits : Limits) (mode : Mode) (engine : Engine (OnDisk D)) (disk : D) (resume : Bool) (outcome : Result Unit StoreHalt) (h : History) (before : ℕ) (bytes : List ℕ) (steps : History) → ((d : D) → IsDisk (state d))
+    → disk ≡ engine.joined.keep.disk → IsReopened state mode limits engine h before → MayLeave outcome (state engine.joined.keep.disk) (state disk) (IsReached limits mode (begun_of resume h before bytes) steps)
+still_reached state limits mode engine disk resume outcome h before bytes steps lawful same x =
+    synced_before outcome (state engine.joined.keep.disk) (state disk) (IsReached limits mode (begun_of resume h before bytes) steps)
+    (leaves_still state engine.joined.keep.disk disk (IsReached limits mode (begun_of resume h before bytes) steps) same (lawful engine.joined.keep.disk) (λ bs image. inl (x.images bs image)))
+
 -- the same over the engine of a reopened store
 pub failed_run : {D : Type 0} (resume : Bool) (state : D → DiskState) (limits : Limits) (mode : Mode) (engine : Engine (OnDisk D)) (disk : D) (log left old : Option (List ℕ)) (why : StoreHalt) → ((d : D) → IsDisk (state d))
     → disk ≡ engine.joined.keep.disk → NamesNoBatch why → IsRunDue never why
@@ -314,8 +325,7 @@ pub failed_run : {D : Type 0} (resume : Bool) (state : D → DiskState) (limits 
     → IsReduceRun resume (IsReopened state mode limits engine) limits mode (state engine.joined.keep.disk) (state disk) log left old old (Err why)
 failed_run resume state limits mode engine disk log left old why lawful same none due short = λ h before bytes x told.
     reduced_none resume limits mode (state engine.joined.keep.disk) (state disk) left old why h before bytes none (due_never (Stops limits (whole_of (begun_of resume h before bytes))) why due)
-    (leaves_still state engine.joined.keep.disk disk (IsReached limits mode (begun_of resume h before bytes) (steps_of (begun_of resume h before bytes))) same (lawful engine.joined.keep.disk) (λ bs image. inl (x.images bs image)))
-    (short h before bytes x told)
+    (still_reached state limits mode engine disk resume (Err why) h before bytes (steps_of (begun_of resume h before bytes)) lawful same x) (short h before bytes x told)
 
 -- a refusal of a store says nothing of a log
 restore_long : (why : RestoreFault) (taken had : ℕ) → ◌≡◌ {A = Result Unit StoreHalt} (Err (restore_halt why)) (Err (over.ShortLog taken had)) → ⊥
@@ -360,8 +370,9 @@ pub refused_run : {D : Type 0} (resume : Bool) (state : D → DiskState) (limits
 refused_run resume state limits mode opened back disk log old outcome law lawful alike same past is = λ h before bytes x told.
     rw is (reduced_none resume limits mode (state opened.store.disk) (state disk) log old (restore_halt back.why) h before bytes (restore_names back.why)
     (restore_due state limits mode opened h before back (Stops limits (whole_of (begun_of resume h before bytes))) law x past back.why refl)
+    (synced_before (Err (restore_halt back.why)) (state opened.store.disk) (state disk) (IsReached limits mode (begun_of resume h before bytes) (steps_of (begun_of resume h before bytes)))
     (leaves_still state opened.store.disk disk (IsReached limits mode (begun_of resume h before bytes) (steps_of (begun_of resume h before bytes))) (same ∙ alike.disk) (lawful opened.store.disk)
-    (λ bs left. inl (open_images state limits mode opened h before x bs left)))
+    (λ bs left. inl (open_images state limits mode opened h before x bs left))))
     (λ taken had short. absurd (restore_long back.why taken had short)))
 
 -- a run whose disk has another name
@@ -381,20 +392,28 @@ engine_run {D} resume state limits mode opened engine last disk log left old new
 
 -- a run from the disk on
 pub opened_run : {D : Type 0} (resume : Bool) (state : D → DiskState) (limits : Limits) (mode : Mode) (disk : D) (opened : Opened D) (after : DiskState) (log left old new : Option (List ℕ)) (outcome : Result Unit StoreHalt) → ((d : D) → IsDisk (state d))
-    → OnlyLooks (state disk) (state opened.store.disk) → ((h : History) (part : ℕ) → StoodAt state limits mode disk h part → IsOpenAt state limits mode opened h part)
+    → OnlyLooks (state disk) (state opened.store.disk) → ((state disk).told → ⊥ ⊎ Settles (state disk) (state opened.store.disk))
+    → ((h : History) (part : ℕ) → StoodAt state limits mode disk h part → IsOpenAt state limits mode opened h part)
     → IsReduceRun resume (IsOpenAt state limits mode opened) limits mode (state opened.store.disk) after log left old new outcome → IsReduceRun resume (StoodAt state limits mode disk) limits mode (state disk) after log left old new outcome
-opened_run resume state limits mode disk opened after log left old new outcome lawful looks opens run = λ h before bytes stood told.
-    let r = run h before bytes (opens h before stood) told in
+opened_run resume state limits mode disk opened after log left old new outcome lawful looks settles opens run = λ h before bytes stood told.
+    let x = opens h before stood in
+    let r = run h before bytes x told in
     record {
       reduced = r.reduced;
-      leaves = leaves_looked (state disk) (state opened.store.disk) after (IsReached limits mode (begun_of resume h before bytes) (steps_of (begun_of resume h before bytes))) (lawful disk) looks
-          (λ bs image. inl (stood.images bs image)) r.leaves;
+      leaves = inr (synced_by_looking outcome (state disk) (state opened.store.disk) after (IsReached limits mode (begun_of resume h before bytes) (steps_of (begun_of resume h before bytes)))
+          (lawful disk) (lawful opened.store.disk) looks (not_blamed _ (settles stood.told)) (inl x.stores) r.leaves);
       front = r.front;
       due = r.due;
       passes = r.passes;
       enough = r.enough;
       short = r.short;
     }
+
+open_unopened : (fault : OpenFault) → MayBeUnopened (Err (open_halt fault))
+open_unopened opening.StoreFault = tt
+open_unopened (opening.BadStore place) = tt
+open_unopened (opening.WrongMode kept want) = tt
+open_unopened opening.NoMemory = tt
 
 open_due : (passes : Full → Type 0) (fault : OpenFault) → IsRunDue passes (open_halt fault)
 open_due passes opening.StoreFault = tt
@@ -403,21 +422,18 @@ open_due passes (opening.WrongMode kept asked) = tt
 open_due passes opening.NoMemory = tt
 
 -- a disk that wasn't opened
-pub unopened_run : {D : Type 0} (resume : Bool) (state : D → DiskState) (limits : Limits) (mode : Mode) (disk after : D) (log old : Option (List ℕ)) (fault : OpenFault) (outcome : StoreHalt) → ((d : D) → IsDisk (state d))
+pub unopened_run : {D : Type 0} (resume : Bool) (state : D → DiskState) (limits : Limits) (mode : Mode) (disk after : D) (log old : Option (List ℕ)) (fault : OpenFault) (outcome : StoreHalt)
     → OnlyLooks (state disk) (state after) → outcome ≡ open_halt fault → IsReduceRun resume (StoodAt state limits mode disk) limits mode (state disk) (state after) log log old old (Err outcome)
-unopened_run resume state limits mode disk after log old fault outcome lawful looks is = λ h before bytes stood told.
+unopened_run resume state limits mode disk after log old fault outcome looks is = λ h before bytes stood told.
     rw is (reduced_none resume limits mode (state disk) (state after) log old (open_halt fault) h before bytes (open_names fault) (open_due (Stops limits (whole_of (begun_of resume h before bytes))) fault)
-    (leaves_unwritten (state disk) (state after) (IsReached limits mode (begun_of resume h before bytes) (steps_of (begun_of resume h before bytes))) (lawful disk) looks (λ bs image. inl (stood.images bs image)))
-    (λ taken had short. absurd (open_long fault taken had short)))
+    (inl (open_unopened fault, looks)) (λ taken had short. absurd (open_long fault taken had short)))
 
 -- a run that found no memory for its words, or for its reads
-pub unbegun_run : {D : Type 0} (resume : Bool) (state : D → DiskState) (Stood : History → ℕ → Type 0) (limits : Limits) (mode : Mode) (a disk : D) (log old : Option (List ℕ)) → ((d : D) → IsDisk (state d)) → disk ≡ a
-    → ((h : History) (before : ℕ) → Stood h before → (bytes : List ℕ) → (state a).image bytes → StoresHistory limits mode bytes h before)
-    → IsReduceRun resume Stood limits mode (state a) (state disk) log log old old (Err (over.Run halt.NoMemory))
-unbegun_run resume state Stood limits mode a disk log old lawful same images = λ h before bytes stood told.
-    reduced_none resume limits mode (state a) (state disk) log old (over.Run halt.NoMemory) h before bytes memory_names tt
-    (leaves_still state a disk (IsReached limits mode (begun_of resume h before bytes) (steps_of (begun_of resume h before bytes))) same (lawful a) (λ bs image. inl (images h before stood bs image)))
-    (λ taken had short. absurd (memory_long taken had short))
+pub unbegun_run : (resume : Bool) (Stood : History → ℕ → Type 0) (limits : Limits) (mode : Mode) (a after : DiskState) (log old : Option (List ℕ))
+    → ((h : History) (before : ℕ) (bytes : List ℕ) → Stood h before → MayLeave (Err (over.Run halt.NoMemory)) a after (IsReached limits mode (begun_of resume h before bytes) (steps_of (begun_of resume h before bytes))))
+    → IsReduceRun resume Stood limits mode a after log log old old (Err (over.Run halt.NoMemory))
+unbegun_run resume Stood limits mode a after log old leaves = λ h before bytes stood told.
+    reduced_none resume limits mode a after log old (over.Run halt.NoMemory) h before bytes memory_names tt (leaves h before bytes stood) (λ taken had short. absurd (memory_long taken had short))
 
 -- ---- `watch`
 
@@ -435,7 +451,7 @@ silent_course limits from asked (over.ShortLog taken had) due = refl
 
 -- a run that ended before it answered
 pub watched_none : (limits : Limits) (mode : Mode) (disk after : DiskState) (left old : Option (List ℕ)) (why : StoreHalt) (begun : Begun) (asked : List ℕ) → NamesNoBatch why → IsRunDue never why
-    → LeavesOnly disk after (λ bytes. StoresHistory limits mode bytes begun.history begun.before) → ((taken had : ℕ) → ◌≡◌ {A = Result Unit StoreHalt} (Err why) (Err (over.ShortLog taken had)) → ⊥)
+    → ((steps : History) → MayLeave (Err why) disk after (IsReached limits mode begun steps)) → ((taken had : ℕ) → ◌≡◌ {A = Result Unit StoreHalt} (Err why) (Err (over.ShortLog taken had)) → ⊥)
     → Watches limits mode disk after left old old (Err why) begun asked
 watched_none limits mode disk after left old why begun asked none due leaves long =
     let first = first_of mode begun in
@@ -447,7 +463,7 @@ watched_none limits mode disk after left old why begun asked none due leaves lon
       stored = tt;
       last = first;
       along = is_of_begun begun first refl refl;
-      leaves = leaves_weaker disk after (λ bytes. StoresHistory limits mode bytes begun.history begun.before) (IsReached limits mode begun (since begun first)) (λ bytes stores. inl stores) leaves;
+      leaves = leaves (since begun first);
       no_further = tt;
       passes = passes_none limits mode begun (since begun first) why none;
       whole = long;
@@ -465,7 +481,8 @@ watched_short state start limits mode rows left old new why begun asked holds en
   stored = tt;
   last = cut.to;
   along = subst (λ (b : Begun). IsOf b cut.to) same cut.ends.moment;
-  leaves = subst (λ (b : Begun). LeavesOnly (state start.rows.disk) (state rows.disk) (IsReached limits mode b (since b cut.to))) same (cut_leaves state start limits mode rows cut.to why cut.in_mode cut.ends);
+  leaves = synced_before (Err (over.Run why)) (state start.rows.disk) (state rows.disk) (IsReached limits mode begun (since begun cut.to))
+      (subst (λ (b : Begun). LeavesOnly (state start.rows.disk) (state rows.disk) (IsReached limits mode b (since b cut.to))) same (cut_leaves state start limits mode rows cut.to why cut.in_mode cut.ends));
   no_further = tt;
   passes = passes_run limits mode begun (since begun cut.to) why (λ full is. subst (λ (b : Begun). PassesStore limits mode b (since b cut.to) full) same (cut_passes state start limits mode rows cut.to why full cut.in_mode cut.ends is));
   whole = λ taken had is. let no = is in cc;
@@ -490,8 +507,9 @@ watched_saved state start limits mode engine engine2 left old new (Ok t) begun a
   };
   last = talked.to;
   along = subst (λ (b : Begun). IsOf b talked.to) same all.moment;
-  leaves = subst (λ (b : Begun). LeavesOnly (state start.rows.disk) (state engine2.joined.keep.disk) (IsReached limits mode b (since b talked.to))) same
-      (away_leaves state start limits mode engine2 engine2.joined.keep talked.to talked.at.in_mode (stores_go_along.same engine2.joined.keep) away);
+  leaves = synced_before (Ok t) (state start.rows.disk) (state engine2.joined.keep.disk) (IsReached limits mode begun (since begun talked.to))
+      (subst (λ (b : Begun). LeavesOnly (state start.rows.disk) (state engine2.joined.keep.disk) (IsReached limits mode b (since b talked.to))) same
+      (away_leaves state start limits mode engine2 engine2.joined.keep talked.to talked.at.in_mode (stores_go_along.same engine2.joined.keep) away));
   no_further = refl;
   passes = tt;
   whole = λ taken had is. let no = is in cc;
@@ -513,7 +531,9 @@ watched_saved state start limits mode engine engine2 left old new (Err why) begu
   stored = tt;
   last = talked.to;
   along = subst (λ (b : Begun). IsOf b talked.to) same cut.moment;
-  leaves = subst (λ (b : Begun). LeavesOnly (state start.rows.disk) (state engine2.joined.keep.disk) (IsReached limits mode b (since b talked.to))) same (cut_leaves state start limits mode engine2.joined.keep talked.to why talked.at.in_mode cut);
+  leaves = synced_before (Err (over.Run why)) (state start.rows.disk) (state engine2.joined.keep.disk) (IsReached limits mode begun (since begun talked.to))
+      (subst (λ (b : Begun). LeavesOnly (state start.rows.disk) (state engine2.joined.keep.disk) (IsReached limits mode b (since b talked.to))) same
+      (cut_leaves state start limits mode engine2.joined.keep talked.to why talked.at.in_mode cut));
   no_further = tt;
   passes = passes_run limits mode begun (since begun talked.to) why (λ full is. subst (λ (b : Begun). PassesStore limits mode b (since b talked.to) full) same (cut_passes state start limits mode engine2.joined.keep talked.to why full talked.at.in_mode cut is));
   whole = λ taken had is. let no = is in cc;
@@ -529,7 +549,8 @@ pub refused_watch : {D : Type 0} (state : D → DiskState) (limits : Limits) (mo
 refused_watch state limits mode opened back disk log asked old outcome law lawful alike same past is = λ h before bytes questions x told tells.
     rw is (watched_none limits mode (state opened.store.disk) (state disk) log old (restore_halt back.why) (begun_of false h before bytes) questions (restore_names back.why)
     (restore_never state limits mode opened h before back law x past)
-    (leaves_still state opened.store.disk disk (λ bs. StoresHistory limits mode bs h before) (same ∙ alike.disk) (lawful opened.store.disk) (λ bs left. open_images state limits mode opened h before x bs left))
+    (λ steps. synced_before (Err (restore_halt back.why)) (state opened.store.disk) (state disk) (IsReached limits mode (begun_of false h before bytes) steps)
+    (leaves_still state opened.store.disk disk (IsReached limits mode (begun_of false h before bytes) steps) (same ∙ alike.disk) (lawful opened.store.disk) (λ bs left. inl (open_images state limits mode opened h before x bs left))))
     (restore_long back.why))
 
 pub renamed_watch : {D : Type 0} (state : D → DiskState) (limits : Limits) (mode : Mode) (a b last disk : D) (left old new : Option (List ℕ)) (outcome : Result Unit StoreHalt) (begun : Begun) (asked : List ℕ)
@@ -546,10 +567,12 @@ engine_watch {D} state limits mode opened engine last disk log left asked old ne
     renamed_watch state limits mode opened.store.disk engine.joined.keep.disk last disk left old new outcome (begun_of false h before bytes) questions alike.disk same (run h before bytes questions (opens h before x) told tells)
 
 pub opened_watch : {D : Type 0} (state : D → DiskState) (limits : Limits) (mode : Mode) (disk : D) (opened : Opened D) (after : DiskState) (log left asked old new : Option (List ℕ)) (outcome : Result Unit StoreHalt) → ((d : D) → IsDisk (state d))
-    → OnlyLooks (state disk) (state opened.store.disk) → ((h : History) (part : ℕ) → StoodAt state limits mode disk h part → IsOpenAt state limits mode opened h part)
+    → OnlyLooks (state disk) (state opened.store.disk) → ((state disk).told → ⊥ ⊎ Settles (state disk) (state opened.store.disk))
+    → ((h : History) (part : ℕ) → StoodAt state limits mode disk h part → IsOpenAt state limits mode opened h part)
     → IsWatchRun (IsOpenAt state limits mode opened) limits mode (state opened.store.disk) after log left asked old new outcome → IsWatchRun (StoodAt state limits mode disk) limits mode (state disk) after log left asked old new outcome
-opened_watch state limits mode disk opened after log left asked old new outcome lawful looks opens run = λ h before bytes questions stood told tells.
-    let w = run h before bytes questions (opens h before stood) told tells in
+opened_watch state limits mode disk opened after log left asked old new outcome lawful looks settles opens run = λ h before bytes questions stood told tells.
+    let x = opens h before stood in
+    let w = run h before bytes questions x told tells in
     record {
       to = w.to;
       bytes = w.bytes;
@@ -558,26 +581,24 @@ opened_watch state limits mode disk opened after log left asked old new outcome 
       stored = w.stored;
       last = w.last;
       along = w.along;
-      leaves = leaves_looked (state disk) (state opened.store.disk) after (IsReached limits mode (begun_of false h before bytes) (since (begun_of false h before bytes) w.last)) (lawful disk) looks
-          (λ bs image. inl (stood.images bs image)) w.leaves;
+      leaves = inr (synced_by_looking outcome (state disk) (state opened.store.disk) after (IsReached limits mode (begun_of false h before bytes) (since (begun_of false h before bytes) w.last))
+          (lawful disk) (lawful opened.store.disk) looks (not_blamed _ (settles stood.told)) (inl x.stores) w.leaves);
       no_further = w.no_further;
       passes = w.passes;
       whole = w.whole;
     }
 
-pub unopened_watch : {D : Type 0} (state : D → DiskState) (limits : Limits) (mode : Mode) (disk after : D) (log asked old : Option (List ℕ)) (fault : OpenFault) (outcome : StoreHalt) → ((d : D) → IsDisk (state d))
+pub unopened_watch : {D : Type 0} (state : D → DiskState) (limits : Limits) (mode : Mode) (disk after : D) (log asked old : Option (List ℕ)) (fault : OpenFault) (outcome : StoreHalt)
     → OnlyLooks (state disk) (state after) → outcome ≡ open_halt fault → IsWatchRun (StoodAt state limits mode disk) limits mode (state disk) (state after) log log asked old old (Err outcome)
-unopened_watch state limits mode disk after log asked old fault outcome lawful looks is = λ h before bytes questions stood told tells.
+unopened_watch state limits mode disk after log asked old fault outcome looks is = λ h before bytes questions stood told tells.
     rw is (watched_none limits mode (state disk) (state after) log old (open_halt fault) (begun_of false h before bytes) questions (open_names fault) (open_due never fault)
-    (leaves_unwritten (state disk) (state after) (λ bs. StoresHistory limits mode bs h before) (lawful disk) looks (λ bs image. stood.images bs image))
-    (open_long fault))
+    (λ steps. inl (open_unopened fault, looks)) (open_long fault))
 
-pub unbegun_watch : {D : Type 0} (state : D → DiskState) (Stood : History → ℕ → Type 0) (limits : Limits) (mode : Mode) (a disk : D) (log asked old : Option (List ℕ)) → ((d : D) → IsDisk (state d)) → disk ≡ a
-    → ((h : History) (before : ℕ) → Stood h before → (bytes : List ℕ) → (state a).image bytes → StoresHistory limits mode bytes h before)
-    → IsWatchRun Stood limits mode (state a) (state disk) log log asked old old (Err (over.Run halt.NoMemory))
-unbegun_watch state Stood limits mode a disk log asked old lawful same images = λ h before bytes questions stood told tells.
-    watched_none limits mode (state a) (state disk) log old (over.Run halt.NoMemory) (begun_of false h before bytes) questions memory_names tt
-    (leaves_still state a disk (λ bs. StoresHistory limits mode bs h before) same (lawful a) (λ bs image. images h before stood bs image)) memory_long
+pub unbegun_watch : (Stood : History → ℕ → Type 0) (limits : Limits) (mode : Mode) (a after : DiskState) (log asked old : Option (List ℕ))
+    → ((h : History) (before : ℕ) (bytes : List ℕ) (steps : History) → Stood h before → MayLeave (Err (over.Run halt.NoMemory)) a after (IsReached limits mode (begun_of false h before bytes) steps))
+    → IsWatchRun Stood limits mode a after log log asked old old (Err (over.Run halt.NoMemory))
+unbegun_watch Stood limits mode a after log asked old leaves = λ h before bytes questions stood told tells.
+    watched_none limits mode a after log old (over.Run halt.NoMemory) (begun_of false h before bytes) questions memory_names tt (λ steps. leaves h before bytes steps stood) memory_long
 
 -- why a disk wasn't opened has its cause
 pub open_causes : (read write store : Type 0) (bad : ℕ → Type 0) (wrong : Mode → Mode → Type 0) (short : ℕ → ℕ → Type 0) (fault : OpenFault) → (fault ≡ opening.StoreFault → store) → ((place : ℕ) → fault ≡ opening.BadStore place → bad place)
@@ -664,34 +685,36 @@ bad_or_none limits opened bytes place read begins (inr none) = inr (record { log
 
 -- ---- `query`
 
-pub queried_of : {K : Type 0} (holds : Engine K → Moment → Type 0) (limits : Limits) (mode : Mode) (h : History) (asked : List ℕ) (engine : Engine K) (left old new : Option (List ℕ)) (r : Result Unit Halt)
-    → EndTalked (kind_of mode false holds) limits (QuestionsStop limits asked) engine left old new r (querying mode h) (asks limits (lines_in asked)) → IsQueried limits mode h asked old new (over_run r)
-queried_of holds limits mode h asked engine left old new (Ok t) x = record { to = x.to; bytes = x.bytes; wrote = x.wrote; course = x.course }
-queried_of holds limits mode h asked engine left old new (Err why) x = record { to = x.to; bytes = x.bytes; wrote = x.wrote; course = x.course }
+pub queried_of : {K : Type 0} (holds : Engine K → Moment → Type 0) (limits : Limits) (mode : Mode) (h : History) (asked : List ℕ) (engine : Engine K) (left rest old new : Option (List ℕ)) (r : Result Unit Halt) → IfErr (over_run r) NamesNoBatch → OnOk (over_run r) (AreHeardOut limits (querying mode h) asked rest)
+    → EndTalked (kind_of mode false holds) limits (QuestionsStop limits asked) engine left old new r (querying mode h) (asks limits (lines_in asked)) → IsQueried limits mode h asked rest old new (over_run r)
+queried_of holds limits mode h asked engine left rest old new (Ok t) names heard x = record { to = x.to; bytes = x.bytes; wrote = x.wrote; course = x.course; names = tt; heard = heard }
+queried_of holds limits mode h asked engine left rest old new (Err why) names heard x = record { to = x.to; bytes = x.bytes; wrote = x.wrote; course = x.course; names = names; heard = tt }
 
 -- nothing was answered for want of memory
-pub queried_none : (limits : Limits) (mode : Mode) (h : History) (asked : List ℕ) (old : Option (List ℕ)) → IsQueried limits mode h asked old old (Err (over.Run halt.NoMemory))
-queried_none limits mode h asked old = record {
+pub queried_none : (limits : Limits) (mode : Mode) (h : History) (asked : List ℕ) (rest old : Option (List ℕ)) → IsQueried limits mode h asked rest old old (Err (over.Run halt.NoMemory))
+queried_none limits mode h asked rest old = record {
   to = querying mode h;
   bytes = [];
   wrote = appends_none old;
   course = other_halt limits (QuestionsStop limits asked) (querying mode h) (asks limits (lines_in asked)) [] halt.NoMemory tt (nothing_said limits (querying mode h) (asks limits (lines_in asked)));
+  names = memory_names;
+  heard = tt;
 }
 
-pub queried_bad : (limits : Limits) (mode : Mode) (h : History) (asked : List ℕ) (old : Option (List ℕ)) (place : ℕ) → IsQueried limits mode h asked old old (Err (over.BadStore place))
-queried_bad limits mode h asked old place = record { to = querying mode h; bytes = []; wrote = appends_none old; course = refl }
+pub queried_bad : (limits : Limits) (mode : Mode) (h : History) (asked : List ℕ) (rest old : Option (List ℕ)) (place : ℕ) → IsQueried limits mode h asked rest old old (Err (over.BadStore place))
+queried_bad limits mode h asked rest old place = record { to = querying mode h; bytes = []; wrote = appends_none old; course = refl; names = open_names (opening.BadStore place); heard = tt }
 
-pub queried_unopened : (limits : Limits) (mode : Mode) (h : History) (asked : List ℕ) (old : Option (List ℕ)) (fault : OpenFault) → IsQueried limits mode h asked old old (Err (open_halt fault))
-queried_unopened limits mode h asked old opening.StoreFault = record { to = querying mode h; bytes = []; wrote = appends_none old; course = silent_course limits (querying mode h) asked (over.Run halt.StoreFault) tt }
-queried_unopened limits mode h asked old (opening.BadStore place) = queried_bad limits mode h asked old place
-queried_unopened limits mode h asked old (opening.WrongMode kept want) = record { to = querying mode h; bytes = []; wrote = appends_none old; course = refl }
-queried_unopened limits mode h asked old opening.NoMemory = queried_none limits mode h asked old
+pub queried_unopened : (limits : Limits) (mode : Mode) (h : History) (asked : List ℕ) (rest old : Option (List ℕ)) (fault : OpenFault) → IsQueried limits mode h asked rest old old (Err (open_halt fault))
+queried_unopened limits mode h asked rest old opening.StoreFault = record { to = querying mode h; bytes = []; wrote = appends_none old; course = silent_course limits (querying mode h) asked (over.Run halt.StoreFault) tt; names = open_names opening.StoreFault; heard = tt }
+queried_unopened limits mode h asked rest old (opening.BadStore place) = queried_bad limits mode h asked rest old place
+queried_unopened limits mode h asked rest old (opening.WrongMode kept want) = record { to = querying mode h; bytes = []; wrote = appends_none old; course = refl; names = open_names (opening.WrongMode kept want); heard = tt }
+queried_unopened limits mode h asked rest old opening.NoMemory = queried_none limits mode h asked rest old
 
-pub queried_unrestored : {D K : Type 0} (state : D → DiskState) (limits : Limits) (mode : Mode) (opened : Opened D) (h : History) (part : ℕ) (asked : List ℕ) (old : Option (List ℕ)) (back : Unrestored K) → Was
-    → IsOpenAt state limits mode opened h part → IsPastInput limits opened back → (why : RestoreFault) → back.why ≡ why → IsQueried limits mode h asked old old (Err (restore_halt why))
-queried_unrestored state limits mode opened h part asked old back law x past (restore.BadStore place) is = queried_bad limits mode h asked old place
-queried_unrestored state limits mode opened h part asked old back law x past restore.NoMemory is = queried_none limits mode h asked old
-queried_unrestored state limits mode opened h part asked old back law x past (restore.Full full) is = absurd (not_past state limits mode opened h part back full law x past is)
+pub queried_unrestored : {D K : Type 0} (state : D → DiskState) (limits : Limits) (mode : Mode) (opened : Opened D) (h : History) (part : ℕ) (asked : List ℕ) (rest old : Option (List ℕ)) (back : Unrestored K) → Was
+    → IsOpenAt state limits mode opened h part → IsPastInput limits opened back → (why : RestoreFault) → back.why ≡ why → IsQueried limits mode h asked rest old old (Err (restore_halt why))
+queried_unrestored state limits mode opened h part asked rest old back law x past (restore.BadStore place) is = queried_bad limits mode h asked rest old place
+queried_unrestored state limits mode opened h part asked rest old back law x past restore.NoMemory is = queried_none limits mode h asked rest old
+queried_unrestored state limits mode opened h part asked rest old back law x past (restore.Full full) is = absurd (not_past state limits mode opened h part back full law x past is)
 
 -- the causes of a dialogue without a log
 none_rose : Rose 0 0 ⊥ → ⊥
@@ -721,33 +744,44 @@ not_wrong state limits mode disk h before kept asked law stood wrong =
     let want : mode ≡ asked = (let is = w.differ.asked_is in cc) in
     w.differ.apart (sym one ∙ want)
 
+-- a disk that had a history is no bad store
+pub not_bad : {D : Type 0} (state : D → DiskState) (limits : Limits) (mode : Mode) (disk : D) (h : History) (before place : ℕ)
+    → ((limits : Limits) (mode : Mode) (bytes : List ℕ) (h : History) (part place : ℕ) → StoresHistory limits mode bytes h part → ¬ IsBadAt limits place bytes)
+    → ((limits : Limits) (mode : Mode) (bytes : List ℕ) (h : History) (part : ℕ) (log : Log) (found : Found) → StoresHistory limits mode bytes h part → IsStoreRead limits bytes (log, found) → WaitsSoundly limits found.others)
+    → StoodAt state limits mode disk h before → IsBadIn limits (state disk) place → ⊥
+not_bad state limits mode disk h before place no_bad sound stood bad = by (bad stood.told)
+  where
+    by : IsBadAt limits place (state disk).reads ⊎ StoresUnsoundly limits place (state disk).reads → ⊥
+    by (inl at) = no_bad limits mode (state disk).reads h before place stood.stores at
+    by (inr u) = u.unsound.2 (sound limits mode (state disk).reads h before u.log u.found stood.stores u.read u.unsound.0 u.unsound.1)
+
 pub reduced_all : (resume : Bool) (limits : Limits) (mode : Mode) (disk after : DiskState) (left old new : Option (List ℕ)) (r : Result Unit StoreHalt) (h : History) (before : ℕ) (bytes : List ℕ) (read write store : Type 0) (bad : ℕ → Type 0) (wrong : Mode → Mode → Type 0) (short : ℕ → ℕ → Type 0)
-    → Reduces resume limits mode disk after left old new r h before bytes → IfErr r (HasStoreCauses read write store bad wrong short) → HasTaken resume before bytes → (read → ⊥) → (write → ⊥) → (store → ⊥) → ((kept asked : Mode) → wrong kept asked → ⊥)
-    → FitsWhole limits mode (begun_of resume h before bytes) → IsDoneOrRefused (store_status r)
-reduced_all resume limits mode disk after left old new (Ok t) h before bytes read write store bad wrong short run causes enough e f g k fits = tt
-reduced_all resume limits mode disk after left old new (Err (over.Run halt.NoMemory)) h before bytes read write store bad wrong short run causes enough e f g k fits = tt
-reduced_all resume limits mode disk after left old new (Err (over.Run halt.ReadFault)) h before bytes read write store bad wrong short run causes enough e f g k fits = absurd (e causes)
-reduced_all resume limits mode disk after left old new (Err (over.Run halt.WriteFault)) h before bytes read write store bad wrong short run causes enough e f g k fits = absurd (f causes)
-reduced_all resume limits mode disk after left old new (Err (over.Run halt.StoreFault)) h before bytes read write store bad wrong short run causes enough e f g k fits = absurd (g causes)
-reduced_all resume limits mode disk after left old new (Err (over.Run (halt.Full full))) h before bytes read write store bad wrong short run causes enough e f g k fits = absurd (fits.engine full run.due)
-reduced_all resume limits mode disk after left old new (Err (over.Run (halt.Unwritten full))) h before bytes read write store bad wrong short run causes enough e f g k fits = absurd (fits.store full run.passes)
-reduced_all resume limits mode disk after left old new (Err (over.BadStore place)) h before bytes read write store bad wrong short run causes enough e f g k fits = tt
-reduced_all resume limits mode disk after left old new (Err (over.WrongMode kept asked)) h before bytes read write store bad wrong short run causes enough e f g k fits = absurd (k kept asked causes)
-reduced_all resume limits mode disk after left old new (Err (over.ShortLog taken had)) h before bytes read write store bad wrong short run causes enough e f g k fits = absurd (not_short_enough resume before bytes taken had enough (run.short taken had refl))
+    → Reduces resume limits mode disk after left old new r h before bytes → IfErr r (HasStoreCauses read write store bad wrong short) → HasTaken resume before bytes → (read → ⊥) → (write → ⊥) → (store → ⊥) → ((kept asked : Mode) → wrong kept asked → ⊥) → ((place : ℕ) → bad place → ⊥)
+    → FitsWhole limits mode (begun_of resume h before bytes) → IsDoneOrNoMemory (store_status r)
+reduced_all resume limits mode disk after left old new (Ok t) h before bytes read write store bad wrong short run causes enough e f g k b fits = tt
+reduced_all resume limits mode disk after left old new (Err (over.Run halt.NoMemory)) h before bytes read write store bad wrong short run causes enough e f g k b fits = tt
+reduced_all resume limits mode disk after left old new (Err (over.Run halt.ReadFault)) h before bytes read write store bad wrong short run causes enough e f g k b fits = absurd (e causes)
+reduced_all resume limits mode disk after left old new (Err (over.Run halt.WriteFault)) h before bytes read write store bad wrong short run causes enough e f g k b fits = absurd (f causes)
+reduced_all resume limits mode disk after left old new (Err (over.Run halt.StoreFault)) h before bytes read write store bad wrong short run causes enough e f g k b fits = absurd (g causes)
+reduced_all resume limits mode disk after left old new (Err (over.Run (halt.Full full))) h before bytes read write store bad wrong short run causes enough e f g k b fits = absurd (fits.engine full run.due)
+reduced_all resume limits mode disk after left old new (Err (over.Run (halt.Unwritten full))) h before bytes read write store bad wrong short run causes enough e f g k b fits = absurd (fits.store full run.passes)
+reduced_all resume limits mode disk after left old new (Err (over.BadStore place)) h before bytes read write store bad wrong short run causes enough e f g k b fits = absurd (b place causes)
+reduced_all resume limits mode disk after left old new (Err (over.WrongMode kept asked)) h before bytes read write store bad wrong short run causes enough e f g k b fits = absurd (k kept asked causes)
+reduced_all resume limits mode disk after left old new (Err (over.ShortLog taken had)) h before bytes read write store bad wrong short run causes enough e f g k b fits = absurd (not_short_enough resume before bytes taken had enough (run.short taken had refl))
 
 pub watched_all : (limits : Limits) (mode : Mode) (disk after : DiskState) (left old new : Option (List ℕ)) (r : Result Unit StoreHalt) (begun : Begun) (asked : List ℕ) (read write store : Type 0) (bad : ℕ → Type 0) (wrong : Mode → Mode → Type 0) (short : ℕ → ℕ → Type 0)
-    → Watches limits mode disk after left old new r begun asked → IfErr r (HasStoreCauses read write store bad wrong short) → (read → ⊥) → (write → ⊥) → (store → ⊥) → ((kept want : Mode) → wrong kept want → ⊥)
-    → FitsDialogue limits mode begun asked → IsDoneOrRefused (store_status r)
-watched_all limits mode disk after left old new (Ok t) begun asked read write store bad wrong short run causes e f g k fits = tt
-watched_all limits mode disk after left old new (Err (over.Run halt.NoMemory)) begun asked read write store bad wrong short run causes e f g k fits = tt
-watched_all limits mode disk after left old new (Err (over.Run halt.ReadFault)) begun asked read write store bad wrong short run causes e f g k fits = absurd (e causes)
-watched_all limits mode disk after left old new (Err (over.Run halt.WriteFault)) begun asked read write store bad wrong short run causes e f g k fits = absurd (f causes)
-watched_all limits mode disk after left old new (Err (over.Run halt.StoreFault)) begun asked read write store bad wrong short run causes e f g k fits = absurd (g causes)
-watched_all limits mode disk after left old new (Err (over.Run (halt.Full full))) begun asked read write store bad wrong short run causes e f g k fits = absurd (fits.engine run.course.said run.course.to full run.course.stops)
-watched_all limits mode disk after left old new (Err (over.Run (halt.Unwritten full))) begun asked read write store bad wrong short run causes e f g k fits = absurd (fits.store run.last run.along full run.passes)
-watched_all limits mode disk after left old new (Err (over.BadStore place)) begun asked read write store bad wrong short run causes e f g k fits = tt
-watched_all limits mode disk after left old new (Err (over.WrongMode kept want)) begun asked read write store bad wrong short run causes e f g k fits = absurd (k kept want causes)
-watched_all limits mode disk after left old new (Err (over.ShortLog taken had)) begun asked read write store bad wrong short run causes e f g k fits = absurd (run.whole taken had refl)
+    → Watches limits mode disk after left old new r begun asked → IfErr r (HasStoreCauses read write store bad wrong short) → (read → ⊥) → (write → ⊥) → (store → ⊥) → ((kept want : Mode) → wrong kept want → ⊥) → ((place : ℕ) → bad place → ⊥)
+    → FitsDialogue limits mode begun asked → IsDoneOrNoMemory (store_status r)
+watched_all limits mode disk after left old new (Ok t) begun asked read write store bad wrong short run causes e f g k b fits = tt
+watched_all limits mode disk after left old new (Err (over.Run halt.NoMemory)) begun asked read write store bad wrong short run causes e f g k b fits = tt
+watched_all limits mode disk after left old new (Err (over.Run halt.ReadFault)) begun asked read write store bad wrong short run causes e f g k b fits = absurd (e causes)
+watched_all limits mode disk after left old new (Err (over.Run halt.WriteFault)) begun asked read write store bad wrong short run causes e f g k b fits = absurd (f causes)
+watched_all limits mode disk after left old new (Err (over.Run halt.StoreFault)) begun asked read write store bad wrong short run causes e f g k b fits = absurd (g causes)
+watched_all limits mode disk after left old new (Err (over.Run (halt.Full full))) begun asked read write store bad wrong short run causes e f g k b fits = absurd (fits.engine run.course.said run.course.to full run.course.stops)
+watched_all limits mode disk after left old new (Err (over.Run (halt.Unwritten full))) begun asked read write store bad wrong short run causes e f g k b fits = absurd (fits.store run.last run.along full run.passes)
+watched_all limits mode disk after left old new (Err (over.BadStore place)) begun asked read write store bad wrong short run causes e f g k b fits = absurd (b place causes)
+watched_all limits mode disk after left old new (Err (over.WrongMode kept want)) begun asked read write store bad wrong short run causes e f g k b fits = absurd (k kept want causes)
+watched_all limits mode disk after left old new (Err (over.ShortLog taken had)) begun asked read write store bad wrong short run causes e f g k b fits = absurd (run.whole taken had refl)
 
 -- ---- the status
 
@@ -768,3 +802,36 @@ refuses_by read write store bad wrong short (Err (over.Run why)) h = refuses_non
 refuses_by read write store bad wrong short (Err (over.BadStore place)) h = h
 refuses_by read write store bad wrong short (Err (over.WrongMode kept asked)) h = h
 refuses_by read write store bad wrong short (Err (over.ShortLog taken had)) h = tt
+
+-- ---- a store that is refused
+
+-- a run over an engine refuses no store
+pub never_refused : (read write store : Type 0) (short : ℕ → ℕ → Type 0) (r : Result Unit StoreHalt) → IfErr r (HasStoreCauses read write store no_place no_modes short) → IsRefusal r → ⊥
+never_refused read write store short (Ok t) causes is = is
+never_refused read write store short (Err (over.Run why)) causes is = is
+never_refused read write store short (Err (over.BadStore place)) causes is = causes
+never_refused read write store short (Err (over.WrongMode kept want)) causes is = causes
+never_refused read write store short (Err (over.ShortLog taken had)) causes is = is
+
+-- a status that refuses a store is that of such an outcome
+pub refusal_of : (r : Result Unit StoreHalt) → RefusesAStore (store_status r) → IsRefusal r
+refusal_of (Ok t) is = is
+refusal_of (Err (over.Run halt.NoMemory)) is = is
+refusal_of (Err (over.Run halt.ReadFault)) is = is
+refusal_of (Err (over.Run halt.WriteFault)) is = is
+refusal_of (Err (over.Run halt.StoreFault)) is = is
+refusal_of (Err (over.Run (halt.Full full))) is = is
+refusal_of (Err (over.Run (halt.Unwritten full))) is = is
+refusal_of (Err (over.BadStore place)) is = is
+refusal_of (Err (over.WrongMode kept want)) is = is
+refusal_of (Err (over.ShortLog taken had)) is = is
+
+-- a run that keeps its rows in memory refuses none
+pub refuses_nothing : (r : Result Unit Halt) → RefusesAStore (status_for r) → ⊥
+refuses_nothing (Ok t) is = is
+refuses_nothing (Err halt.NoMemory) is = is
+refuses_nothing (Err halt.ReadFault) is = is
+refuses_nothing (Err halt.WriteFault) is = is
+refuses_nothing (Err halt.StoreFault) is = is
+refuses_nothing (Err (halt.Full full)) is = is
+refuses_nothing (Err (halt.Unwritten full)) is = is

@@ -1,10 +1,11 @@
 -- What is claimed of a run, one claim a clause of the top call.
-use Rattle.std.specs.Prelude.{◌≡◌, ◌⊎◌, ℕ, List, Option, Some}
+use Rattle.std.specs.Prelude.{◌≡◌, ◌⊎◌, ◌<◌, ⊤, ℕ, true, List, Option, Some}
 use Rattle.flow_base.specs.declared.limits.Limits.{Limits}
 use Rattle.flow_base.specs.declared.limits.Full.{Full}
 use Rattle.audit_cli.specs.declared.status.Status.{Status}
 use Rattle.audit_cli.specs.declared.status.Status.TheVariants as status
 use Rattle.audit_cli.specs.declared.words.Job.{Job}
+use Rattle.audit_cli.specs.declared.words.Job.TheVariants as job
 use Rattle.audit_cli.specs.Words.{job_of}
 use Rattle.audit_cli.specs.Headline.{Tells, TellsLog, Finished, Written, StoppedAt, LeavesQuestions, PassesNone}
 use Rattle.audit_cli.specs.Standard.{WithStandard}
@@ -54,3 +55,13 @@ abbrev pub IsComplete : Status → (failed : Type 0) → Claim
 IsComplete result failed =
     λ limits done log asked. ¬ failed → PassesNone limits done log asked
     → (result ≡ status.Done) ⊎ (result ≡ status.NoMemory)
+
+-- the words name a `reduce` that goes on in its log
+abbrev pub Resumes : Option Job → Type 0
+Resumes (Some (job.Reduce kept name store resume)) = resume ≡ true
+Resumes _ = ⊥
+
+-- only such a run finds its log a short one, which has fewer bytes than the store has taken of it
+abbrev pub ShortCause : Status → Option Job → Type 0
+ShortCause (status.ShortLog taken had) found = Resumes found × (had < taken)
+ShortCause _ found = ⊤

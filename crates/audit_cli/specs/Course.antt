@@ -1,5 +1,5 @@
 -- How a part of a run ended, and what it wrote.
-use Rattle.std.specs.Prelude.{Bool, ◌≡◌, ⊤, ℕ, ◌≤◌, ◌+◌, ◌-◌, ◌^◌, List, length, Option, Some, Result, Ok, Err, OnOk, []}
+use Rattle.std.specs.Prelude.{Bool, true, false, ◌≡◌, ⊤, ℕ, ◌≤◌, ◌+◌, ◌-◌, ◌^◌, List, length, Option, Some, Result, Ok, Err, OnOk, []}
 use Rattle.std.specs.Io.KnownBytes.{Appends}
 use Rattle.flow_base.specs.declared.limits.Limits.{Limits}
 use Rattle.flow_base.specs.declared.limits.Full.{Full}
@@ -30,6 +30,11 @@ HasCauses read write store limit halt.WriteFault = write
 HasCauses read write store limit halt.StoreFault = store
 HasCauses read write store limit (halt.Full full) = ⊤
 HasCauses read write store limit (halt.Unwritten full) = limit
+
+-- a limit that only a run passes that takes a log
+abbrev pub when_takes : (takes : Bool) → (limit : Type 0) → Type 0
+when_takes true limit = limit
+when_takes false limit = ⊥
 
 -- a limit that is named would be passed
 abbrev pub IsDue : (Full → Type 0) → Halt → Type 0

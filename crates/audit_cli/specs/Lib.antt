@@ -6,8 +6,10 @@ pub mod Headline
 pub mod Hearing
 pub mod Jobs
 pub mod Listening
+pub mod Refusals
 pub mod Saves
 pub mod Sessions
+pub mod Settles
 pub mod Standard
 pub mod StoreHalts
 pub mod Stores

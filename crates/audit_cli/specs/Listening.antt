@@ -5,7 +5,7 @@ use Rattle.flow_base.specs.declared.limits.Full.{Full}
 use Rattle.audit_lex.specs.History.{History, with_bytes, lines_of}
 use Rattle.report_json.specs.declared.ask.Ask.{Ask}
 use Rattle.report_json.specs.declared.reply.Reply.{Reply}
-use Rattle.audit_cli.specs.Dialogue.{Moment, Closes, asks, input_full}
+use Rattle.audit_cli.specs.Dialogue.{Moment, Closes, QuestionsStop, ReadsNoFurther, StopsAfter, asks, input_full, lines_in}
 use Rattle.audit_cli.specs.declared.halt.Halt.{Halt}
 use Rattle.audit_cli.specs.declared.halt.Heed.{Heed}
 use Rattle.audit_cli.specs.declared.halt.Heed.TheVariants as heed
@@ -71,3 +71,10 @@ ClosesWithin limits room from history q heed.Silence = ⊤
 -- the questions end within the limit, or `end` comes within it
 abbrev pub KeepsWithin : Limits → Moment → List ℕ → Type 0
 KeepsWithin limits from q = (length q ≤ limits.input) ⊎ EndsWithin limits limits.input from [] q
+
+-- The questions of a dialogue that is done: at most 65,536 bytes of them were read after a prefix that doesn't end the dialogue, and
+-- no limit would be passed
+pub record AreHeardOut (limits : Limits) (from : Moment) (text : List ℕ) (left : Option (List ℕ)) : Type 0 where
+  pub no_further : ReadsNoFurther limits from text left
+  pub within : KeepsWithin limits from text
+  pub fits : (said : List Reply) (to : Moment) (full : Full) → ¬ StopsAfter limits (QuestionsStop limits text) from (asks limits (lines_in text)) said to full

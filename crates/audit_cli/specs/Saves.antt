@@ -1,10 +1,11 @@
 -- What a run puts on the disk of a store as it goes, and what a crash may leave of it.
-use Rattle.std.specs.Prelude.{◌≡◌, ◌⊎◌, ⊤, ℕ, ◌+◌, List, [], ◌∷◌, ◌++◌, flat_map, length, take, drop}
+use Rattle.std.specs.Prelude.{◌≡◌, ◌⊎◌, ◌≤◌, ⊤, ℕ, ◌+◌, ◌*◌, List, [], ◌∷◌, ◌++◌, flat_map, length, take, drop, Option, Some, Result, Ok, Err}
 use Rattle.flow_base.specs.declared.limits.Full.{Full}
 use Rattle.flow_base.specs.declared.limits.Limits.{Limits}
 use Rattle.outside.specs.Cause.{Rose}
 use Rattle.outside.specs.Disk.{DiskState, IsDurable, LeavesOnly, UsesDisk}
 use Rattle.audit_lex.specs.History.{History, Step, Byte, Settle}
+use Rattle.batch_log.specs.Batches.{IsStore}
 use Rattle.batch_log.specs.Log.{Log}
 use Rattle.reach_model.specs.declared.modes.Mode.{Mode}
 use Rattle.row_codec.specs.declared.rows.StoreRow.{StoreRow}
@@ -104,6 +105,76 @@ pub record IsCutShort {D : Type 0} (state : D → DiskState) (start : Start (OnD
   pub moment : IsOf start.begun m
   pub leaves : LeavesOnly (state start.rows.disk) (state rows.disk) (IsReached limits m.mode start.begun (since start.begun m))
   pub passes : (full : Full) → why ≡ halt.Unwritten full → PassesStore limits m.mode start.begun (since start.begun m) full
+
+-- What a run lacks on its disk
+
+-- all but at most so many of these bytes are left, and no more than there were
+pub record LeavesAllBut (most : ℕ) (bytes : List ℕ) (left : Option (List ℕ)) : Type 0 where
+  pub rest : List ℕ
+  pub told : left ≡ Some rest
+  pub few : length bytes ≤ length rest + most
+  pub no_more : length rest ≤ length bytes
+
+-- so many as a call says, or as many as it could have been
+abbrev pub count_of : {E : Type 0} → Result ℕ E → (most : ℕ) → ℕ
+count_of (Ok n) most = n
+count_of (Err e) most = most
+
+-- so many as came since the last save, or a batch of them if the run halted
+abbrev pub lack_of : {T E : Type 0} → Result T E → (unsaved batch : ℕ) → ℕ
+lack_of (Ok t) unsaved batch = unsaved
+lack_of (Err e) unsaved batch = batch
+
+-- Whatever history a crash now would leave, at most so many of the bytes are missing from it that came before what is left of the log
+abbrev pub LacksAtMost : Limits → Mode → Begun → DiskState → (left : Option (List ℕ)) → (most : ℕ) → Type 0
+LacksAtMost limits mode begun disk left most = (bytes : List ℕ) (h : History) (part : ℕ) (rest : List ℕ)
+    → disk.image bytes → StoresHistory limits mode bytes h part → left ≡ Some rest
+    → bytes_in begun.history + length begun.log ≤ bytes_in h + length rest + most
+
+-- the same of the disk of a store
+abbrev pub LacksInStore : {D : Type 0} → (D → DiskState) → Start (OnDisk D) → Limits → Mode → OnDisk D → (left : Option (List ℕ)) → (most : ℕ) → Type 0
+LacksInStore state start limits mode rows left most = LacksAtMost limits mode start.begun (state rows.disk) left most
+
+-- rows in memory lack nothing, since nothing is saved
+abbrev pub lacks_nothing : {K : Type 0} → Start K → Limits → Mode → K → (left : Option (List ℕ)) → (most : ℕ) → Type 0
+lacks_nothing start limits mode rows left most = ⊤
+
+-- How what is said of lacking belongs together. It stays while the rows are alike. What is read of a log is lacking as well. And who
+-- lacks no more than some bytes lacks no more than more of them.
+pub record LacksLawfully {K : Type 0} (alike : K → K → Type 0) (lacks : Start K → Limits → Mode → K → Option (List ℕ) → ℕ → Type 0) : Type 0 where
+  pub same : (start : Start K) (limits : Limits) (mode : Mode) (a b : K) (left : Option (List ℕ)) (n : ℕ) → alike a b
+      → lacks start limits mode a left n → lacks start limits mode b left n
+  pub reads : (start : Start K) (limits : Limits) (mode : Mode) (rows : K) (bytes rest : List ℕ) (n k : ℕ) → length bytes ≤ length rest + k
+      → lacks start limits mode rows (Some bytes) n → lacks start limits mode rows (Some rest) (n + k)
+  pub more : (start : Start K) (limits : Limits) (mode : Mode) (rows : K) (left : Option (List ℕ)) (n k : ℕ) → n ≤ k
+      → lacks start limits mode rows left n → lacks start limits mode rows left k
+
+-- What a run adds to its disk
+
+-- whatever batches the first disk has, as it reads, the second one has them, and at most so many after them
+abbrev pub AddsAtMost : Limits → (disk after : DiskState) → (most : ℕ) → Type 0
+AddsAtMost limits disk after most = (payloads : List (List ℕ)) → IsStore limits.payload payloads disk.reads
+    → (more : List (List ℕ)) × IsStore limits.payload (payloads ++ more) after.reads × (length more ≤ most)
+
+-- the same of the disk of a store, since the start
+abbrev pub AddsToStore : {D : Type 0} → (D → DiskState) → Start (OnDisk D) → Limits → OnDisk D → (most : ℕ) → Type 0
+AddsToStore state start limits rows most = AddsAtMost limits (state start.rows.disk) (state rows.disk) most
+
+-- rows in memory add none
+abbrev pub adds_nothing : {K : Type 0} → Start K → Limits → K → (most : ℕ) → Type 0
+adds_nothing start limits rows most = ⊤
+
+-- what was added stays so while the rows are alike
+abbrev pub AddsLawfully : {K : Type 0} → (alike : K → K → Type 0) → (adds : Start K → Limits → K → ℕ → Type 0) → Type 0
+AddsLawfully {K} alike adds = (start : Start K) (limits : Limits) (a b : K) (n : ℕ) → alike a b → adds start limits a n → adds start limits b n
+
+-- Batches were added, and nothing else. They, at so many bytes a batch, with what isn't saved and what is left of the log are at most so many bytes
+pub record KeepsPace {K : Type 0} (adds : K → ℕ → Type 0) (batch : ℕ) (rows : K) (unsaved : ℕ) (left : Option (List ℕ)) (most : ℕ) : Type 0 where
+  pub added : ℕ
+  pub adds_so : adds rows added
+  pub rest : List ℕ
+  pub told : left ≡ Some rest
+  pub within : added * batch + unsaved + length rest ≤ most
 
 -- no limit on a store is named
 abbrev pub NamesNoStore : Halt → Type 0

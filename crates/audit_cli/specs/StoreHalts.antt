@@ -1,5 +1,5 @@
 -- Why a run over a store stops, by what stopped it.
-use Rattle.std.specs.Prelude.{◌≡◌, ⊤, ℕ, ◌<◌, Result, Ok, Err}
+use Rattle.std.specs.Prelude.{◌≡◌, ⊤, ℕ, ◌<◌, Bool, true, false, Result, Ok, Err}
 use Rattle.flow_base.specs.declared.limits.Full.{Full}
 use Rattle.reach_model.specs.declared.modes.Mode.{Mode}
 use Rattle.batch_log.specs.declared.log.CommitFault.{CommitFault}
@@ -46,6 +46,11 @@ no_lengths taken had = ⊥
 
 abbrev pub is_shorter : ℕ → ℕ → Type 0
 is_shorter taken had = had < taken
+
+-- one that has fewer, where a run goes on in its log, and none where it doesn't
+abbrev pub shorter_in : (resume : Bool) → ℕ → ℕ → Type 0
+shorter_in true = is_shorter
+shorter_in false = no_lengths
 
 -- each fault of a device, and each refusal of a store, has its cause
 abbrev pub HasStoreCauses : (read write store : Type 0) (bad : ℕ → Type 0) (wrong : Mode → Mode → Type 0) (short : ℕ → ℕ → Type 0) → StoreHalt → Type 0

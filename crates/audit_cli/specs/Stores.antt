@@ -1,9 +1,9 @@
 -- A run over a store: what is on its disk at each moment, and what it writes.
-use Rattle.std.specs.Prelude.{◌≡◌, ◌⊎◌, ◌≤◌, ◌<◌, Bool, true, false, if◌then◌else◌, ⊤, ℕ, ◌+◌, List, [], ◌∷◌, ◌++◌, map, length, drop, unwrap_or, Option, None, Some, Result, Ok, Err, OnOk, OnErr, IfErr}
+use Rattle.std.specs.Prelude.{◌≡◌, ◌⊎◌, ◌≤◌, ◌<◌, Bool, true, false, if◌then◌else◌, ⊤, ℕ, ◌+◌, ◌-◌, ◌/◌, List, [], ◌∷◌, ◌++◌, map, length, drop, unwrap_or, Option, None, Some, Result, Ok, Err, OnOk, OnErr, IfErr}
 use Rattle.std.specs.Io.KnownBytes.{Appends}
 use Rattle.flow_base.specs.declared.limits.Full.{Full}
 use Rattle.flow_base.specs.declared.limits.Limits.{Limits}
-use Rattle.outside.specs.Disk.{DiskState, IsDurable, LeavesOnly}
+use Rattle.outside.specs.Disk.{DiskState, IsDurable, LeavesOnly, OnlyLooks}
 use Rattle.audit_lex.specs.History.{History, Byte, Settle}
 use Rattle.batch_log.specs.Log.{Log}
 use Rattle.reach_model.specs.declared.modes.Mode.{Mode}
@@ -31,9 +31,12 @@ use Rattle.audit_cli.specs.declared.halt.StoreHalt.TheVariants as over
 use Rattle.audit_cli.specs.declared.halt.Halt.TheVariants as halt
 use Rattle.audit_cli.specs.Dialogue.{Moment, QuestionsStop, StopsAfter, asks, lines_in, settled_on, taken_on}
 use Rattle.audit_cli.specs.Course.{At, EndCourse, kind_of}
-use Rattle.audit_cli.specs.Saves.{Begun, IsOf, IsPutAway, IsReached, PassesStore, since}
-use Rattle.audit_cli.specs.StoreHalts.{IsRunDue}
+use Rattle.audit_cli.specs.Listening.{AreHeardOut, KeepsWithin}
+use Rattle.audit_cli.specs.Saves.{AddsAtMost, Begun, IsOf, IsPutAway, IsReached, LacksAtMost, PassesStore, since}
+use Rattle.audit_cli.specs.StoreHalts.{IsRunDue, NamesNoBatch}
 use Rattle.audit_cli.specs.Statuses.{store_status}
+use Rattle.audit_cli.specs.declared.stores.Taking.{Taking}
+use Rattle.audit_cli.specs.declared.stores.Taking.TheVariants as taking
 use Rattle.audit_cli.specs.declared.status.Status.{Status}
 use Rattle.audit_cli.specs.declared.status.Status.TheVariants as status
 
@@ -122,12 +125,14 @@ AnswerCourse limits from asked bytes (Err (over.Run why)) to =
     EndCourse limits (QuestionsStop limits asked) (Err why) from (asks limits (lines_in asked)) bytes to
 AnswerCourse limits from asked bytes (Err why) to = bytes ≡ []
 
--- a run of `query` over a store of this history
-pub record IsQueried (limits : Limits) (mode : Mode) (h : History) (asked : List ℕ) (old new : Option (List ℕ)) (result : Result Unit StoreHalt) : Type 0 where
+-- a run of `query` over a store of this history, which names no limit on a store
+pub record IsQueried (limits : Limits) (mode : Mode) (h : History) (asked : List ℕ) (rest old new : Option (List ℕ)) (result : Result Unit StoreHalt) : Type 0 where
   pub to : Moment
   pub bytes : List ℕ
   pub wrote : Appends old new bytes
   pub course : AnswerCourse limits (querying mode h) asked bytes result to
+  pub names : IfErr result NamesNoBatch
+  pub heard : OnOk result (AreHeardOut limits (querying mode h) asked rest)
 
 -- ---- a run from the opening of a disk on
 
@@ -140,11 +145,31 @@ pub record IsOpenAt {D : Type 0} (state : D → DiskState) (limits : Limits) (mo
   pub open_on : IsOpen state limits opened
   pub stores : StoresHistory limits mode (state opened.store.disk).reads h part
 
--- the disk tells its bytes, which store this history, and so do all bytes that a crash would leave
+-- the disk tells its bytes, which store this history
 pub record StoodAt {D : Type 0} (state : D → DiskState) (limits : Limits) (mode : Mode) (disk : D) (h : History) (part : ℕ) : Type 0 where
   pub told : (state disk).told
   pub stores : StoresHistory limits mode (state disk).reads h part
-  pub images : (bytes : List ℕ) → (state disk).image bytes → StoresHistory limits mode bytes h part
+
+-- A run that synced its disk at some moment. A crash before left what it would have left at the begin, and a crash since leaves what
+-- has P.
+pub record LeavesOnceSynced (old new : DiskState) (P : List ℕ → Type 0) : Type 0 where
+  pub synced : ℕ
+  pub after : old.moment ≤ synced
+  pub by_now : synced ≤ new.moment
+  pub since : (bytes : List ℕ) → new.since synced bytes → P bytes
+  pub ever : LeavesOnly old new (λ bytes. old.image bytes ⊎ P bytes)
+
+-- a run that ended so may not have opened its store
+abbrev pub MayBeUnopened : Result Unit StoreHalt → Type 0
+MayBeUnopened (Err (over.Run halt.NoMemory)) = ⊤
+MayBeUnopened (Err (over.Run halt.StoreFault)) = ⊤
+MayBeUnopened (Err (over.BadStore place)) = ⊤
+MayBeUnopened (Err (over.WrongMode kept want)) = ⊤
+MayBeUnopened _ = ⊥
+
+-- what a crash leaves of a run with this outcome has P once the disk is synced, unless the store wasn't opened
+abbrev pub MayLeave : Result Unit StoreHalt → DiskState → DiskState → (List ℕ → Type 0) → Type 0
+MayLeave outcome old new P = (MayBeUnopened outcome × OnlyLooks old new) ⊎ LeavesOnceSynced old new P
 
 -- the last batch of an opened store begins at this place, and says that something waits which isn't sound
 pub record WaitsUnsoundly {D : Type 0} (limits : Limits) (opened : Opened D) (place : ℕ) : Type 0 where
@@ -169,12 +194,12 @@ IsBadIn limits disk place = disk.told → IsBadAt limits place disk.reads ⊎ St
 abbrev pub IsWrongIn : Limits → DiskState → Option Mode → Mode → Mode → Type 0
 IsWrongIn limits disk asked kept want = disk.told → IsOfWrongMode limits disk.reads asked kept want
 
--- A run of `reduce` over a disk that stores a history. A crash at any moment leaves what was there, or a front of what the run takes,
--- and if a limit on a store is named, a batch would have passed it.
+-- A run of `reduce` over a disk that stores a history. Once it is synced, a crash leaves this history or a front of what the run
+-- takes after it, and if a limit on a store is named, a batch would have passed it.
 pub record Reduces (resume : Bool) (limits : Limits) (mode : Mode) (disk after : DiskState) (left old new : Option (List ℕ)) (outcome : Result Unit StoreHalt)
     (h : History) (before : ℕ) (bytes : List ℕ) : Type 0 where
   pub reduced : OnOk outcome (IsReduced limits mode after left old new (begun_of resume h before bytes))
-  pub leaves : LeavesOnly disk after (IsReached limits mode (begun_of resume h before bytes) (steps_of (begun_of resume h before bytes)))
+  pub leaves : MayLeave outcome disk after (IsReached limits mode (begun_of resume h before bytes) (steps_of (begun_of resume h before bytes)))
   pub front : OnErr outcome (WroteFront limits mode (whole_of (begun_of resume h before bytes)) old new)
   pub due : IfErr outcome (IsRunDue (Stops limits (whole_of (begun_of resume h before bytes))))
   pub passes : IfErr outcome (PassesIn limits mode (begun_of resume h before bytes) (steps_of (begun_of resume h before bytes)))
@@ -186,6 +211,42 @@ abbrev pub IsReduceRun : (resume : Bool) → (Stood : History → ℕ → Type 0
 IsReduceRun resume Stood limits mode disk after log left old new outcome =
     (h : History) (before : ℕ) (bytes : List ℕ) → Stood h before → log ≡ Some bytes → Reduces resume limits mode disk after left old new outcome h before bytes
 
+-- Whatever history a run that halted leaves on its disk, at most so many of the bytes are missing from it that it took of its log. The
+-- run is over a disk that has a history so, and what it reads tells its bytes.
+abbrev pub LacksIn : (resume : Bool) → (Tells : Type 0) → (Stood : History → ℕ → Type 0) → Limits → Mode → (after : DiskState) → (log left : Option (List ℕ)) → (most : ℕ) → Result Unit StoreHalt → Type 0
+LacksIn resume Tells Stood limits mode after log left most outcome = (h : History) (before : ℕ) (bytes : List ℕ) → Tells → Stood h before → log ≡ Some bytes
+    → IfErr outcome (λ why. LacksAtMost limits mode (begun_of resume h before bytes) after left most)
+
+-- the same, unless the run has read nothing of its log and only looked at its disk
+abbrev pub LooksOrLacks : (resume : Bool) → (Tells : Type 0) → (Stood : History → ℕ → Type 0) → Limits → Mode → (disk after : DiskState) → (log left : Option (List ℕ)) → (most : ℕ) → Result Unit StoreHalt → Type 0
+LooksOrLacks resume Tells Stood limits mode disk after log left most outcome =
+    (OnlyLooks disk after × (left ≡ log)) ⊎ LacksIn resume Tells Stood limits mode after log left most outcome
+
+-- A run adds a batch to its disk at most for each so many bytes that it takes of its log, and so many more. The run is over a disk that
+-- has a history so, and its log tells its bytes
+abbrev pub AddsFew : (resume : Bool) → (Stood : History → ℕ → Type 0) → Limits → (disk after : DiskState) → (log left : Option (List ℕ)) → (batch more : ℕ) → Type 0
+AddsFew resume Stood limits disk after log left batch more = (h : History) (before : ℕ) (bytes rest : List ℕ) → Stood h before → log ≡ Some bytes → left ≡ Some rest
+    → AddsAtMost limits disk after ((length (begun_of resume h before bytes).log - length rest) / batch + more)
+
+-- the same of a run that begins with so many bytes unsaved
+abbrev pub AddsIn : (resume : Bool) → (Stood : History → ℕ → Type 0) → Limits → (disk after : DiskState) → (log left : Option (List ℕ)) → (unsaved batch more : ℕ) → Type 0
+AddsIn resume Stood limits disk after log left unsaved batch more = (h : History) (before : ℕ) (bytes rest : List ℕ) → Stood h before → log ≡ Some bytes → left ≡ Some rest
+    → AddsAtMost limits disk after ((unsaved + (length (begun_of resume h before bytes).log - length rest)) / batch + more)
+
+-- whether the bytes of a log that were taken before are passed over
+abbrev pub is_resumed : Taking → Bool
+is_resumed (taking.Whole resume) = resume
+is_resumed taking.Asked = false
+
+-- questions tell their bytes
+abbrev pub AreTold : Option (List ℕ) → Type 0
+AreTold asked = (questions : List ℕ) × (asked ≡ Some questions)
+
+-- if questions are asked, they tell their bytes
+abbrev pub AsksTold : Taking → Option (List ℕ) → Type 0
+AsksTold (taking.Whole resume) asked = ⊤
+AsksTold taking.Asked asked = AreTold asked
+
 -- all that was taken up to this moment is on the disk
 pub record IsStored (limits : Limits) (mode : Mode) (disk : DiskState) (left : Option (List ℕ)) (begun : Begun) (to : Moment) : Type 0 where
   pub along : IsOf begun to
@@ -193,8 +254,8 @@ pub record IsStored (limits : Limits) (mode : Mode) (disk : DiskState) (left : O
   pub durable : IsDurable disk
   pub told : left ≡ Some to.log
 
--- A run of `watch` over a disk that stores a history. A crash at any moment leaves what was there, or a front of what the run has
--- taken at the last moment to which it came.
+-- A run of `watch` over a disk that stores a history. Once it is synced, a crash leaves this history or a front of what the run has
+-- taken after it at the last moment to which it came.
 pub record Watches (limits : Limits) (mode : Mode) (disk after : DiskState) (left old new : Option (List ℕ)) (outcome : Result Unit StoreHalt)
     (begun : Begun) (asked : List ℕ) : Type 0 where
   pub to : Moment
@@ -204,7 +265,7 @@ pub record Watches (limits : Limits) (mode : Mode) (disk after : DiskState) (lef
   pub stored : OnOk outcome (IsStored limits mode after left begun to)
   pub last : Moment
   pub along : IsOf begun last
-  pub leaves : LeavesOnly disk after (IsReached limits mode begun (since begun last))
+  pub leaves : MayLeave outcome disk after (IsReached limits mode begun (since begun last))
   pub no_further : OnOk outcome (last ≡ to)
   pub passes : IfErr outcome (PassesIn limits mode begun (since begun last))
   pub whole : (taken had : ℕ) → outcome ≡ Err (over.ShortLog taken had) → ⊥
@@ -234,14 +295,31 @@ IsBadOrNone limits disk place =
     disk.told → (IsBadAt limits place disk.reads ⊎ StoresUnsoundly limits place disk.reads) ⊎ StoresNothing limits place disk.reads
 
 -- what a run of `query` does with questions that tell their bytes, over a disk that has a history of a mode so
-pub record IsQueryRun (Stood : Mode → History → Type 0) (limits : Limits) (left old new : Option (List ℕ)) (outcome : Result Unit StoreHalt) : Type 0 where
-  pub queried : (kept : Mode) (h : History) (asked : List ℕ) → Stood kept h → left ≡ Some asked → IsQueried limits kept h asked old new outcome
+pub record IsQueryRun (Stood : Mode → History → Type 0) (limits : Limits) (left rest old new : Option (List ℕ)) (outcome : Result Unit StoreHalt) : Type 0 where
+  pub queried : (kept : Mode) (h : History) (asked : List ℕ) → Stood kept h → left ≡ Some asked → IsQueried limits kept h asked rest old new outcome
+
+-- the questions of a run of `watch` that is done were heard out, as those of `query`
+abbrev pub HearsOut : (Stood : History → ℕ → Type 0) → Limits → Mode → (log asked left : Option (List ℕ)) → Result Unit StoreHalt → Type 0
+HearsOut Stood limits mode log asked left outcome = (h : History) (before : ℕ) (bytes questions : List ℕ) → Stood h before → log ≡ Some bytes → asked ≡ Some questions
+    → OnOk outcome (AreHeardOut limits (first_of mode (begun_of false h before bytes)) questions left)
 
 -- ---- a whole run
 
 -- the status is that of an outcome with this
 abbrev pub EndsAs : Status → (Result Unit StoreHalt → Type 0) → Type 0
 EndsAs status P = (outcome : Result Unit StoreHalt) × (status ≡ store_status outcome) × P outcome
+
+-- the store was refused, as a bad one or one of another mode
+abbrev pub IsRefusal : Result Unit StoreHalt → Type 0
+IsRefusal (Err (over.BadStore place)) = ⊤
+IsRefusal (Err (over.WrongMode kept want)) = ⊤
+IsRefusal _ = ⊥
+
+-- the same of a status
+abbrev pub RefusesAStore : Status → Type 0
+RefusesAStore (status.BadStore place) = ⊤
+RefusesAStore (status.WrongMode kept want) = ⊤
+RefusesAStore _ = ⊥
 
 -- ---- runs that were stopped
 
@@ -264,19 +342,28 @@ pub record FitsDialogue (limits : Limits) (mode : Mode) (begun : Begun) (asked :
   pub engine : (said : List Reply) (to : Moment) (full : Full) → ¬ StopsAfter limits (QuestionsStop limits asked) (first_of mode begun) (asks limits (lines_in asked)) said to full
   pub store : (m : Moment) → IsOf begun m → (full : Full) → ¬ PassesStore limits mode begun (since begun m) full
 
--- the run is done, or an allocation failed, or its store was refused as a bad one
-abbrev pub IsDoneOrRefused : Status → Type 0
-IsDoneOrRefused status.Done = ⊤
-IsDoneOrRefused status.NoMemory = ⊤
-IsDoneOrRefused (status.BadStore place) = ⊤
-IsDoneOrRefused _ = ⊥
+-- the run is done, or an allocation failed
+abbrev pub IsDoneOrNoMemory : Status → Type 0
+IsDoneOrNoMemory status.Done = ⊤
+IsDoneOrNoMemory status.NoMemory = ⊤
+IsDoneOrNoMemory _ = ⊥
 
 -- `reduce` ends so over a disk that has a history so, if no device failed and no limit would be passed
 abbrev pub ReducesAll : Status → (failed : Type 0) → (resume : Bool) → (Stood : History → ℕ → Type 0) → Limits → Mode → (log : Option (List ℕ)) → Type 0
 ReducesAll ended failed resume Stood limits mode log = (h : History) (before : ℕ) (bytes : List ℕ) → Stood h before → log ≡ Some bytes → HasTaken resume before bytes
-    → ¬ failed → FitsWhole limits mode (begun_of resume h before bytes) → IsDoneOrRefused ended
+    → ¬ failed → FitsWhole limits mode (begun_of resume h before bytes) → IsDoneOrNoMemory ended
 
 -- `watch` ends so
 abbrev pub WatchesAll : Status → (failed : Type 0) → (Stood : History → ℕ → Type 0) → Limits → Mode → (log asked : Option (List ℕ)) → Type 0
 WatchesAll ended failed Stood limits mode log asked = (h : History) (before : ℕ) (bytes questions : List ℕ) → Stood h before → log ≡ Some bytes → asked ≡ Some questions
-    → ¬ failed → FitsDialogue limits mode (begun_of false h before bytes) questions → IsDoneOrRefused ended
+    → ¬ failed → FitsDialogue limits mode (begun_of false h before bytes) questions → IsDoneOrNoMemory ended
+
+-- a store has a batch, as it has if its history isn't the empty one
+abbrev pub HasABatch : Limits → DiskState → History → Type 0
+HasABatch limits disk h = h ≡ [] → ¬ StoresNothing limits 0 disk.reads
+
+-- `query` ends so over a disk that has a history of a mode so, and a batch, if no device failed and its questions keep within the limit
+-- on input, the only one that it could pass
+abbrev pub AnswersAll : Status → (failed : Type 0) → (Stood : Mode → History → Type 0) → Limits → DiskState → (asked : Option (List ℕ)) → Type 0
+AnswersAll ended failed Stood limits disk asked = (kept : Mode) (h : History) (questions : List ℕ) → Stood kept h → asked ≡ Some questions → HasABatch limits disk h
+    → ¬ failed → KeepsWithin limits (querying kept h) questions → IsDoneOrNoMemory ended

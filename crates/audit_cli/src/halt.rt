@@ -115,7 +115,7 @@ pub enum Turn {
 /// What a read of the questions brought.
 #[derive(Clone, Copy, Debug, PartialEq, Eq)]
 pub enum Heed {
-    /// So many bytes, all of them heard.
+    /// This many bytes, all of them heard.
     Piece(usize),
     /// The end of the dialogue.
     Ended,

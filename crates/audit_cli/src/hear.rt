@@ -1,12 +1,13 @@
 //! Questions in pieces of any size: each line is answered as soon as it has ended.
-ghost use Rattle.std.specs.Prelude.{false, ◌≡◌, ◌≤◌, ◌<◌, ◌+◌, ◌^◌, length, OnOk, IfOk, IfErr};
+ghost use Rattle.std.specs.Prelude.{false, ◌≡◌, ◌≤◌, ◌<◌, ◌+◌, ◌*◌, ◌^◌, ℕ, length, OnOk, IfOk, IfErr};
 ghost use Rattle.flow_base.specs.declared.limits.Limits.{Limits};
 ghost use Rattle.outside.specs.Cause.{Rose};
 ghost use Rattle.audit_lex.specs.History.{History};
 ghost use Rattle.audit_cli.specs.Dialogue.{Moment, nothing_beyond};
-ghost use Rattle.audit_cli.specs.Saves.{CutShort, Start};
-ghost use Rattle.audit_cli.specs.Course.{At, kind_of, GoesUp, HasCauses};
+ghost use Rattle.audit_cli.specs.Saves.{CutShort, KeepsPace, Start, lack_of};
+ghost use Rattle.audit_cli.specs.Course.{At, kind_of, GoesUp, HasCauses, when_takes};
 ghost use Rattle.audit_cli.specs.Hearing.{Holds, Heard, turn_in, taken_in};
+ghost use Rattle.audit_cli.specs.Settles.{settles_since};
 
 use crate::halt::{Halt, Turn};
 use crate::saving::Saves;
@@ -41,10 +42,28 @@ fn hear_line<R: Reducer, K: Saves, L: Source, O: Sink>(
     ensures ends { (start : Start K) (limits : Limits) (m : Moment)
         → At (kind_of R.mode takes (K.holds start limits)) limits session.old.engine (L.left log.old) m
         → IfErr result (CutShort (K.ends start limits) R.mode session.new.engine.joined.keep) }
+    ensures lacks { (start : Start K) (limits : Limits) (m : Moment)
+        → At (kind_of R.mode takes (K.holds start limits)) limits session.old.engine
+        (L.left log.old) m
+        → K.lacks start limits R.mode session.old.engine.joined.keep (L.left log.old)
+        session.old.unsaved
+        → K.lacks start limits R.mode session.new.engine.joined.keep (L.left log.new)
+        (lack_of result session.new.unsaved session.old.batch) }
+    ensures adds { (start : Start K) (limits : Limits) (m : Moment) (h : History) (most : ℕ)
+        → At (kind_of R.mode takes (K.holds start limits)) limits session.old.engine
+        (L.left log.old) m
+        → Holds limits cut.old h
+        → KeepsPace (K.adds start limits) session.old.batch session.old.engine.joined.keep
+        session.old.unsaved (L.left log.old) most
+        → KeepsPace (K.adds start limits) session.old.batch session.new.engine.joined.keep
+        (lack_of result session.new.unsaved 0) (L.left log.new)
+        (most + settles_since limits h (taken_in result piece.now) * session.old.batch) }
+    ensures batch { session.new.batch ≡ session.old.batch }
     ensures causes { IfErr result (HasCauses
         (Rose (L.faults log.old) (L.faults log.new) (L.spent log.new))
         (Rose (O.faults out.old) (O.faults out.new) (O.spent out.new))
-        (K.rose session.old.engine.joined.keep session.new.engine.joined.keep) K.limited) }
+        (K.rose session.old.engine.joined.keep session.new.engine.joined.keep)
+        (when_takes takes K.limited)) }
     ensures log { GoesUp (L.faults log.old) (L.faults log.new) (L.spent log.old) (L.spent log.new) }
     ensures out { GoesUp (O.faults out.old) (O.faults out.new) (O.spent out.old) (O.spent out.new) }
     ensures uses { K.uses session.old.engine.joined.keep session.new.engine.joined.keep }
@@ -53,6 +72,7 @@ fn hear_line<R: Reducer, K: Saves, L: Source, O: Sink>(
 {
     lines_stay();
     K::saves_lawfully();
+    K::lacks_lawfully();
     let (count, line) = cut.next(piece)?;
     match line {
         None => Ok((count, Turn::More)),
@@ -86,10 +106,29 @@ pub fn hear<R: Reducer, K: Saves, L: Source, O: Sink>(
         → At (kind_of R.mode takes (K.holds start limits)) limits session.old.engine (L.left log.old) m
         → Holds limits cut.old h
         → IfErr result (CutShort (K.ends start limits) R.mode session.new.engine.joined.keep) }
+    ensures lacks { (start : Start K) (limits : Limits) (m : Moment) (h : History)
+        → At (kind_of R.mode takes (K.holds start limits)) limits session.old.engine
+        (L.left log.old) m
+        → Holds limits cut.old h
+        → K.lacks start limits R.mode session.old.engine.joined.keep (L.left log.old)
+        session.old.unsaved
+        → K.lacks start limits R.mode session.new.engine.joined.keep (L.left log.new)
+        (lack_of result session.new.unsaved session.old.batch) }
+    ensures adds { (start : Start K) (limits : Limits) (m : Moment) (h : History) (most : ℕ)
+        → At (kind_of R.mode takes (K.holds start limits)) limits session.old.engine
+        (L.left log.old) m
+        → Holds limits cut.old h
+        → KeepsPace (K.adds start limits) session.old.batch session.old.engine.joined.keep
+        session.old.unsaved (L.left log.old) most
+        → KeepsPace (K.adds start limits) session.old.batch session.new.engine.joined.keep
+        (lack_of result session.new.unsaved 0) (L.left log.new)
+        (most + settles_since limits h piece.now * session.old.batch) }
+    ensures batch { session.new.batch ≡ session.old.batch }
     ensures causes { IfErr result (HasCauses
         (Rose (L.faults log.old) (L.faults log.new) (L.spent log.new))
         (Rose (O.faults out.old) (O.faults out.new) (O.spent out.new))
-        (K.rose session.old.engine.joined.keep session.new.engine.joined.keep) K.limited) }
+        (K.rose session.old.engine.joined.keep session.new.engine.joined.keep)
+        (when_takes takes K.limited)) }
     ensures log { GoesUp (L.faults log.old) (L.faults log.new) (L.spent log.old) (L.spent log.new) }
     ensures out { GoesUp (O.faults out.old) (O.faults out.new) (O.spent out.old) (O.spent out.new) }
     ensures uses { K.uses session.old.engine.joined.keep session.new.engine.joined.keep }
@@ -98,6 +137,7 @@ pub fn hear<R: Reducer, K: Saves, L: Source, O: Sink>(
 {
     lines_stay();
     K::saves_lawfully();
+    K::lacks_lawfully();
     let mut at = 0;
     while at < piece.len() {
         let (count, turn) = hear_line(session, takes, cut, log, out, &piece[at..])?;

@@ -6,9 +6,9 @@ ghost use Rattle.reach_model.specs.declared.modes.Mode.{Mode};
 ghost use Rattle.audit_cli.specs.Saves.{IsReached};
 ghost use Rattle.audit_cli.specs.Stores.{GoesOn, HasTaken, begun_of, steps_of, whole_of};
 
-/// Whatever a crash leaves of a run of `reduce --resume`, another such run over the same log goes on
-/// from it to the same history, unless all of the log is there already. So however often runs are
-/// stopped, the first that ends leaves the history of one that was never stopped.
+/// Whatever a crash leaves of a run of `reduce --resume` that has synced its disk, another such run over
+/// the same log goes on from it to the same history, unless all of the log is there already. So however
+/// often runs are stopped, the first that ends leaves the history of one that was never stopped.
 pub fn stopped_runs_go_on()
     ensures { (limits : Limits) (mode : Mode) (h : History) (before : ℕ) (log bytes : List ℕ)
         → HasTaken true before log

@@ -3,14 +3,15 @@
 //! The questions are read in pieces, and each line of a piece is answered before the next read.
 //! Their bytes are counted apart from those of the log, and at most as many are heard as the limit
 //! on input says.
-ghost use Rattle.std.specs.Prelude.{false, ◌≡◌, ◌⊎◌, ◌≤◌, ◌<◌, ◌-◌, ◌^◌, ℕ, List, length, Some, OnOk, IfOk, IfErr};
+ghost use Rattle.std.specs.Prelude.{false, ◌≡◌, ◌⊎◌, ◌≤◌, ◌<◌, ◌+◌, ◌*◌, ◌-◌, ◌^◌, ℕ, List, length, Some, OnOk, IfOk, IfErr};
 ghost use Rattle.flow_base.specs.declared.limits.Limits.{Limits};
 ghost use Rattle.outside.specs.Cause.{Rose};
 ghost use Rattle.audit_lex.specs.History.{History};
 ghost use Rattle.audit_cli.specs.Dialogue.{Moment, QuestionsStop, ReadsNoFurther, nothing_beyond, asks, lines_in};
-ghost use Rattle.audit_cli.specs.Saves.{CutShort, Start};
-ghost use Rattle.audit_cli.specs.Course.{At, kind_of, GoesUp, HasCauses, EndTalked};
+ghost use Rattle.audit_cli.specs.Saves.{CutShort, KeepsPace, Start, lack_of};
+ghost use Rattle.audit_cli.specs.Course.{At, kind_of, GoesUp, HasCauses, EndTalked, when_takes};
 ghost use Rattle.audit_cli.specs.Hearing.{Holds, Heard, HeardLast};
+ghost use Rattle.audit_cli.specs.Settles.{last_since, settles, settles_since};
 ghost use Rattle.audit_cli.specs.Listening.{turn_heeded, heeded, LeftAfter, IsProgress, AreFew, PassesRoom, ClosesWithin, KeepsWithin};
 
 use crate::halt::{Halt, Heed, Turn};
@@ -23,8 +24,8 @@ use flow_base::{Full, Limit, Limits};
 use outside::{Sink, Source};
 use reach_rows::Reducer;
 
-// Reads the questions once into the buffer, and answers what it can. Of `heard` bytes that were
-// read before and of these at most `limits.input` are heard.
+// Reads the questions once into the buffer, and answers what it can. `heard` bytes were read before:
+// with these at most `limits.input` are heard.
 fn listen<R: Reducer, K: Saves, L: Source, Q: Source, O: Sink>(
     session: &mut Session<R, K>,
     takes: bool,
@@ -62,11 +63,31 @@ fn listen<R: Reducer, K: Saves, L: Source, Q: Source, O: Sink>(
         → At (kind_of R.mode takes (K.holds start limits.now)) limits.now session.old.engine (L.left log.old) m
         → Holds limits.now cut.old h
         → IfErr result (CutShort (K.ends start limits.now) R.mode session.new.engine.joined.keep) }
+    ensures lacks { (start : Start K) (m : Moment) (h : History)
+        → At (kind_of R.mode takes (K.holds start limits.now)) limits.now session.old.engine
+        (L.left log.old) m
+        → Holds limits.now cut.old h
+        → K.lacks start limits.now R.mode session.old.engine.joined.keep (L.left log.old)
+        session.old.unsaved
+        → K.lacks start limits.now R.mode session.new.engine.joined.keep (L.left log.new)
+        (lack_of result session.new.unsaved session.old.batch) }
+    ensures adds { (start : Start K) (m : Moment) (h : History) (q : List ℕ) (most : ℕ)
+        → At (kind_of R.mode takes (K.holds start limits.now)) limits.now session.old.engine
+        (L.left log.old) m
+        → Holds limits.now cut.old h
+        → Q.left questions.old ≡ Some q
+        → KeepsPace (K.adds start limits.now) session.old.batch session.old.engine.joined.keep
+        session.old.unsaved (L.left log.old) most
+        → KeepsPace (K.adds start limits.now) session.old.batch session.new.engine.joined.keep
+        (lack_of result session.new.unsaved 0) (L.left log.new)
+        (most + settles_since limits.now h (heeded result q) * session.old.batch) }
+    ensures batch { session.new.batch ≡ session.old.batch }
     ensures causes { IfErr result (HasCauses
         (Rose (L.faults log.old) (L.faults log.new) (L.spent log.new)
         ⊎ Rose (Q.faults questions.old) (Q.faults questions.new) (Q.spent questions.new))
         (Rose (O.faults out.old) (O.faults out.new) (O.spent out.new))
-        (K.rose session.old.engine.joined.keep session.new.engine.joined.keep) K.limited) }
+        (K.rose session.old.engine.joined.keep session.new.engine.joined.keep)
+        (when_takes takes K.limited)) }
     ensures log { GoesUp (L.faults log.old) (L.faults log.new) (L.spent log.old) (L.spent log.new) }
     ensures questions { GoesUp
         (Q.faults questions.old) (Q.faults questions.new)
@@ -78,6 +99,7 @@ fn listen<R: Reducer, K: Saves, L: Source, Q: Source, O: Sink>(
 {
     lines_stay();
     K::saves_lawfully();
+    K::lacks_lawfully();
     let count = match questions.read(buf) {
         Ok(count) => count,
         Err(_) => return Err(Halt::ReadFault),
@@ -120,10 +142,28 @@ fn finish<R: Reducer, K: Saves, L: Source, O: Sink>(
     ensures ends { (start : Start K) (limits : Limits) (m : Moment)
         → At (kind_of R.mode takes (K.holds start limits)) limits session.old.engine (L.left log.old) m
         → IfErr result (CutShort (K.ends start limits) R.mode session.new.engine.joined.keep) }
+    ensures lacks { (start : Start K) (limits : Limits) (m : Moment)
+        → At (kind_of R.mode takes (K.holds start limits)) limits session.old.engine
+        (L.left log.old) m
+        → K.lacks start limits R.mode session.old.engine.joined.keep (L.left log.old)
+        session.old.unsaved
+        → K.lacks start limits R.mode session.new.engine.joined.keep (L.left log.new)
+        (lack_of result session.new.unsaved session.old.batch) }
+    ensures adds { (start : Start K) (limits : Limits) (m : Moment) (h : History) (most : ℕ)
+        → At (kind_of R.mode takes (K.holds start limits)) limits session.old.engine
+        (L.left log.old) m
+        → Holds limits cut.old h
+        → KeepsPace (K.adds start limits) session.old.batch session.old.engine.joined.keep
+        session.old.unsaved (L.left log.old) most
+        → KeepsPace (K.adds start limits) session.old.batch session.new.engine.joined.keep
+        (lack_of result session.new.unsaved 0) (L.left log.new)
+        (most + settles (asks limits (last_since h)) * session.old.batch) }
+    ensures batch { session.new.batch ≡ session.old.batch }
     ensures causes { IfErr result (HasCauses
         (Rose (L.faults log.old) (L.faults log.new) (L.spent log.new))
         (Rose (O.faults out.old) (O.faults out.new) (O.spent out.new))
-        (K.rose session.old.engine.joined.keep session.new.engine.joined.keep) K.limited) }
+        (K.rose session.old.engine.joined.keep session.new.engine.joined.keep)
+        (when_takes takes K.limited)) }
     ensures log { GoesUp (L.faults log.old) (L.faults log.new) (L.spent log.old) (L.spent log.new) }
     ensures out { GoesUp (O.faults out.old) (O.faults out.new) (O.spent out.old) (O.spent out.new) }
     ensures uses { K.uses session.old.engine.joined.keep session.new.engine.joined.keep }
@@ -131,6 +171,7 @@ fn finish<R: Reducer, K: Saves, L: Source, O: Sink>(
         → K.alike session.old.engine.joined.keep session.new.engine.joined.keep }
 {
     K::saves_lawfully();
+    K::lacks_lawfully();
     match cut.finish() {
         None => Ok(()),
         Some(line) => {
@@ -170,17 +211,37 @@ pub fn watch<R: Reducer, K: Saves, L: Source, Q: Source, O: Sink>(
         → At (kind_of R.mode takes (K.holds start limits.now)) limits.now session.old.engine (L.left log.old) m
         → Q.left questions.old ≡ Some q
         → IfErr result (CutShort (K.ends start limits.now) R.mode session.new.engine.joined.keep) }
+    ensures lacks { (start : Start K) (m : Moment) (q : List ℕ)
+        → At (kind_of R.mode takes (K.holds start limits.now)) limits.now session.old.engine
+        (L.left log.old) m
+        → Q.left questions.old ≡ Some q
+        → K.lacks start limits.now R.mode session.old.engine.joined.keep (L.left log.old)
+        session.old.unsaved
+        → K.lacks start limits.now R.mode session.new.engine.joined.keep (L.left log.new)
+        (lack_of result session.new.unsaved session.old.batch) }
+    ensures adds { (start : Start K) (m : Moment) (q : List ℕ) (most : ℕ)
+        → At (kind_of R.mode takes (K.holds start limits.now)) limits.now session.old.engine
+        (L.left log.old) m
+        → Q.left questions.old ≡ Some q
+        → KeepsPace (K.adds start limits.now) session.old.batch session.old.engine.joined.keep
+        session.old.unsaved (L.left log.old) most
+        → KeepsPace (K.adds start limits.now) session.old.batch session.new.engine.joined.keep
+        (lack_of result session.new.unsaved 0) (L.left log.new)
+        (most + settles (asks limits.now (lines_in q)) * session.old.batch) }
+    ensures batch { session.new.batch ≡ session.old.batch }
     ensures causes { IfErr result (HasCauses
         (Rose (L.faults log.old) (L.faults log.new) (L.spent log.new)
         ⊎ Rose (Q.faults questions.old) (Q.faults questions.new) (Q.spent questions.new))
         (Rose (O.faults out.old) (O.faults out.new) (O.spent out.new))
-        (K.rose session.old.engine.joined.keep session.new.engine.joined.keep) K.limited) }
+        (K.rose session.old.engine.joined.keep session.new.engine.joined.keep)
+        (when_takes takes K.limited)) }
     ensures uses { K.uses session.old.engine.joined.keep session.new.engine.joined.keep }
     ensures alike { takes ≡ false
         → K.alike session.old.engine.joined.keep session.new.engine.joined.keep }
 {
     lines_stay();
     K::saves_lawfully();
+    K::lacks_lawfully();
     let mut cut = LineCut::new(session.alloc, limits.question);
     let mut heard: u64 = 0;
     let mut buf = room_for_a_read(session.alloc)?;

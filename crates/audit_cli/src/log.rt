@@ -6,6 +6,7 @@ ghost use Rattle.outside.specs.Cause.{Rose};
 ghost use Rattle.ingest.specs.Stops.{Stops};
 ghost use Rattle.audit_cli.specs.Dialogue.{Moment, taken_on};
 ghost use Rattle.audit_cli.specs.Course.{CountsOn, GoesUp, HasCauses, IsDue, IsPart, StandsAt};
+ghost use Rattle.audit_cli.specs.Saves.{LeavesAllBut, count_of};
 
 use crate::halt::{Halt, halt_of};
 use ingest::{Ingest, stops_stay};
@@ -33,6 +34,8 @@ fn take_piece<R: Reducer, K: Keep, L: Source>(
         → IfErr result (IsDue (Stops limits (taken_on (length buf.old) m).history)) }
     ensures causes { IfErr result
         (HasCauses (Rose (L.faults log.old) (L.faults log.new) (L.spent log.new)) ⊥ ⊥ ⊥) }
+    ensures left { (bytes : List ℕ) → L.left log.old ≡ Some bytes
+        → LeavesAllBut (count_of result (length buf.old)) bytes (L.left log.new) }
     ensures part { IfOk result (CountsOn engine.old.part engine.new.part) }
     ensures alike { K.alike engine.old.joined.keep engine.new.joined.keep }
     ensures marked { engine.new.joined.tables.marked ≡ engine.old.joined.tables.marked }
@@ -72,6 +75,8 @@ pub fn take_log<R: Reducer, K: Keep, L: Source>(
         → IfErr result (IsDue (Stops limits (taken_on most m).history)) }
     ensures causes { IfErr result
         (HasCauses (Rose (L.faults log.old) (L.faults log.new) (L.spent log.new)) ⊥ ⊥ ⊥) }
+    ensures left { (bytes : List ℕ) → L.left log.old ≡ Some bytes
+        → LeavesAllBut (count_of result most) bytes (L.left log.new) }
     ensures part { IfOk result (CountsOn engine.old.part engine.new.part) }
     ensures alike { K.alike engine.old.joined.keep engine.new.joined.keep }
     ensures marked { engine.new.joined.tables.marked ≡ engine.old.joined.tables.marked }
@@ -98,6 +103,8 @@ pub fn pass_over<L: Source>(log: &mut L, buf: &mut [u8], most: u64) -> Result<u6
         → IfOk result (λ n. n ≡ length (take most bytes)) }
     ensures passed { (bytes : List ℕ) → L.left log.old ≡ Some bytes
         → OnOk result (L.left log.new ≡ Some (drop most bytes)) }
+    ensures left { (bytes : List ℕ) → L.left log.old ≡ Some bytes
+        → LeavesAllBut most bytes (L.left log.new) }
     ensures due { IfErr result (λ why. why ≡ halt.ReadFault) }
     ensures causes { IfErr result
         (HasCauses (Rose (L.faults log.old) (L.faults log.new) (L.spent log.new)) ⊥ ⊥ ⊥) }

@@ -6,8 +6,8 @@
 //!     audit_cli query STORE < QUESTIONS
 //!     audit_cli trial SEED EVENTS
 //!
-//! `audit_main` is the whole of it over any sources and sink, and its contract is the theorem. `main` makes the real
-//! ones, says on standard error how a run ended that wasn't done, and ends with the status's number.
+//! `audit_main` is the whole of it over any sources, sink and disk, and its contract is the theorem. `main` makes the
+//! real ones, says on standard error how a run ended if it wasn't with Done, and ends with the status's number.
 #![tactic(auto)]
 
 ghost use Rattle.std.specs.Prelude.{◌≡◌, ◌⊎◌, ◌<ℤ◌, pos, None, IfErr, IfSome, map, string_bytes};
@@ -16,6 +16,8 @@ ghost use Rattle.audit_cli.specs.Words.{job_of};
 
 mod back;
 mod command_line;
+#[cfg(test)]
+mod device_tests;
 mod halt;
 mod hear;
 mod laws;
@@ -177,7 +179,7 @@ fn arguments(rt: &HostRuntime) -> Result<Vec<String>, Status>
     Ok(words)
 }
 
-// Says on standard error how a run ended that wasn't done. It takes no memory.
+// Says on standard error how a run ended if it wasn't with Done. It takes no memory.
 fn report(rt: &HostRuntime, status: &Status) {
     let mut err = Writing::new(rt.stderr());
     let _ = put_all(&mut err, status_line(status).as_str().as_bytes());

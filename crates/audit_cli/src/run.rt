@@ -1,18 +1,21 @@
 //! The top call: from words, a log, questions and a sink to a status.
-ghost use Rattle.std.specs.Prelude.{Bool, ◌≡◌, ◌⊎◌, ℕ, List, [], map, string_bytes, None, Some, OnOk, IfErr};
+ghost use Rattle.std.specs.Prelude.{Bool, false, ⊤, ◌≡◌, ◌⊎◌, ◌+◌, ℕ, List, [], map, string_bytes, None, Some, OnOk, IfErr};
 ghost use Rattle.outside.specs.Cause.{Rose};
 ghost use Rattle.outside.specs.Disk.{OnlyLooks, UsesDisk};
 ghost use Rattle.reach_model.specs.declared.modes.Mode.{Mode};
 ghost use Rattle.audit_cli.specs.declared.words.Job.{Job};
 ghost use Rattle.audit_cli.specs.Words.{IsInMemory, job_of, mode_for};
 ghost use Rattle.audit_cli.specs.Course.{HasCauses};
+ghost use Rattle.audit_cli.specs.Dialogue.{asks, lines_in};
+ghost use Rattle.audit_cli.specs.Settles.{settles};
 ghost use Rattle.audit_cli.specs.Jobs.{JobTalked, KeepsLimit};
-ghost use Rattle.audit_cli.specs.Claims.{WhereTold, WhereStandard, Finishes, WritesPrefix, StopsAtLimit, ReadsToEnd, FitsAtDone, IsComplete};
+ghost use Rattle.audit_cli.specs.Claims.{WhereTold, WhereStandard, Finishes, WritesPrefix, StopsAtLimit, ReadsToEnd, FitsAtDone, IsComplete, ShortCause};
 ghost use Rattle.audit_cli.specs.Headline.{Tells, TellsLog, LeavesQuestions};
+ghost use Rattle.audit_cli.specs.Refusals.{AlwaysRefuses, RefusesNoBatch};
 ghost use Rattle.audit_cli.specs.Standard.{IsStandard, WithStandard};
 ghost use Rattle.audit_cli.specs.Statuses.{RefusesStore, StatusCause, store_status};
 ghost use Rattle.audit_cli.specs.StoreHalts.{no_modes, no_place};
-ghost use Rattle.audit_cli.specs.Stores.{EndsAs, IsBadIn, IsBadOrNone, IsQueryRun, IsReduceRun, IsWatchRun, IsWrongIn, ReducesAll, StoodAt, WatchesAll};
+ghost use Rattle.audit_cli.specs.Stores.{AddsFew, AnswersAll, AreTold, EndsAs, HearsOut, IsBadIn, IsBadOrNone, IsQueryRun, IsReduceRun, IsWatchRun, IsWrongIn, LooksOrLacks, ReducesAll, RefusesAStore, StoodAt, WatchesAll};
 
 use crate::back::back;
 use crate::halt::Halt;
@@ -22,8 +25,12 @@ use crate::status::{Status, status_of, status_over_store};
 use crate::stores::{Ran, Taking, extend, query};
 use crate::trial::trial;
 use crate::words::{Job, WordsFault, read_words};
+use batch_log::a_disk_reads_in_one_way;
 use flow_base::{EntityId, Limits};
-use ingest::{Ingest, stops_stay, what_fits_never_stops};
+use ingest::{
+    Ingest, a_store_of_a_history_is_no_bad_store, stops_stay, what_fits_never_stops,
+    what_waits_is_sound,
+};
 use outside::{Disk, Sink, Source};
 use reach_model::Mode;
 use reach_rows::{Plain, Reducer, VecRows};
@@ -257,23 +264,53 @@ pub fn audit_run<L: Source, Q: Source, O: Sink, D: Disk>(
         (Rose (L.faults log.old) (L.faults log.new) (L.spent log.new)
         ⊎ (Rose (Q.faults questions.old) (Q.faults questions.new) (Q.spent questions.new)
         ⊎ Rose (O.faults out.old) (O.faults out.new) (O.spent out.new)))) }
-    // Over a disk that had a store of a history, `reduce` leaves at each moment a store of that
-    // history and of the log up to some byte, and at Done one of all of it, settled, and has written
-    // the reply to `stat`.
+    // Over a disk that reads as a store of a history, a crash of `reduce` leaves, once the disk is
+    // synced, a store of that history and of the log up to some byte. At Done there is one of all of
+    // it, settled, and the reply to `stat` was written.
     ensures reduced { (kept : Mode) (name store : List ℕ) (resume : Bool)
         → job_of (map string_bytes words.now) ≡ Some (Job.Reduce kept name store resume)
         → EndsAs result.status (IsReduceRun resume (StoodAt D.state limits.now kept disk) limits.now kept
         (D.state disk) (D.state result.disk) (L.left log.old) (L.left log.new)
         (O.written out.old) (O.written out.new)) }
-    // Over such a disk `watch` answers each question at its moment. It leaves at each moment a store of
-    // that history and of a front of what it took, and at Done one of all of it.
+    // Over such a disk `watch` answers each question at its moment. A crash leaves, once the disk is
+    // synced, a store of that history and a prefix of what it took. At Done there is one of all of it.
     ensures watched { (kept : Mode) (name store : List ℕ)
         → job_of (map string_bytes words.now) ≡ Some (Job.WatchStore kept name store)
         → EndsAs result.status (IsWatchRun (StoodAt D.state limits.now kept disk) limits.now kept
         (D.state disk) (D.state result.disk) (L.left log.old) (L.left log.new)
         (Q.left questions.old) (O.written out.old) (O.written out.new)) }
-    // If no device fails and no limit would be passed, such a run is done, unless an allocation failed
-    // or the store was refused as a bad one.
+    // At Done its questions were heard out: no limit would be passed, and at most 65,536 bytes of
+    // them were read after a prefix that doesn't end them.
+    ensures heard { (kept : Mode) (name store : List ℕ)
+        → job_of (map string_bytes words.now) ≡ Some (Job.WatchStore kept name store)
+        → EndsAs result.status (HearsOut (StoodAt D.state limits.now kept disk) limits.now kept
+        (L.left log.old) (Q.left questions.old) (Q.left questions.new)) }
+    // If such a run halts after it has read of its log, at most a batch of the bytes that it read is
+    // missing from whatever history it leaves.
+    ensures reduce_lacks { (kept : Mode) (name store : List ℕ) (resume : Bool)
+        → job_of (map string_bytes words.now) ≡ Some (Job.Reduce kept name store resume)
+        → EndsAs result.status (LooksOrLacks resume ⊤ (StoodAt D.state limits.now kept disk)
+        limits.now kept (D.state disk) (D.state result.disk) (L.left log.old) (L.left log.new)
+        limits.now.batch) }
+    ensures watch_lacks { (kept : Mode) (name store : List ℕ)
+        → job_of (map string_bytes words.now) ≡ Some (Job.WatchStore kept name store)
+        → EndsAs result.status (LooksOrLacks false (AreTold (Q.left questions.old))
+        (StoodAt D.state limits.now kept disk) limits.now kept (D.state disk)
+        (D.state result.disk) (L.left log.old) (L.left log.new) limits.now.batch) }
+    // `reduce` adds a batch to its disk at most for each `batch` bytes that it takes, and one more.
+    ensures reduce_adds { (kept : Mode) (name store : List ℕ) (resume : Bool)
+        → job_of (map string_bytes words.now) ≡ Some (Job.Reduce kept name store resume)
+        → AddsFew resume (StoodAt D.state limits.now kept disk) limits.now (D.state disk)
+        (D.state result.disk) (L.left log.old) (L.left log.new) limits.now.batch 1 }
+    // `watch` adds one at most for each `batch` bytes that it takes, for each settle that its questions
+    // ask for up to `end`, and one more.
+    ensures watch_adds { (kept : Mode) (name store asked : List ℕ)
+        → job_of (map string_bytes words.now) ≡ Some (Job.WatchStore kept name store)
+        → Q.left questions.old ≡ Some asked
+        → AddsFew false (StoodAt D.state limits.now kept disk) limits.now (D.state disk)
+        (D.state result.disk) (L.left log.old) (L.left log.new) limits.now.batch
+        (settles (asks limits.now (lines_in asked)) + 1) }
+    // If no device fails and no limit would be passed, such a run is done, unless an allocation failed.
     ensures reduces { (kept : Mode) (name store : List ℕ) (resume : Bool)
         → job_of (map string_bytes words.now) ≡ Some (Job.Reduce kept name store resume)
         → ReducesAll result.status ((Rose (L.faults log.old) (L.faults log.new) (L.spent log.new)
@@ -294,7 +331,17 @@ pub fn audit_run<L: Source, Q: Source, O: Sink, D: Disk>(
         → job_of (map string_bytes words.now) ≡ Some (Job.Query store)
         → EndsAs result.status (IsQueryRun
         (λ kept h. (part : ℕ) × StoodAt D.state limits.now kept disk h part) limits.now
-        (Q.left questions.old) (O.written out.old) (O.written out.new)) }
+        (Q.left questions.old) (Q.left questions.new) (O.written out.old) (O.written out.new)) }
+    // If no device fails and its questions keep within the limit on input, such a run is done, unless
+    // an allocation failed.
+    ensures answers { (store : List ℕ)
+        → job_of (map string_bytes words.now) ≡ Some (Job.Query store)
+        → AnswersAll result.status
+        (Rose (Q.faults questions.old) (Q.faults questions.new) (Q.spent questions.new)
+        ⊎ (Rose (O.faults out.old) (O.faults out.new) (O.spent out.new)
+        ⊎ Rose (D.faults disk) (D.faults result.disk) (D.spent result.disk)))
+        (λ kept h. (part : ℕ) × StoodAt D.state limits.now kept disk h part) limits.now
+        (D.state disk) (Q.left questions.old) }
     // A store is refused for a cause, and no other job ends so.
     ensures refused { (kept : Mode) (name store : List ℕ) (resume : Bool)
         → job_of (map string_bytes words.now) ≡ Some (Job.Reduce kept name store resume)
@@ -310,6 +357,26 @@ pub fn audit_run<L: Source, Q: Source, O: Sink, D: Disk>(
         (IsWrongIn limits.now (D.state disk) None) }
     ensures no_store { (done : Job) → job_of (map string_bytes words.now) ≡ Some done
         → IsInMemory done → RefusesStore result.status no_place no_modes }
+    // A disk that is no store, or one of another mode, is always refused, unless a call on it or an
+    // allocation fails; so is a store in which what waits isn't sound, and by `query` one without a batch.
+    ensures always_refused { (kept : Mode) (name store : List ℕ) (resume : Bool)
+        → job_of (map string_bytes words.now) ≡ Some (Job.Reduce kept name store resume)
+        → AlwaysRefuses limits.now (D.state disk) (Some kept) result.status }
+    ensures always_unwatched { (kept : Mode) (name store : List ℕ)
+        → job_of (map string_bytes words.now) ≡ Some (Job.WatchStore kept name store)
+        → AlwaysRefuses limits.now (D.state disk) (Some kept) result.status }
+    ensures always_unanswered { (store : List ℕ)
+        → job_of (map string_bytes words.now) ≡ Some (Job.Query store)
+        → AlwaysRefuses limits.now (D.state disk) None result.status }
+    ensures no_batch { (store : List ℕ)
+        → job_of (map string_bytes words.now) ≡ Some (Job.Query store)
+        → RefusesNoBatch limits.now (D.state disk) result.status }
+    // Only `reduce --resume` finds its log a short one.
+    ensures short { ShortCause result.status (job_of (map string_bytes words.now)) }
+    // If a store is refused, nothing is read or written, and the disk is only looked at.
+    ensures refusal { RefusesAStore result.status → (log.new ≡ log.old)
+        × (questions.new ≡ questions.old) × (out.new ≡ out.old)
+        × OnlyLooks (D.state disk) (D.state result.disk) }
     ensures looks { (store : List ℕ)
         → job_of (map string_bytes words.now) ≡ Some (Job.Query store)
         → OnlyLooks (D.state disk) (D.state result.disk) }
@@ -322,6 +389,9 @@ pub fn audit_run<L: Source, Q: Source, O: Sink, D: Disk>(
     stops_stay();
     what_fits_never_stops();
     what_is_found_was_stored();
+    what_waits_is_sound();
+    a_store_of_a_history_is_no_bad_store();
+    a_disk_reads_in_one_way();
     match read_words(alloc, words) {
         Err(WordsFault::BadWords) => Ended {
             status: Status::BadWords,
@@ -443,6 +513,32 @@ pub fn audit_main<L: Source, Q: Source, O: Sink, D: Disk>(
         → EndsAs result.status (IsWatchRun (StoodAt D.state limits kept disk) limits kept
         (D.state disk) (D.state result.disk) (L.left log.old) (L.left log.new)
         (Q.left questions.old) (O.written out.old) (O.written out.new))) }
+    ensures heard { WithStandard (λ limits. (kept : Mode) (name store : List ℕ)
+        → job_of (map string_bytes words.now) ≡ Some (Job.WatchStore kept name store)
+        → EndsAs result.status (HearsOut (StoodAt D.state limits kept disk) limits kept
+        (L.left log.old) (Q.left questions.old) (Q.left questions.new))) }
+    ensures reduce_lacks { WithStandard (λ limits. (kept : Mode) (name store : List ℕ)
+        (resume : Bool)
+        → job_of (map string_bytes words.now) ≡ Some (Job.Reduce kept name store resume)
+        → EndsAs result.status (LooksOrLacks resume ⊤ (StoodAt D.state limits kept disk)
+        limits kept (D.state disk) (D.state result.disk) (L.left log.old) (L.left log.new)
+        limits.batch)) }
+    ensures watch_lacks { WithStandard (λ limits. (kept : Mode) (name store : List ℕ)
+        → job_of (map string_bytes words.now) ≡ Some (Job.WatchStore kept name store)
+        → EndsAs result.status (LooksOrLacks false (AreTold (Q.left questions.old))
+        (StoodAt D.state limits kept disk) limits kept (D.state disk) (D.state result.disk)
+        (L.left log.old) (L.left log.new) limits.batch)) }
+    ensures reduce_adds { WithStandard (λ limits. (kept : Mode) (name store : List ℕ)
+        (resume : Bool)
+        → job_of (map string_bytes words.now) ≡ Some (Job.Reduce kept name store resume)
+        → AddsFew resume (StoodAt D.state limits kept disk) limits (D.state disk)
+        (D.state result.disk) (L.left log.old) (L.left log.new) limits.batch 1) }
+    ensures watch_adds { WithStandard (λ limits. (kept : Mode) (name store asked : List ℕ)
+        → job_of (map string_bytes words.now) ≡ Some (Job.WatchStore kept name store)
+        → Q.left questions.old ≡ Some asked
+        → AddsFew false (StoodAt D.state limits kept disk) limits (D.state disk)
+        (D.state result.disk) (L.left log.old) (L.left log.new) limits.batch
+        (settles (asks limits (lines_in asked)) + 1)) }
     ensures reduces { WithStandard (λ limits. (kept : Mode) (name store : List ℕ) (resume : Bool)
         → job_of (map string_bytes words.now) ≡ Some (Job.Reduce kept name store resume)
         → ReducesAll result.status ((Rose (L.faults log.old) (L.faults log.new) (L.spent log.new)
@@ -462,7 +558,15 @@ pub fn audit_main<L: Source, Q: Source, O: Sink, D: Disk>(
         → job_of (map string_bytes words.now) ≡ Some (Job.Query store)
         → EndsAs result.status (IsQueryRun
         (λ kept h. (part : ℕ) × StoodAt D.state limits kept disk h part) limits
-        (Q.left questions.old) (O.written out.old) (O.written out.new))) }
+        (Q.left questions.old) (Q.left questions.new) (O.written out.old) (O.written out.new))) }
+    ensures answers { WithStandard (λ limits. (store : List ℕ)
+        → job_of (map string_bytes words.now) ≡ Some (Job.Query store)
+        → AnswersAll result.status
+        (Rose (Q.faults questions.old) (Q.faults questions.new) (Q.spent questions.new)
+        ⊎ (Rose (O.faults out.old) (O.faults out.new) (O.spent out.new)
+        ⊎ Rose (D.faults disk) (D.faults result.disk) (D.spent result.disk)))
+        (λ kept h. (part : ℕ) × StoodAt D.state limits kept disk h part) limits
+        (D.state disk) (Q.left questions.old)) }
     // A store is refused for a cause, and no other job ends so.
     ensures refused { WithStandard (λ limits. (kept : Mode) (name store : List ℕ) (resume : Bool)
         → job_of (map string_bytes words.now) ≡ Some (Job.Reduce kept name store resume)
@@ -478,6 +582,27 @@ pub fn audit_main<L: Source, Q: Source, O: Sink, D: Disk>(
         (IsWrongIn limits (D.state disk) None)) }
     ensures no_store { (done : Job) → job_of (map string_bytes words.now) ≡ Some done
         → IsInMemory done → RefusesStore result.status no_place no_modes }
+    // A disk that is no store, or one of another mode, is always refused, unless a call on it or an
+    // allocation fails; so is a store in which what waits isn't sound, and by `query` one without a batch.
+    ensures always_refused { WithStandard (λ limits. (kept : Mode) (name store : List ℕ)
+        (resume : Bool)
+        → job_of (map string_bytes words.now) ≡ Some (Job.Reduce kept name store resume)
+        → AlwaysRefuses limits (D.state disk) (Some kept) result.status) }
+    ensures always_unwatched { WithStandard (λ limits. (kept : Mode) (name store : List ℕ)
+        → job_of (map string_bytes words.now) ≡ Some (Job.WatchStore kept name store)
+        → AlwaysRefuses limits (D.state disk) (Some kept) result.status) }
+    ensures always_unanswered { WithStandard (λ limits. (store : List ℕ)
+        → job_of (map string_bytes words.now) ≡ Some (Job.Query store)
+        → AlwaysRefuses limits (D.state disk) None result.status) }
+    ensures no_batch { WithStandard (λ limits. (store : List ℕ)
+        → job_of (map string_bytes words.now) ≡ Some (Job.Query store)
+        → RefusesNoBatch limits (D.state disk) result.status) }
+    // Only `reduce --resume` finds its log a short one.
+    ensures short { ShortCause result.status (job_of (map string_bytes words.now)) }
+    // If a store is refused, nothing is read or written, and the disk is only looked at.
+    ensures refusal { RefusesAStore result.status → (log.new ≡ log.old)
+        × (questions.new ≡ questions.old) × (out.new ≡ out.old)
+        × OnlyLooks (D.state disk) (D.state result.disk) }
     ensures looks { (store : List ℕ)
         → job_of (map string_bytes words.now) ≡ Some (Job.Query store)
         → OnlyLooks (D.state disk) (D.state result.disk) }

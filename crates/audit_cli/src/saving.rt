@@ -1,7 +1,8 @@
-//! What a run takes of its log is saved as it goes: rows in memory nowhere, those of a store on its disk.
-ghost use Rattle.std.specs.Prelude.{Bool, ◌≡◌, ◌≤◌, ◌+◌, ℕ, List, Option, length, take, OnOk, IfOk, IfErr};
+//! What a run takes of its log is saved as the run goes on: rows of a store on its disk, and rows in memory not at all.
+ghost use Rattle.std.specs.Prelude.{Bool, ◌≡◌, ◌≤◌, ◌+◌, ℕ, List, Option, Some, length, take, OnOk, IfOk, IfErr};
 ghost use Rattle.flow_base.specs.declared.limits.Limits.{Limits};
 ghost use Rattle.outside.specs.Cause.{Rose};
+ghost use Rattle.reach_model.specs.declared.modes.Mode.{Mode};
 ghost use Rattle.ingest.specs.Asking.{StandsStill};
 ghost use Rattle.ingest.specs.Events.{events_of};
 ghost use Rattle.ingest.specs.Parts.{Engine};
@@ -12,17 +13,19 @@ ghost use Rattle.audit_cli.specs.declared.halt.Halt.{Halt};
 ghost use Rattle.audit_cli.specs.declared.halt.Halt.TheVariants as halt;
 ghost use Rattle.audit_cli.specs.Dialogue.{Moment, settled_on, taken_on};
 ghost use Rattle.audit_cli.specs.Course.{At, GoesUp, HasCauses, IsDue, kind_of, never};
-ghost use Rattle.audit_cli.specs.Saves.{SavesLawfully, Start};
+ghost use Rattle.audit_cli.specs.Saves.{AddsLawfully, KeepsPace, LacksLawfully, SavesLawfully, Start, lack_of};
 
 use crate::halt::Halt;
 use crate::log::take_log;
 use crate::session::Session;
 use crate::turn::settle;
+use batch_log::a_disk_reads_in_one_way;
 use ingest::{Ingest, stops_stay, what_can_commit_still_can, what_is_saved_stays_saved};
 use outside::{Disk, Source};
 use reach_rows::{Keep, Reducer, VecRows};
 use reduced_store::Store;
 use report_json::Reply;
+use row_codec::payloads_are_apart;
 
 /// Rows that a run saves as it goes.
 pub trait Saves: Keep {
@@ -41,7 +44,13 @@ pub trait Saves: Keep {
     /// What is left of a run that halted before a moment.
     ghost ends: { Start Self → Limits → Self → Moment → Halt → Type 0 };
 
-    /// One state comes of the other by calls that didn't fail.
+    /// Of the bytes that were read of a log, at most this many aren't saved.
+    ghost lacks: { Start Self → Limits → Mode → Self → Option (List ℕ) → ℕ → Type 0 };
+
+    /// At most so many batches were put on a disk since the start.
+    ghost adds: { Start Self → Limits → Self → ℕ → Type 0 };
+
+    /// The second state is the first one after calls that didn't fail.
     ghost uses: { Self → Self → Type 0 };
 
     /// The count of failed calls rose from one state to the other.
@@ -60,6 +69,14 @@ pub trait Saves: Keep {
         ensures ends { (start : Start Self) (limits : Limits) (m : Moment) → m.mode ≡ R.mode
             → StandsFor limits engine.old m.history → holds start limits engine.old m
             → IfErr result (ends start limits engine.new.joined.keep m) }
+        ensures lacks { (start : Start Self) (limits : Limits) (left : Option (List ℕ))
+            (m : Moment) (most : ℕ) → m.mode ≡ R.mode
+            → StandsFor limits engine.old m.history → holds start limits engine.old m
+            → left ≡ Some m.log → lacks start limits R.mode engine.old.joined.keep left most
+            → lacks start limits R.mode engine.new.joined.keep left (lack_of result 0 most) }
+        ensures adds { (start : Start Self) (limits : Limits) (m : Moment) (n : ℕ)
+            → holds start limits engine.old m → adds start limits engine.old.joined.keep n
+            → adds start limits engine.new.joined.keep (n + 1) }
         ensures stands { StandsStill engine.old engine.new }
         ensures due { IfErr result (IsDue never) }
         ensures causes { IfErr result
@@ -69,11 +86,19 @@ pub trait Saves: Keep {
     /// How what is said of saving belongs together.
     fn saves_lawfully()
         ensures { SavesLawfully Self.alike can holds ends uses rose };
+
+    /// How what is said of lacking belongs together.
+    fn lacks_lawfully()
+        ensures { LacksLawfully Self.alike lacks };
+
+    /// How what is said of adding belongs together.
+    fn adds_lawfully()
+        ensures { AddsLawfully Self.alike adds };
 }
 
 impl Saves for VecRows {
     ghost use Rattle.std.specs.Prelude.{◌≡◌};
-    ghost use Rattle.audit_cli.specs.Saves.{can_always, nothing_cut, nothing_more, nothing_put, rises_never, uses_none};
+    ghost use Rattle.audit_cli.specs.Saves.{adds_nothing, can_always, lacks_nothing, nothing_cut, nothing_more, nothing_put, rises_never, uses_none};
 
     ghost can = { can_always };
 
@@ -85,6 +110,10 @@ impl Saves for VecRows {
 
     ghost ends = { nothing_cut };
 
+    ghost lacks = { lacks_nothing };
+
+    ghost adds = { adds_nothing };
+
     ghost uses = { uses_none };
 
     ghost rose = { rises_never };
@@ -94,12 +123,16 @@ impl Saves for VecRows {
     }
 
     fn saves_lawfully() {}
+
+    fn lacks_lawfully() {}
+
+    fn adds_lawfully() {}
 }
 
 impl<D: Disk> Saves for Store<D> {
     ghost use Rattle.std.specs.Prelude.{◌≡◌, ⊤};
     ghost use Rattle.kept_flows.specs.Committing.{CanCommit};
-    ghost use Rattle.audit_cli.specs.Saves.{IsAllPutAway, IsCutShort, IsPutAway, RoseIn, UsesStore};
+    ghost use Rattle.audit_cli.specs.Saves.{AddsToStore, IsAllPutAway, IsCutShort, IsPutAway, LacksInStore, RoseIn, UsesStore};
 
     ghost can = { CanCommit D.state };
 
@@ -111,11 +144,17 @@ impl<D: Disk> Saves for Store<D> {
 
     ghost ends = { IsCutShort D.state };
 
+    ghost lacks = { LacksInStore D.state };
+
+    ghost adds = { AddsToStore D.state };
+
     ghost uses = { UsesStore D.state D.faults D.spent };
 
     ghost rose = { RoseIn D.faults D.spent };
 
     fn save<R: Reducer>(engine: &mut Ingest<R, Store<D>>) -> Result<(), Halt> {
+        a_disk_reads_in_one_way();
+        payloads_are_apart();
         engine.commit()?;
         Ok(())
     }
@@ -124,9 +163,13 @@ impl<D: Disk> Saves for Store<D> {
         what_can_commit_still_can::<D>();
         what_is_saved_stays_saved::<D>();
     }
+
+    fn lacks_lawfully() {}
+
+    fn adds_lawfully() {}
 }
 
-// So many bytes more of the log were taken. All is saved if they fill a batch.
+// This many more bytes of the log were taken. All is saved if they fill a batch.
 fn fill<R: Reducer, K: Saves>(session: &mut Session<R, K>, taken: u64) -> Result<(), Halt>
     requires within { session.old.unsaved + taken ≤ session.old.batch }
     requires can { K.can session.old.engine.joined.keep }
@@ -140,12 +183,29 @@ fn fill<R: Reducer, K: Saves>(session: &mut Session<R, K>, taken: u64) -> Result
         (m : Moment)
         → At (kind_of R.mode takes (K.holds start limits)) limits session.old.engine left m
         → IfErr result (K.ends start limits session.new.engine.joined.keep m) }
+    ensures lacks { (takes : Bool) (start : Start K) (limits : Limits) (left : Option (List ℕ))
+        (m : Moment)
+        → At (kind_of R.mode takes (K.holds start limits)) limits session.old.engine left m
+        → K.lacks start limits R.mode session.old.engine.joined.keep left
+        (session.old.unsaved + taken)
+        → K.lacks start limits R.mode session.new.engine.joined.keep left
+        (lack_of result session.new.unsaved session.old.batch) }
+    ensures adds { (takes : Bool) (start : Start K) (limits : Limits) (left : Option (List ℕ))
+        (m : Moment) (most : ℕ)
+        → At (kind_of R.mode takes (K.holds start limits)) limits session.old.engine left m
+        → KeepsPace (K.adds start limits) session.old.batch session.old.engine.joined.keep
+        (session.old.unsaved + taken) left most
+        → KeepsPace (K.adds start limits) session.old.batch session.new.engine.joined.keep
+        (lack_of result session.new.unsaved 0) left most }
+    ensures batch { session.new.batch ≡ session.old.batch }
     ensures due { IfErr result (IsDue never) }
     ensures causes { IfErr result (HasCauses ⊥ ⊥
         (K.rose session.old.engine.joined.keep session.new.engine.joined.keep) K.limited) }
     ensures uses { K.uses session.old.engine.joined.keep session.new.engine.joined.keep }
 {
     K::saves_lawfully();
+    K::lacks_lawfully();
+    K::adds_lawfully();
     let unsaved = session.unsaved + taken;
     if unsaved < session.batch {
         session.unsaved = unsaved;
@@ -182,6 +242,21 @@ pub fn take<R: Reducer, K: Saves, L: Source>(
         → At (kind_of R.mode takes (K.holds start limits)) limits session.old.engine
         (L.left log.old) m
         → IfErr result (K.ends start limits session.new.engine.joined.keep (taken_on most m)) }
+    ensures lacks { (takes : Bool) (start : Start K) (limits : Limits) (m : Moment)
+        → At (kind_of R.mode takes (K.holds start limits)) limits session.old.engine
+        (L.left log.old) m
+        → K.lacks start limits R.mode session.old.engine.joined.keep (L.left log.old)
+        session.old.unsaved
+        → K.lacks start limits R.mode session.new.engine.joined.keep (L.left log.new)
+        (lack_of result session.new.unsaved session.old.batch) }
+    ensures adds { (takes : Bool) (start : Start K) (limits : Limits) (m : Moment) (most : ℕ)
+        → At (kind_of R.mode takes (K.holds start limits)) limits session.old.engine
+        (L.left log.old) m
+        → KeepsPace (K.adds start limits) session.old.batch session.old.engine.joined.keep
+        session.old.unsaved (L.left log.old) most
+        → KeepsPace (K.adds start limits) session.old.batch session.new.engine.joined.keep
+        (lack_of result session.new.unsaved 0) (L.left log.new) most }
+    ensures batch { session.new.batch ≡ session.old.batch }
     ensures causes { IfErr result
         (HasCauses (Rose (L.faults log.old) (L.faults log.new) (L.spent log.new)) ⊥
         (K.rose session.old.engine.joined.keep session.new.engine.joined.keep) K.limited) }
@@ -191,6 +266,8 @@ pub fn take<R: Reducer, K: Saves, L: Source>(
 {
     stops_stay();
     K::saves_lawfully();
+    K::lacks_lawfully();
+    K::adds_lawfully();
     let mut count: u64 = 0;
     while count < most {
         let room = (most - count).min(session.batch - session.unsaved);
@@ -229,11 +306,27 @@ pub fn settle_all<R: Reducer, K: Saves>(session: &mut Session<R, K>) -> Result<R
         (left : Option (List ℕ)) (m : Moment)
         → At (kind_of R.mode takes (K.holds start limits)) limits session.old.engine left m
         → IfErr result (K.ends start limits session.new.engine.joined.keep (settled_on m)) }
+    ensures lacks { (takes : Bool) (start : Start K) (limits : Limits)
+        (left : Option (List ℕ)) (m : Moment)
+        → At (kind_of R.mode takes (K.holds start limits)) limits session.old.engine left m
+        → K.lacks start limits R.mode session.old.engine.joined.keep left session.old.unsaved
+        → K.lacks start limits R.mode session.new.engine.joined.keep left
+        (lack_of result session.new.unsaved session.old.batch) }
+    ensures adds { (takes : Bool) (start : Start K) (limits : Limits)
+        (left : Option (List ℕ)) (m : Moment) (most : ℕ)
+        → At (kind_of R.mode takes (K.holds start limits)) limits session.old.engine left m
+        → KeepsPace (K.adds start limits) session.old.batch session.old.engine.joined.keep
+        session.old.unsaved left most
+        → KeepsPace (K.adds start limits) session.old.batch session.new.engine.joined.keep
+        (lack_of result session.new.unsaved 0) left (most + session.old.batch) }
+    ensures batch { session.new.batch ≡ session.old.batch }
     ensures causes { IfErr result (HasCauses ⊥ ⊥
         (K.rose session.old.engine.joined.keep session.new.engine.joined.keep) K.limited) }
     ensures uses { K.uses session.old.engine.joined.keep session.new.engine.joined.keep }
 {
     K::saves_lawfully();
+    K::lacks_lawfully();
+    K::adds_lawfully();
     let reply = settle(&mut session.engine)?;
     K::save(&mut session.engine)?;
     session.unsaved = 0;

@@ -14,8 +14,8 @@ pub const PIECE: usize = 65_536;
 /// An engine that answers, and the buffer for each read of its log. The buffer is allocated once a
 /// run, in memory that can be refused, and no question allocates another.
 ///
-/// The engine keeps its flows in rows that are always observable and that no read of fails, so that
-/// it can only fail to allocate an answer.
+/// The engine keeps its flows in rows that are always observable and whose reads never fail, so only
+/// the allocation of an answer can fail.
 #[derive(Drop)]
 pub struct Session<R: Reducer, K: Keep> {
     pub alloc: Global,

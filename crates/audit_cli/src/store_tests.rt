@@ -163,7 +163,7 @@ fn a_run_that_its_disk_stops_is_resumed(rt: HostRuntime) -> Result<(), Fail> {
     let mut stopped = false;
     for call in 0..12u64 {
         let empty = Bytes::new(rt.alloc());
-        let (ended, _, disk) = run_over(
+        let (ended, written, disk) = run_over(
             &rt,
             "reduce plain log store",
             joined(&rt, &[FORK, WRITE])?,
@@ -173,6 +173,7 @@ fn a_run_that_its_disk_stops_is_resumed(rt: HostRuntime) -> Result<(), Fail> {
         )?;
         if ended != Status::Done {
             assert_eq!(rt; ended, Status::StoreFault, "{call}");
+            assert_eq!(rt; written.as_slice(), NOTHING, "{call}");
             stopped = true;
         }
         // resumed, the run takes what the store doesn't have of the log
@@ -198,6 +199,43 @@ fn a_run_that_its_disk_stops_is_resumed(rt: HostRuntime) -> Result<(), Fail> {
         assert_eq!(rt; written.as_slice(), REACHED, "{call}");
     }
     assert!(rt; stopped);
+    Ok(())
+}
+
+#[test]
+fn each_call_of_a_query_fails_in_turn(rt: HostRuntime) -> Result<(), Fail> {
+    let empty = Bytes::new(rt.alloc());
+    let (ended, _, disk) = run_over(
+        &rt,
+        "reduce full log store",
+        joined(&rt, &[FORK, WRITE])?,
+        b"",
+        empty,
+        &[],
+    )?;
+    assert_eq!(rt; ended, Status::Done);
+    let mut stopped = false;
+    let mut answered = false;
+    for call in 0..24u64 {
+        let (ended, written, after) = run_over(
+            &rt,
+            "query store",
+            Bytes::new(rt.alloc()),
+            b"back 2\n",
+            Bytes::from_slice(rt.alloc(), disk.as_slice())?,
+            &[call],
+        )?;
+        if ended == Status::Done {
+            assert_eq!(rt; written.as_slice(), REACHED, "{call}");
+            answered = true;
+        } else {
+            assert_eq!(rt; ended, Status::StoreFault, "{call}");
+            assert_eq!(rt; written.as_slice(), NOTHING, "{call}");
+            stopped = true;
+        }
+        assert_eq!(rt; after.as_slice(), disk.as_slice(), "{call}");
+    }
+    assert!(rt; stopped && answered);
     Ok(())
 }
 

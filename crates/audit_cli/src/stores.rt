@@ -1,6 +1,6 @@
 //! Runs over a store: a log is taken into it, as a whole or as questions ask for it, or questions are answered over what it
 //! has.
-ghost use Rattle.std.specs.Prelude.{Bool, true, false, ◌≡◌, ◌⊎◌, ◌≤◌, ◌<◌, length, drop, ⊤, ℕ, List, [], None, Some, Option, Err, IfErr, IsErrOf, OnOk, OnErr};
+ghost use Rattle.std.specs.Prelude.{Bool, true, false, ◌≡◌, ◌⊎◌, ◌≤◌, ◌<◌, ◌+◌, ◌-◌, length, drop, ⊤, ℕ, List, [], None, Some, Option, Err, IfErr, IsErrOf, OnOk, OnErr};
 ghost use Rattle.flow_base.specs.declared.limits.Full.{Full};
 ghost use Rattle.flow_base.specs.declared.limits.Limits.{Limits};
 ghost use Rattle.outside.specs.Cause.{Rose};
@@ -13,10 +13,13 @@ ghost use Rattle.ingest.specs.Stops.{Stops};
 ghost use Rattle.audit_cli.specs.declared.halt.Halt.TheVariants as halt;
 ghost use Rattle.audit_cli.specs.declared.halt.StoreHalt.TheVariants as over;
 ghost use Rattle.audit_cli.specs.Course.{At, GoesUp, HasCauses, IsDue, kind_of, never};
-ghost use Rattle.audit_cli.specs.Dialogue.{Moment};
-ghost use Rattle.audit_cli.specs.Saves.{IsAllPutAway, IsPutAway, IsReached, PassesStore, RoseIn, Start, UsesStore, since};
-ghost use Rattle.audit_cli.specs.StoreHalts.{HasStoreCauses, IsRunDue, NamesNoBatch, is_shorter, no_lengths, no_modes, no_place, over_run};
-ghost use Rattle.audit_cli.specs.Stores.{HasBegun, HasNoBatch, HasTaken, IsBadIn, IsBadOrNone, IsOpenAt, IsQueried, IsQueryRun, IsReduceRun, IsReopened, IsShort, IsWatchRun, IsWrongIn, StoodAt, WaitsUnsoundly, WasFound, WroteFront, WroteStat, begun_of, settled_all};
+ghost use Rattle.audit_cli.specs.Dialogue.{Moment, asks, lines_in};
+ghost use Rattle.audit_cli.specs.Settles.{settles};
+ghost use Rattle.audit_cli.specs.Refusals.{AlwaysRefuses, RefusesNoBatch, RefusesUnsound};
+ghost use Rattle.audit_cli.specs.Saves.{AddsToStore, IsAllPutAway, IsPutAway, IsReached, KeepsPace, LacksInStore, LeavesAllBut, PassesStore, RoseIn, Start, UsesStore, since};
+ghost use Rattle.audit_cli.specs.Statuses.{store_status};
+ghost use Rattle.audit_cli.specs.StoreHalts.{HasStoreCauses, IsRunDue, NamesNoBatch, is_shorter, no_lengths, no_modes, no_place, over_run, shorter_in};
+ghost use Rattle.audit_cli.specs.Stores.{HasBegun, HasNoBatch, HasTaken, HearsOut, IsBadIn, IsBadOrNone, IsOpenAt, IsQueried, IsQueryRun, IsReduceRun, IsRefusal, IsReopened, IsShort, IsWatchRun, IsWrongIn, AreTold, AsksTold, LacksIn, LooksOrLacks, StoodAt, WaitsUnsoundly, WasFound, WroteFront, WroteStat, AddsFew, AddsIn, begun_of, is_resumed, settled_all};
 
 use crate::halt::{Halt, StoreHalt, halt_of_open, halt_of_restore};
 use crate::listen::watch;
@@ -24,15 +27,19 @@ use crate::log::pass_over;
 use crate::saving::{Saves, settle_all, take};
 use crate::session::{Session, room_for_a_read};
 use crate::turn::{reply_of, say};
+use batch_log::a_disk_reads_in_one_way;
 use flow_base::{Bytes, Limits, NoMemory};
-use ingest::{Ingest, stops_stay, what_can_commit_still_can, what_is_saved_stays_saved};
+use ingest::{
+    Ingest, stops_stay, what_can_commit_still_can, what_fits_never_stops, what_is_saved_stays_saved,
+};
 use outside::{CleanSource, Disk, Sink, Source};
 use reach_model::Mode;
 use reach_rows::{Plain, Reducer};
 use reduce_continuous::Continuous;
 use reduce_source::Sources;
-use reduced_store::{Opened, Store, what_is_found_was_stored};
+use reduced_store::{Opened, Store, a_store_reads_in_one_way, what_is_found_was_stored};
 use report_json::Ask;
+use row_codec::payloads_are_apart;
 use std::alloc::Global;
 
 /// How a run over a store ended, and the disk of the store.
@@ -75,18 +82,39 @@ pub fn extend<D: Disk, L: Source, Q: Source, O: Sink>(
         → IsWatchRun (StoodAt D.state limits.now mode disk) limits.now mode
         (D.state disk) (D.state result.disk) (L.left log.old) (L.left log.new)
         (Q.left questions.old) (O.written out.old) (O.written out.new) result.outcome }
+    ensures heard { taking ≡ Taking.Asked → HearsOut (StoodAt D.state limits.now mode disk)
+        limits.now mode (L.left log.old) (Q.left questions.old) (Q.left questions.new)
+        result.outcome }
+    ensures lacks { LooksOrLacks (is_resumed taking) (AsksTold taking (Q.left questions.old))
+        (StoodAt D.state limits.now mode disk) limits.now mode (D.state disk)
+        (D.state result.disk) (L.left log.old) (L.left log.new) limits.now.batch result.outcome }
+    ensures adds { (resume : Bool) → taking ≡ Taking.Whole resume
+        → AddsFew resume (StoodAt D.state limits.now mode disk) limits.now (D.state disk)
+        (D.state result.disk) (L.left log.old) (L.left log.new) limits.now.batch 1 }
+    ensures watch_adds { taking ≡ Taking.Asked → (asked : List ℕ)
+        → Q.left questions.old ≡ Some asked
+        → AddsFew false (StoodAt D.state limits.now mode disk) limits.now
+        (D.state disk)
+        (D.state result.disk) (L.left log.old) (L.left log.new)
+        limits.now.batch (settles (asks limits.now (lines_in asked)) + 1) }
     ensures silent { (resume : Bool) → taking ≡ Taking.Whole resume
         → questions.new ≡ questions.old }
+    ensures refused { IsRefusal result.outcome → (log.new ≡ log.old)
+        × (questions.new ≡ questions.old) × (out.new ≡ out.old)
+        × OnlyLooks (D.state disk) (D.state result.disk) }
+    ensures always { AlwaysRefuses limits.now (D.state disk) (Some mode)
+        (store_status result.outcome) }
     ensures causes { IfErr result.outcome (HasStoreCauses
         (Rose (L.faults log.old) (L.faults log.new) (L.spent log.new)
         ⊎ Rose (Q.faults questions.old) (Q.faults questions.new) (Q.spent questions.new))
         (Rose (O.faults out.old) (O.faults out.new) (O.spent out.new))
         (Rose (D.faults disk) (D.faults result.disk) (D.spent result.disk))
         (IsBadIn limits.now (D.state disk)) (IsWrongIn limits.now (D.state disk) (Some mode))
-        is_shorter) }
+        (shorter_in (is_resumed taking))) }
     ensures uses { UsesDisk D.state D.faults D.spent disk result.disk
         (IsErrOf result.outcome (over.Run halt.StoreFault)) }
 {
+    a_store_reads_in_one_way();
     match Store::open_on(alloc, limits, Some(mode), disk) {
         Err(back) => Ran {
             outcome: Err(halt_of_open(back.fault)),
@@ -118,14 +146,34 @@ fn extend_opened<D: Disk, L: Source, Q: Source, O: Sink>(
         → IsWatchRun (IsOpenAt D.state limits.now mode opened) limits.now mode
         (D.state opened.store.disk) (D.state result.disk) (L.left log.old) (L.left log.new)
         (Q.left questions.old) (O.written out.old) (O.written out.new) result.outcome }
+    ensures heard { taking ≡ Taking.Asked → HearsOut (IsOpenAt D.state limits.now mode opened)
+        limits.now mode (L.left log.old) (Q.left questions.old) (Q.left questions.new)
+        result.outcome }
+    ensures lacks { LacksIn (is_resumed taking) (AsksTold taking (Q.left questions.old))
+        (IsOpenAt D.state limits.now mode opened) limits.now mode
+        (D.state result.disk) (L.left log.old) (L.left log.new) limits.now.batch result.outcome }
+    ensures adds { (resume : Bool) → taking ≡ Taking.Whole resume
+        → AddsFew resume (IsOpenAt D.state limits.now mode opened) limits.now
+        (D.state opened.store.disk) (D.state result.disk) (L.left log.old) (L.left log.new)
+        limits.now.batch 1 }
+    ensures watch_adds { taking ≡ Taking.Asked → (asked : List ℕ)
+        → Q.left questions.old ≡ Some asked
+        → AddsFew false (IsOpenAt D.state limits.now mode opened) limits.now
+        (D.state opened.store.disk)
+        (D.state result.disk) (L.left log.old) (L.left log.new)
+        limits.now.batch (settles (asks limits.now (lines_in asked)) + 1) }
     ensures silent { (resume : Bool) → taking ≡ Taking.Whole resume
         → questions.new ≡ questions.old }
+    ensures refused { IsRefusal result.outcome → (log.new ≡ log.old)
+        × (questions.new ≡ questions.old) × (out.new ≡ out.old)
+        × (result.disk ≡ opened.store.disk) }
+    ensures unsound { RefusesUnsound limits.now opened (store_status result.outcome) }
     ensures causes { IfErr result.outcome (HasStoreCauses
         (Rose (L.faults log.old) (L.faults log.new) (L.spent log.new)
         ⊎ Rose (Q.faults questions.old) (Q.faults questions.new) (Q.spent questions.new))
         (Rose (O.faults out.old) (O.faults out.new) (O.spent out.new))
         (Rose (D.faults opened.store.disk) (D.faults result.disk) (D.spent result.disk))
-        (WaitsUnsoundly limits.now opened) no_modes is_shorter) }
+        (WaitsUnsoundly limits.now opened) no_modes (shorter_in (is_resumed taking))) }
     ensures uses { UsesDisk D.state D.faults D.spent opened.store.disk result.disk
         (IsErrOf result.outcome (over.Run halt.StoreFault)) }
 {
@@ -181,17 +229,39 @@ fn extend_with<R: Reducer + Drop, D: Disk, L: Source, Q: Source, O: Sink>(
         → IsWatchRun (IsOpenAt D.state limits.now R.mode opened) limits.now R.mode
         (D.state opened.store.disk) (D.state result.disk) (L.left log.old) (L.left log.new)
         (Q.left questions.old) (O.written out.old) (O.written out.new) result.outcome }
+    ensures heard { taking ≡ Taking.Asked → HearsOut (IsOpenAt D.state limits.now R.mode opened)
+        limits.now R.mode (L.left log.old) (Q.left questions.old) (Q.left questions.new)
+        result.outcome }
+    ensures lacks { LacksIn (is_resumed taking) (AsksTold taking (Q.left questions.old))
+        (IsOpenAt D.state limits.now R.mode opened) limits.now R.mode
+        (D.state result.disk) (L.left log.old) (L.left log.new) limits.now.batch result.outcome }
+    ensures adds { (resume : Bool) → taking ≡ Taking.Whole resume
+        → AddsFew resume (IsOpenAt D.state limits.now R.mode opened) limits.now
+        (D.state opened.store.disk) (D.state result.disk) (L.left log.old) (L.left log.new)
+        limits.now.batch 1 }
+    ensures watch_adds { taking ≡ Taking.Asked → (asked : List ℕ)
+        → Q.left questions.old ≡ Some asked
+        → AddsFew false (IsOpenAt D.state limits.now R.mode opened) limits.now
+        (D.state opened.store.disk)
+        (D.state result.disk) (L.left log.old) (L.left log.new)
+        limits.now.batch (settles (asks limits.now (lines_in asked)) + 1) }
     ensures silent { (resume : Bool) → taking ≡ Taking.Whole resume
         → questions.new ≡ questions.old }
+    ensures refused { IsRefusal result.outcome → (log.new ≡ log.old)
+        × (questions.new ≡ questions.old) × (out.new ≡ out.old)
+        × (result.disk ≡ opened.store.disk) }
+    ensures unsound { RefusesUnsound limits.now opened (store_status result.outcome) }
     ensures causes { IfErr result.outcome (HasStoreCauses
         (Rose (L.faults log.old) (L.faults log.new) (L.spent log.new)
         ⊎ Rose (Q.faults questions.old) (Q.faults questions.new) (Q.spent questions.new))
         (Rose (O.faults out.old) (O.faults out.new) (O.spent out.new))
         (Rose (D.faults opened.store.disk) (D.faults result.disk) (D.spent result.disk))
-        (WaitsUnsoundly limits.now opened) no_modes is_shorter) }
+        (WaitsUnsoundly limits.now opened) no_modes (shorter_in (is_resumed taking))) }
     ensures uses { UsesDisk D.state D.faults D.spent opened.store.disk result.disk
         (IsErrOf result.outcome (over.Run halt.StoreFault)) }
 {
+    a_disk_reads_in_one_way();
+    payloads_are_apart();
     what_can_commit_still_can::<D>();
     what_is_found_was_stored();
     match Ingest::restore(alloc, limits, tables, opened) {
@@ -222,6 +292,22 @@ fn extend_engine<R: Reducer + Drop, D: Disk, L: Source, Q: Source, O: Sink>(
         → IsWatchRun (IsReopened D.state R.mode limits.now engine) limits.now R.mode
         (D.state engine.joined.keep.disk) (D.state result.disk) (L.left log.old) (L.left log.new)
         (Q.left questions.old) (O.written out.old) (O.written out.new) result.outcome }
+    ensures heard { taking ≡ Taking.Asked → HearsOut (IsReopened D.state R.mode limits.now engine)
+        limits.now R.mode (L.left log.old) (Q.left questions.old) (Q.left questions.new)
+        result.outcome }
+    ensures lacks { LacksIn (is_resumed taking) (AsksTold taking (Q.left questions.old))
+        (IsReopened D.state R.mode limits.now engine) limits.now R.mode
+        (D.state result.disk) (L.left log.old) (L.left log.new) limits.now.batch result.outcome }
+    ensures adds { (resume : Bool) → taking ≡ Taking.Whole resume
+        → AddsFew resume (IsReopened D.state R.mode limits.now engine) limits.now
+        (D.state engine.joined.keep.disk) (D.state result.disk) (L.left log.old) (L.left log.new)
+        limits.now.batch 1 }
+    ensures watch_adds { taking ≡ Taking.Asked → (asked : List ℕ)
+        → Q.left questions.old ≡ Some asked
+        → AddsFew false (IsReopened D.state R.mode limits.now engine) limits.now
+        (D.state engine.joined.keep.disk)
+        (D.state result.disk) (L.left log.old) (L.left log.new)
+        limits.now.batch (settles (asks limits.now (lines_in asked)) + 1) }
     ensures silent { (resume : Bool) → taking ≡ Taking.Whole resume
         → questions.new ≡ questions.old }
     ensures causes { IfErr result.outcome (HasStoreCauses
@@ -229,10 +315,12 @@ fn extend_engine<R: Reducer + Drop, D: Disk, L: Source, Q: Source, O: Sink>(
         ⊎ Rose (Q.faults questions.old) (Q.faults questions.new) (Q.spent questions.new))
         (Rose (O.faults out.old) (O.faults out.new) (O.spent out.new))
         (Rose (D.faults engine.joined.keep.disk) (D.faults result.disk) (D.spent result.disk))
-        no_place no_modes is_shorter) }
+        no_place no_modes (shorter_in (is_resumed taking))) }
     ensures uses { UsesDisk D.state D.faults D.spent engine.joined.keep.disk result.disk
         (IsErrOf result.outcome (over.Run halt.StoreFault)) }
 {
+    a_disk_reads_in_one_way();
+    payloads_are_apart();
     let piece = match room_for_a_read(alloc) {
         Ok(piece) => piece,
         Err(NoMemory) => {
@@ -276,6 +364,23 @@ fn take_in<R: Reducer, D: Disk, L: Source, Q: Source, O: Sink>(
         limits.now R.mode (D.state session.old.engine.joined.keep.disk)
         (D.state session.new.engine.joined.keep.disk) (L.left log.old) (L.left log.new)
         (Q.left questions.old) (O.written out.old) (O.written out.new) result }
+    ensures heard { taking ≡ Taking.Asked
+        → HearsOut (IsReopened D.state R.mode limits.now session.old.engine)
+        limits.now R.mode (L.left log.old) (Q.left questions.old) (Q.left questions.new) result }
+    ensures lacks { LacksIn (is_resumed taking) (AsksTold taking (Q.left questions.old))
+        (IsReopened D.state R.mode limits.now session.old.engine) limits.now R.mode
+        (D.state session.new.engine.joined.keep.disk) (L.left log.old) (L.left log.new) session.old.batch result }
+    ensures adds { (resume : Bool) → taking ≡ Taking.Whole resume
+        → AddsIn resume (IsReopened D.state R.mode limits.now session.old.engine) limits.now
+        (D.state session.old.engine.joined.keep.disk)
+        (D.state session.new.engine.joined.keep.disk) (L.left log.old) (L.left log.new)
+        session.old.unsaved session.old.batch 1 }
+    ensures watch_adds { taking ≡ Taking.Asked → (asked : List ℕ)
+        → Q.left questions.old ≡ Some asked
+        → AddsIn false (IsReopened D.state R.mode limits.now session.old.engine) limits.now
+        (D.state session.old.engine.joined.keep.disk)
+        (D.state session.new.engine.joined.keep.disk) (L.left log.old) (L.left log.new)
+        session.old.unsaved session.old.batch (settles (asks limits.now (lines_in asked)) + 1) }
     ensures silent { (resume : Bool) → taking ≡ Taking.Whole resume
         → questions.new ≡ questions.old }
     ensures causes { IfErr result (HasStoreCauses
@@ -283,7 +388,7 @@ fn take_in<R: Reducer, D: Disk, L: Source, Q: Source, O: Sink>(
         ⊎ Rose (Q.faults questions.old) (Q.faults questions.new) (Q.spent questions.new))
         (Rose (O.faults out.old) (O.faults out.new) (O.spent out.new))
         (RoseIn D.faults D.spent session.old.engine.joined.keep session.new.engine.joined.keep)
-        no_place no_modes is_shorter) }
+        no_place no_modes (shorter_in (is_resumed taking))) }
     ensures uses { UsesStore D.state D.faults D.spent
         session.old.engine.joined.keep session.new.engine.joined.keep }
 {
@@ -293,7 +398,7 @@ fn take_in<R: Reducer, D: Disk, L: Source, Q: Source, O: Sink>(
     }
 }
 
-// Takes a log to its end, from its first byte on or behind those that were taken.
+// Takes a log to its end, from its first byte on or after those that were taken before.
 fn reduce<R: Reducer, D: Disk, L: Source, O: Sink>(
     session: &mut Session<R, Store<D>>,
     resume: bool,
@@ -305,14 +410,25 @@ fn reduce<R: Reducer, D: Disk, L: Source, O: Sink>(
         → IsReduceRun resume (IsReopened D.state R.mode limits session.old.engine) limits R.mode
         (D.state session.old.engine.joined.keep.disk) (D.state session.new.engine.joined.keep.disk)
         (L.left log.old) (L.left log.new) (O.written out.old) (O.written out.new) result }
+    ensures lacks { (limits : Limits)
+        → LacksIn resume ⊤ (IsReopened D.state R.mode limits session.old.engine) limits R.mode
+        (D.state session.new.engine.joined.keep.disk) (L.left log.old) (L.left log.new)
+        session.old.batch result }
+    ensures adds { (limits : Limits)
+        → AddsIn resume (IsReopened D.state R.mode limits session.old.engine) limits
+        (D.state session.old.engine.joined.keep.disk)
+        (D.state session.new.engine.joined.keep.disk) (L.left log.old) (L.left log.new)
+        session.old.unsaved session.old.batch 1 }
     ensures causes { IfErr result (HasStoreCauses
         (Rose (L.faults log.old) (L.faults log.new) (L.spent log.new))
         (Rose (O.faults out.old) (O.faults out.new) (O.spent out.new))
         (RoseIn D.faults D.spent session.old.engine.joined.keep session.new.engine.joined.keep)
-        no_place no_modes is_shorter) }
+        no_place no_modes (shorter_in resume)) }
     ensures uses { UsesStore D.state D.faults D.spent
         session.old.engine.joined.keep session.new.engine.joined.keep }
 {
+    a_disk_reads_in_one_way();
+    payloads_are_apart();
     Store::<D>::saves_lawfully();
     begin_part(session, resume, log)?;
     reduce_all(session, log, out)?;
@@ -339,10 +455,17 @@ fn begin_part<R: Reducer, D: Disk, L: Source>(
         → L.left log.old ≡ Some bytes
         → (taken had : ℕ) → result ≡ Err (over.ShortLog taken had)
         → IsShort resume before bytes taken had }
+    ensures left { (limits : Limits) (h : History) (before : ℕ) (bytes : List ℕ)
+        → IsReopened D.state R.mode limits session.old.engine h before
+        → L.left log.old ≡ Some bytes
+        → LeavesAllBut (length bytes - length (begun_of resume h before bytes).log) bytes
+        (L.left log.new) }
+    ensures batch { session.new.batch ≡ session.old.batch }
+    ensures unsaved { session.new.unsaved ≡ session.old.unsaved }
     ensures due { IfErr result (IsRunDue never) }
     ensures causes { IfErr result (HasStoreCauses
         (Rose (L.faults log.old) (L.faults log.new) (L.spent log.new)) ⊥ ⊥
-        no_place no_modes is_shorter) }
+        no_place no_modes (shorter_in resume)) }
     ensures written { IfErr result NamesNoBatch }
     ensures alike { SameBut session.old.engine.joined.keep session.new.engine.joined.keep }
     ensures counts { GoesUp
@@ -367,6 +490,8 @@ fn go_on<L: Source>(buf: &mut [u8], taken: u64, log: &mut L) -> Result<(), Store
     ensures short { (bytes : List ℕ) → L.left log.old ≡ Some bytes → (all had : ℕ)
         → result ≡ Err (over.ShortLog all had)
         → (all ≡ taken) × (had ≡ length bytes) × (had < taken) }
+    ensures left { (bytes : List ℕ) → L.left log.old ≡ Some bytes
+        → LeavesAllBut taken bytes (L.left log.new) }
     ensures due { IfErr result (IsRunDue never) }
     ensures causes { IfErr result (HasStoreCauses
         (Rose (L.faults log.old) (L.faults log.new) (L.spent log.new)) ⊥ ⊥
@@ -422,6 +547,20 @@ fn reduce_all<R: Reducer, D: Disk, L: Source, O: Sink>(
         → At (kind_of R.mode true (IsPutAway D.state start limits)) limits session.old.engine
         (L.left log.old) m
         → IfErr result (IsDue (Stops limits (settled_all m).history)) }
+    ensures lacks { (start : Start (OnDisk D)) (limits : Limits) (m : Moment)
+        → At (kind_of R.mode true (IsPutAway D.state start limits)) limits session.old.engine
+        (L.left log.old) m
+        → LacksInStore D.state start limits R.mode session.old.engine.joined.keep
+        (L.left log.old) session.old.unsaved
+        → IfErr result (λ why. LacksInStore D.state start limits R.mode
+        session.new.engine.joined.keep (L.left log.new) session.old.batch) }
+    ensures adds { (start : Start (OnDisk D)) (limits : Limits) (m : Moment) (most : ℕ)
+        → At (kind_of R.mode true (IsPutAway D.state start limits)) limits session.old.engine
+        (L.left log.old) m
+        → KeepsPace (AddsToStore D.state start limits) session.old.batch
+        session.old.engine.joined.keep session.old.unsaved (L.left log.old) most
+        → KeepsPace (AddsToStore D.state start limits) session.old.batch
+        session.new.engine.joined.keep 0 (L.left log.new) (most + session.old.batch) }
     ensures causes { IfErr result (HasCauses
         (Rose (L.faults log.old) (L.faults log.new) (L.spent log.new))
         (Rose (O.faults out.old) (O.faults out.new) (O.spent out.new))
@@ -432,6 +571,7 @@ fn reduce_all<R: Reducer, D: Disk, L: Source, O: Sink>(
 {
     stops_stay();
     Store::<D>::saves_lawfully();
+    Store::<D>::lacks_lawfully();
     let _taken = take(session, log, u64::MAX)?;
     let _settled = settle_all(session)?;
     write_stat(session.alloc, &mut session.engine, out)
@@ -469,6 +609,17 @@ fn watch_on<R: Reducer, D: Disk, L: Source, Q: Source, O: Sink>(
         limits.now R.mode (D.state session.old.engine.joined.keep.disk)
         (D.state session.new.engine.joined.keep.disk) (L.left log.old) (L.left log.new)
         (Q.left questions.old) (O.written out.old) (O.written out.new) (over_run result) }
+    ensures heard { HearsOut (IsReopened D.state R.mode limits.now session.old.engine)
+        limits.now R.mode (L.left log.old) (Q.left questions.old) (Q.left questions.new)
+        (over_run result) }
+    ensures lacks { LacksIn false (AreTold (Q.left questions.old))
+        (IsReopened D.state R.mode limits.now session.old.engine) limits.now R.mode (D.state session.new.engine.joined.keep.disk)
+        (L.left log.old) (L.left log.new) session.old.batch (over_run result) }
+    ensures adds { (asked : List ℕ) → Q.left questions.old ≡ Some asked
+        → AddsIn false (IsReopened D.state R.mode limits.now session.old.engine) limits.now
+        (D.state session.old.engine.joined.keep.disk)
+        (D.state session.new.engine.joined.keep.disk) (L.left log.old) (L.left log.new)
+        session.old.unsaved session.old.batch (settles (asks limits.now (lines_in asked)) + 1) }
     ensures causes { IfErr result (HasCauses
         (Rose (L.faults log.old) (L.faults log.new) (L.spent log.new)
         ⊎ Rose (Q.faults questions.old) (Q.faults questions.new) (Q.spent questions.new))
@@ -479,7 +630,12 @@ fn watch_on<R: Reducer, D: Disk, L: Source, Q: Source, O: Sink>(
         session.old.engine.joined.keep session.new.engine.joined.keep }
 {
     what_is_saved_stays_saved::<D>();
+    a_disk_reads_in_one_way();
+    payloads_are_apart();
     Store::<D>::saves_lawfully();
+    Store::<D>::lacks_lawfully();
+    stops_stay();
+    what_fits_never_stops();
     session.engine.new_part();
     watch(session, true, limits, log, questions, out)?;
     Store::save(&mut session.engine)
@@ -495,8 +651,14 @@ pub fn query<D: Disk, Q: Source, O: Sink>(
     disk: D,
 ) -> Ran<D>
     ensures run { IsQueryRun (λ kept h. (part : ℕ) × StoodAt D.state limits.now kept disk h part)
-        limits.now (Q.left questions.old) (O.written out.old) (O.written out.new) result.outcome }
+        limits.now (Q.left questions.old) (Q.left questions.new) (O.written out.old)
+        (O.written out.new) result.outcome }
     ensures looks { OnlyLooks (D.state disk) (D.state result.disk) }
+    ensures refused { IsRefusal result.outcome
+        → (questions.new ≡ questions.old) × (out.new ≡ out.old) }
+    ensures always { AlwaysRefuses limits.now (D.state disk) None
+        (store_status result.outcome) }
+    ensures no_batch { RefusesNoBatch limits.now (D.state disk) (store_status result.outcome) }
     ensures causes { IfErr result.outcome (HasStoreCauses
         (Rose (Q.faults questions.old) (Q.faults questions.new) (Q.spent questions.new))
         (Rose (O.faults out.old) (O.faults out.new) (O.spent out.new))
@@ -506,6 +668,7 @@ pub fn query<D: Disk, Q: Source, O: Sink>(
     ensures uses { UsesDisk D.state D.faults D.spent disk result.disk
         (IsErrOf result.outcome (over.Run halt.StoreFault)) }
 {
+    a_store_reads_in_one_way();
     match Store::open_on(alloc, limits, None, disk) {
         Err(back) => Ran {
             outcome: Err(halt_of_open(back.fault)),
@@ -526,8 +689,13 @@ fn query_opened<D: Disk, Q: Source, O: Sink>(
     requires found { WasFound limits.now opened }
     requires can { CanCommit D.state opened.store }
     ensures run { IsQueryRun (λ kept h. (part : ℕ) × IsOpenAt D.state limits.now kept opened h part)
-        limits.now (Q.left questions.old) (O.written out.old) (O.written out.new) result.outcome }
+        limits.now (Q.left questions.old) (Q.left questions.new) (O.written out.old)
+        (O.written out.new) result.outcome }
     ensures same { result.disk ≡ opened.store.disk }
+    ensures refused { IsRefusal result.outcome
+        → (questions.new ≡ questions.old) × (out.new ≡ out.old) }
+    ensures unsound { RefusesUnsound limits.now opened (store_status result.outcome) }
+    ensures none { opened.mode ≡ None → result.outcome ≡ Err (over.BadStore 0) }
     ensures causes { IfErr result.outcome (HasStoreCauses
         (Rose (Q.faults questions.old) (Q.faults questions.new) (Q.spent questions.new))
         (Rose (O.faults out.old) (O.faults out.new) (O.spent out.new))
@@ -578,8 +746,12 @@ fn query_with<R: Reducer + Drop, D: Disk, Q: Source, O: Sink>(
     requires mode { opened.mode ≡ Some R.mode }
     requires can { CanCommit D.state opened.store }
     ensures run { IsQueryRun (λ kept h. (part : ℕ) × IsOpenAt D.state limits.now kept opened h part)
-        limits.now (Q.left questions.old) (O.written out.old) (O.written out.new) result.outcome }
+        limits.now (Q.left questions.old) (Q.left questions.new) (O.written out.old)
+        (O.written out.new) result.outcome }
     ensures same { result.disk ≡ opened.store.disk }
+    ensures refused { IsRefusal result.outcome
+        → (questions.new ≡ questions.old) × (out.new ≡ out.old) }
+    ensures unsound { RefusesUnsound limits.now opened (store_status result.outcome) }
     ensures causes { IfErr result.outcome (HasStoreCauses
         (Rose (Q.faults questions.old) (Q.faults questions.new) (Q.spent questions.new))
         (Rose (O.faults out.old) (O.faults out.new) (O.spent out.new))
@@ -610,8 +782,8 @@ fn query_engine<R: Reducer + Drop, D: Disk, Q: Source, O: Sink>(
     ensures queried { (h : History) (before : ℕ) (asked : List ℕ)
         → IsReopened D.state R.mode limits.now engine h before
         → Q.left questions.old ≡ Some asked
-        → IsQueried limits.now R.mode h asked (O.written out.old) (O.written out.new)
-        result.outcome }
+        → IsQueried limits.now R.mode h asked (Q.left questions.new) (O.written out.old)
+        (O.written out.new) result.outcome }
     ensures same { result.disk ≡ engine.joined.keep.disk }
     ensures causes { IfErr result.outcome (HasStoreCauses
         (Rose (Q.faults questions.old) (Q.faults questions.new) (Q.spent questions.new))
@@ -629,6 +801,8 @@ fn query_engine<R: Reducer + Drop, D: Disk, Q: Source, O: Sink>(
         }
     };
     what_is_saved_stays_saved::<D>();
+    stops_stay();
+    what_fits_never_stops();
     let mut log = CleanSource::new(Bytes::new(alloc));
     let mut session = Session {
         alloc,

@@ -102,7 +102,7 @@ pub fn words_of(rt: &HostRuntime, line: &str) -> Result<Vec<String>, Fail> {
     Ok(words)
 }
 
-// These texts, one behind the other.
+// These texts, one after the other.
 pub fn joined(rt: &HostRuntime, parts: &[&[u8]]) -> Result<Bytes, Fail> {
     let mut bytes = Bytes::new(rt.alloc());
     for part in parts {
@@ -122,14 +122,14 @@ pub fn calls(rt: &HostRuntime, numbers: &[u64]) -> Result<List<u64>, Fail> {
 
 // The calls that fail, by their numbers.
 #[derive(Clone, Copy)]
-struct Fails<'a> {
-    log: &'a [u64],
-    questions: &'a [u64],
-    out: &'a [u64],
+pub struct Fails<'a> {
+    pub log: &'a [u64],
+    pub questions: &'a [u64],
+    pub out: &'a [u64],
 }
 
-// How a run ends, and what it writes, where these calls fail.
-fn run_with(
+// How a run ends, and what it writes, if these calls fail.
+pub fn run_with(
     rt: &HostRuntime,
     limits: &Limits,
     words: &str,
@@ -602,129 +602,6 @@ fn a_trial_writes_a_line_for_each_mode(rt: HostRuntime) -> Result<(), Fail> {
         assert_eq!(rt; ended, status);
         assert_eq!(rt; written.as_slice(), text);
     }
-    Ok(())
-}
-
-#[test]
-fn a_failing_device_is_named_and_nothing_false_is_written(rt: HostRuntime) -> Result<(), Fail> {
-    let none = [].as_slice();
-    let first = [0u64].as_slice();
-    let second = [1u64].as_slice();
-    let taken = b"{\"take\":279}\n".as_slice();
-    let rows = [
-        (
-            "back 2",
-            Fails {
-                log: first,
-                questions: none,
-                out: none,
-            },
-            Status::ReadFault,
-            NOTHING,
-        ),
-        (
-            "back 2",
-            Fails {
-                log: second,
-                questions: none,
-                out: none,
-            },
-            Status::ReadFault,
-            NOTHING,
-        ),
-        (
-            "back 2",
-            Fails {
-                log: none,
-                questions: none,
-                out: first,
-            },
-            Status::WriteFault,
-            NOTHING,
-        ),
-        (
-            "back 2",
-            Fails {
-                log: none,
-                questions: first,
-                out: second,
-            },
-            Status::Done,
-            REACHED,
-        ),
-        (
-            "watch plain log",
-            Fails {
-                log: first,
-                questions: none,
-                out: none,
-            },
-            Status::ReadFault,
-            NOTHING,
-        ),
-        (
-            "watch plain log",
-            Fails {
-                log: none,
-                questions: first,
-                out: none,
-            },
-            Status::ReadFault,
-            NOTHING,
-        ),
-        (
-            "watch plain log",
-            Fails {
-                log: none,
-                questions: second,
-                out: none,
-            },
-            Status::ReadFault,
-            taken,
-        ),
-        (
-            "watch plain log",
-            Fails {
-                log: none,
-                questions: none,
-                out: first,
-            },
-            Status::WriteFault,
-            NOTHING,
-        ),
-    ];
-    for (words, fails, status, text) in rows {
-        let log = joined(&rt, &[FORK, WRITE, FEED])?;
-        let asked = Bytes::from_slice(rt.alloc(), b"take 999\n".as_slice())?;
-        let (ended, written) = run_with(&rt, &Limits::standard(), words, log, asked, fails)?;
-        assert_eq!(rt; ended, status, "{words}");
-        assert_eq!(rt; written.as_slice(), text, "{words}");
-    }
-    Ok(())
-}
-
-#[test]
-fn a_log_that_is_not_asked_for_is_not_read(rt: HostRuntime) -> Result<(), Fail> {
-    let fails = Fails {
-        log: &[0],
-        questions: &[],
-        out: &[],
-    };
-    let log = joined(&rt, &[FORK])?;
-    let asked = Bytes::from_slice(rt.alloc(), b"take 0\nend\n".as_slice())?;
-    let (ended, written) = run_with(
-        &rt,
-        &Limits::standard(),
-        "watch plain log",
-        log,
-        asked,
-        fails,
-    )?;
-    assert_eq!(rt; ended, Status::Done);
-    assert_eq!(rt;
-        written.as_slice(),
-        b"{\"take\":0}\n{\"end\":true}\n".as_slice()
-    );
     Ok(())
 }
 

@@ -1,5 +1,5 @@
 //! One question and its reply.
-ghost use Rattle.std.specs.Prelude.{false, Bool, ◌≡◌, ◌∷◌, ◌++◌, [], ℕ, List, length, take, Some, Option, IfOk, IfErr, OnOk, OnErr};
+ghost use Rattle.std.specs.Prelude.{false, Bool, ◌+◌, ◌*◌, ◌≡◌, ◌∷◌, ◌++◌, [], ℕ, List, length, take, Some, Option, IfOk, IfErr, OnOk, OnErr};
 ghost use Rattle.std.specs.Io.KnownBytes.{Appends};
 ghost use Rattle.flow_base.specs.declared.limits.Limits.{Limits};
 ghost use Rattle.outside.specs.Cause.{Rose};
@@ -15,8 +15,9 @@ ghost use Rattle.ingest.specs.StandsFor.{StandsFor};
 ghost use Rattle.ingest.specs.Stops.{Stops};
 ghost use Rattle.audit_cli.specs.declared.halt.Halt.TheVariants as halt;
 ghost use Rattle.audit_cli.specs.Dialogue.{Moment, after, Answers, asked, turn_of, nothing_beyond};
-ghost use Rattle.audit_cli.specs.Saves.{CutShort, Start};
-ghost use Rattle.audit_cli.specs.Course.{At, kind_of, GoesUp, HasCauses, IsDue, Talked, never};
+ghost use Rattle.audit_cli.specs.Settles.{is_settle};
+ghost use Rattle.audit_cli.specs.Saves.{CutShort, KeepsPace, Start, lack_of};
+ghost use Rattle.audit_cli.specs.Course.{At, kind_of, GoesUp, HasCauses, IsDue, Talked, never, when_takes};
 
 use crate::halt::{Halt, Turn, halt_of};
 use crate::saving::{Saves, settle_all, take};
@@ -111,9 +112,26 @@ pub fn answer<R: Reducer, K: Saves, L: Source>(
     ensures ends { (start : Start K) (limits : Limits) (m : Moment)
         → At (kind_of R.mode takes (K.holds start limits)) limits session.old.engine (L.left log.old) m
         → IfErr result (K.ends start limits session.new.engine.joined.keep (after question.now m)) }
+    ensures lacks { (start : Start K) (limits : Limits) (m : Moment)
+        → At (kind_of R.mode takes (K.holds start limits)) limits session.old.engine
+        (L.left log.old) m
+        → K.lacks start limits R.mode session.old.engine.joined.keep (L.left log.old)
+        session.old.unsaved
+        → K.lacks start limits R.mode session.new.engine.joined.keep (L.left log.new)
+        (lack_of result session.new.unsaved session.old.batch) }
+    ensures adds { (start : Start K) (limits : Limits) (m : Moment) (most : ℕ)
+        → At (kind_of R.mode takes (K.holds start limits)) limits session.old.engine
+        (L.left log.old) m
+        → KeepsPace (K.adds start limits) session.old.batch session.old.engine.joined.keep
+        session.old.unsaved (L.left log.old) most
+        → KeepsPace (K.adds start limits) session.old.batch session.new.engine.joined.keep
+        (lack_of result session.new.unsaved 0) (L.left log.new)
+        (most + is_settle question.now * session.old.batch) }
+    ensures batch { session.new.batch ≡ session.old.batch }
     ensures causes { IfErr result
         (HasCauses (Rose (L.faults log.old) (L.faults log.new) (L.spent log.new)) ⊥
-        (K.rose session.old.engine.joined.keep session.new.engine.joined.keep) K.limited) }
+        (K.rose session.old.engine.joined.keep session.new.engine.joined.keep)
+        (when_takes takes K.limited)) }
     ensures counts { GoesUp
         (L.faults log.old) (L.faults log.new) (L.spent log.old) (L.spent log.new) }
     ensures uses { K.uses session.old.engine.joined.keep session.new.engine.joined.keep }
@@ -121,6 +139,8 @@ pub fn answer<R: Reducer, K: Saves, L: Source>(
         → K.alike session.old.engine.joined.keep session.new.engine.joined.keep }
 {
     K::saves_lawfully();
+    K::lacks_lawfully();
+    K::adds_lawfully();
     match question {
         None => Ok(Reply::BadQuestion),
         Some(Ask::Take(most)) if takes => {
@@ -181,10 +201,27 @@ pub fn take_turn<R: Reducer, K: Saves, L: Source, O: Sink>(
     ensures ends { (start : Start K) (limits : Limits) (m : Moment)
         → At (kind_of R.mode takes (K.holds start limits)) limits session.old.engine (L.left log.old) m
         → IfErr result (CutShort (K.ends start limits) R.mode session.new.engine.joined.keep) }
+    ensures lacks { (start : Start K) (limits : Limits) (m : Moment)
+        → At (kind_of R.mode takes (K.holds start limits)) limits session.old.engine
+        (L.left log.old) m
+        → K.lacks start limits R.mode session.old.engine.joined.keep (L.left log.old)
+        session.old.unsaved
+        → K.lacks start limits R.mode session.new.engine.joined.keep (L.left log.new)
+        (lack_of result session.new.unsaved session.old.batch) }
+    ensures adds { (start : Start K) (limits : Limits) (m : Moment) (most : ℕ)
+        → At (kind_of R.mode takes (K.holds start limits)) limits session.old.engine
+        (L.left log.old) m
+        → KeepsPace (K.adds start limits) session.old.batch session.old.engine.joined.keep
+        session.old.unsaved (L.left log.old) most
+        → KeepsPace (K.adds start limits) session.old.batch session.new.engine.joined.keep
+        (lack_of result session.new.unsaved 0) (L.left log.new)
+        (most + is_settle question.now * session.old.batch) }
+    ensures batch { session.new.batch ≡ session.old.batch }
     ensures causes { IfErr result (HasCauses
         (Rose (L.faults log.old) (L.faults log.new) (L.spent log.new))
         (Rose (O.faults out.old) (O.faults out.new) (O.spent out.new))
-        (K.rose session.old.engine.joined.keep session.new.engine.joined.keep) K.limited) }
+        (K.rose session.old.engine.joined.keep session.new.engine.joined.keep)
+        (when_takes takes K.limited)) }
     ensures log { GoesUp (L.faults log.old) (L.faults log.new) (L.spent log.old) (L.spent log.new) }
     ensures out { GoesUp (O.faults out.old) (O.faults out.new) (O.spent out.old) (O.spent out.new) }
     ensures uses { K.uses session.old.engine.joined.keep session.new.engine.joined.keep }
@@ -192,6 +229,7 @@ pub fn take_turn<R: Reducer, K: Saves, L: Source, O: Sink>(
         → K.alike session.old.engine.joined.keep session.new.engine.joined.keep }
 {
     K::saves_lawfully();
+    K::lacks_lawfully();
     let reply = answer(session, takes, log, question)?;
     say(session.alloc, out, &reply)?;
     Ok(turn_after(question))

@@ -1,11 +1,12 @@
-use Rattle.std.proofs.Common.{false, ◌≡◌, length, take, ◌+◌, ◌-◌, ◌≤◌, Ok}
+use Rattle.std.proofs.Common.{false, ◌≡◌, ◌*◌, ℕ, length, take, ◌+◌, ◌-◌, ◌≤◌, Ok}
 use Rattle.flow_base.specs.declared.limits.Limits.{Limits}
 use Rattle.audit_lex.specs.History.{History}
 use Rattle.audit_cli.specs.declared.halt.Turn.TheVariants as turn
 use Rattle.audit_cli.specs.Dialogue.{Moment, nothing_beyond}
 use Rattle.audit_cli.specs.Course.{kind_of, At, GoesUp}
 use Rattle.audit_cli.specs.Hearing.{Holds, Heard}
-use Rattle.audit_cli.specs.Saves.{Start}
+use Rattle.audit_cli.specs.Settles.{settles_since}
+use Rattle.audit_cli.specs.Saves.{KeepsPace, Start}
 use Rattle.audit_cli.proofs.hear.hear.Given as goal
 
 -- the first `at` bytes were heard
@@ -18,6 +19,13 @@ invariant-loop-at g l =
       lines : l.cut.lines ≤ l.initial.cut.lines + l.at;
       heard : (start : Start g.row.K.Denot) (limits : Limits) (m : Moment) (h : History) → At (kind_of g.R.Reducer.mode l.takes (g.K.Saves.holds start limits)) limits l.initial.session.engine (source.left l.initial.log) m → Holds limits l.initial.cut h →
           Heard (kind_of g.R.Reducer.mode l.takes (g.K.Saves.holds start limits)) limits nothing_beyond l.cut l.session.engine (source.left l.log) (sink.written l.initial.out) (sink.written l.out) (Ok turn.More) m h (take l.at l.piece);
+      lacks : (start : Start g.row.K.Denot) (limits : Limits) (m : Moment) (h : History) → At (kind_of g.R.Reducer.mode l.takes (g.K.Saves.holds start limits)) limits l.initial.session.engine (source.left l.initial.log) m → Holds limits l.initial.cut h
+          → g.K.Saves.lacks start limits g.R.Reducer.mode l.initial.session.engine.joined.keep (source.left l.initial.log) l.initial.session.unsaved
+          → g.K.Saves.lacks start limits g.R.Reducer.mode l.session.engine.joined.keep (source.left l.log) l.session.unsaved;
+      adds : (start : Start g.row.K.Denot) (limits : Limits) (m : Moment) (h : History) (most : ℕ) → At (kind_of g.R.Reducer.mode l.takes (g.K.Saves.holds start limits)) limits l.initial.session.engine (source.left l.initial.log) m → Holds limits l.initial.cut h
+          → KeepsPace (g.K.Saves.adds start limits) l.initial.session.batch l.initial.session.engine.joined.keep l.initial.session.unsaved (source.left l.initial.log) most
+          → KeepsPace (g.K.Saves.adds start limits) l.initial.session.batch l.session.engine.joined.keep l.session.unsaved (source.left l.log) (most + settles_since limits h (take l.at l.piece) * l.initial.session.batch);
+      batch : l.session.batch ≡ l.initial.session.batch;
       can : g.K.Saves.can l.session.engine.joined.keep;
       uses : g.K.Saves.uses l.initial.session.engine.joined.keep l.session.engine.joined.keep;
       alike : l.takes ≡ false → g.K.Rows.alike l.initial.session.engine.joined.keep l.session.engine.joined.keep;

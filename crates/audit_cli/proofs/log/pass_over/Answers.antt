@@ -1,7 +1,8 @@
-use Rattle.std.proofs.Common.{rules, ◌≤◌, ◌<◌, length, drop, arith, sym, ap, ◌∙◌, Some}
+use Rattle.std.proofs.Common.{rules, ◌+◌, ◌≤◌, ◌<◌, length, drop, arith, sym, ap, ◌∙◌, Some}
 use Rattle.std.proofs.lemmas.List.{length-take, length-drop, drop-drop}
 use Rattle.std.proofs.Math.ListN.{drop_of_length-le}
 use Rattle.audit_cli.proofs.MomentLemmas.{at_end, told_read}
+use Rattle.audit_cli.proofs.LackLemmas.{kept_left, read_left}
 use Rattle.audit_cli.proofs.log.pass_over.Goals as goal
 
 pub returns-then-count-eq0-clause-passed : goal.returns-then-count-eq0-clause-passed
@@ -42,3 +43,16 @@ loop-passed-preserved g c =
           omega (arith, read.2, length-drop n bytes, c.loop-passed.invariant.part bytes told);
       counts = search rules;
     }
+
+pub returns-in-Err-clause-left : goal.returns-in-Err-clause-left
+returns-in-Err-clause-left g c = λ bytes told.
+    read_left c.loop-passed.passed c.args.most bytes _ c.loop-passed.invariant.within (kept_left _ _ (drop c.loop-passed.passed bytes) (c.loop-passed.invariant.left bytes told) c.in-Err.ensures.bytes)
+
+pub returns-then-count-eq0-clause-left : goal.returns-then-count-eq0-clause-left
+returns-then-count-eq0-clause-left g c = λ bytes told.
+    let n = c.loop-passed.passed in
+    let read = told_read _ _ (drop n bytes) _ c.in-Ok.count (c.loop-passed.invariant.left bytes told) c.in-Ok.ensures.bytes.0 (sym c.in-Ok.ensures.bound.1) in
+    read_left (n + c.in-Ok.count) c.args.most bytes _ (omega (arith, c.if-count-eq0.true, c.loop-passed.invariant.within)) (read.0 ∙ ap Some (drop-drop c.in-Ok.count n bytes))
+
+pub returns-clause-left : goal.returns-clause-left
+returns-clause-left g c = λ bytes told. read_left c.loop-passed.passed c.args.most bytes _ c.loop-passed.invariant.within (c.loop-passed.invariant.left bytes told)

@@ -5,6 +5,7 @@ use Rattle.ingest.specs.Stops.{Stops}
 use Rattle.audit_cli.specs.Dialogue.{Moment, taken_on}
 use Rattle.audit_cli.specs.Course.{StandsAt}
 use Rattle.audit_cli.proofs.MomentLemmas.{counted_on, take_both, take_all, take_none, due_weaker, stop_later, left_none}
+use Rattle.audit_cli.proofs.LackLemmas.{left_all, left_both, left_more}
 use Rattle.audit_cli.proofs.log.take_log.Goals as goal
 
 pub returns-in_err-taken-clause-due : goal.returns-in_err-taken-clause-due
@@ -51,6 +52,7 @@ loop-count-preserved g c =
       part = λ limits m h.
           let here = c.loop-count.invariant.at limits m h in
           omega (arith, (c.in_ok-taken.ensures.some limits _ here).within, c.loop-count.invariant.part limits m h, length-drop count m.log);
+      left = λ bytes told. left_both count taken bytes _ _ (c.loop-count.invariant.left bytes told) (c.in_ok-taken.ensures.left (c.loop-count.invariant.left bytes told).rest);
       counted = λ room. counted_on c.args.engine.now.part _ _ count taken room c.loop-count.invariant.counted c.in_ok-taken.ensures.part;
       alike = g.met.K.Rows.goes_along.next _ _ _ c.loop-count.invariant.alike c.take_piece.ensures.alike;
       marked = c.take_piece.ensures.marked ∙ c.loop-count.invariant.marked;
@@ -81,8 +83,29 @@ loop-count-init g c = record {
   within = omega arith;
   at = λ limits m h. subst (λ (x : Moment). StandsAt limits c.args.engine.now (g.L.Source.left c.args.log.now) x) (sym (take_none m)) h;
   part = λ limits m h. omega arith;
+  left = λ bytes told. left_all 0 bytes _ told;
   counted = λ room. omega arith;
   alike = g.met.K.Rows.goes_along.same c.args.engine.now.joined.keep;
   marked = refl;
   counts = search rules;
 }
+
+pub returns-in_err-taken-clause-left : goal.returns-in_err-taken-clause-left
+returns-in_err-taken-clause-left g c = λ bytes told.
+    let count = c.loop-count.count in
+    let before = c.loop-count.invariant.left bytes told in
+    let room = length (take c.min-room.result c.loop-count.buf) in
+    let small = length-take c.min-room.result c.loop-count.buf in
+    let within : count + room ≤ c.args.most = omega arith in
+    let p = err_from_is_err_and c.from_residual.result c.from_residual.ensures.1 in
+    rw p.1 (left_more (count + room) c.args.most bytes _ within (left_both count room bytes _ _ before (c.in_err-taken.ensures.left before.rest)))
+
+pub returns-then-taken-eq0-clause-left : goal.returns-then-taken-eq0-clause-left
+returns-then-taken-eq0-clause-left g c = λ bytes told.
+    let count = c.loop-count.count in
+    let before = c.loop-count.invariant.left bytes told in
+    let none = c.if-taken-eq0.true in
+    left_more (count + c.in_ok-taken.taken) count bytes _ (omega (arith, none)) (left_both count c.in_ok-taken.taken bytes _ _ before (c.in_ok-taken.ensures.left before.rest))
+
+pub returns-clause-left : goal.returns-clause-left
+returns-clause-left g c = c.loop-count.invariant.left

@@ -1,7 +1,8 @@
-use Rattle.std.proofs.Common.{length, ◌-◌, ◌≤◌, ◌≡◌}
+use Rattle.std.proofs.Common.{ℕ, List, Some, length, ◌-◌, ◌≤◌, ◌≡◌}
 use Rattle.flow_base.specs.declared.limits.Limits.{Limits}
 use Rattle.audit_cli.specs.Dialogue.{Moment, taken_on}
 use Rattle.audit_cli.specs.Course.{CountsOn, GoesUp, StandsAt}
+use Rattle.audit_cli.specs.Saves.{LeavesAllBut}
 use Rattle.audit_cli.proofs.log.take_log.Given as goal
 
 -- the first `count` bytes were taken
@@ -12,6 +13,7 @@ invariant-loop-count g l =
       within : l.count ≤ l.most;
       at : (limits : Limits) (m : Moment) → StandsAt limits l.initial.engine (source.left l.initial.log) m → StandsAt limits l.engine (source.left l.log) (taken_on l.count m);
       part : (limits : Limits) (m : Moment) → StandsAt limits l.initial.engine (source.left l.initial.log) m → l.count ≤ length m.log;
+      left : (bytes : List ℕ) → source.left l.initial.log ≡ Some bytes → LeavesAllBut l.count bytes (source.left l.log);
       counted : CountsOn l.initial.engine.part l.engine.part l.count;
       alike : g.K.Rows.alike l.initial.engine.joined.keep l.engine.joined.keep;
       marked : l.engine.joined.tables.marked ≡ l.initial.engine.joined.tables.marked;

@@ -41,3 +41,33 @@ returns-clause-reduces g c = (c.standard_limits-limits.result, c.standard_limits
 
 pub returns-clause-watches : goal.returns-clause-watches
 returns-clause-watches g c = (c.standard_limits-limits.result, c.standard_limits-limits.ensures, c.audit_run.ensures.watches)
+
+pub returns-clause-reduce_lacks : goal.returns-clause-reduce_lacks
+returns-clause-reduce_lacks g c = (c.standard_limits-limits.result, c.standard_limits-limits.ensures, c.audit_run.ensures.reduce_lacks)
+
+pub returns-clause-watch_lacks : goal.returns-clause-watch_lacks
+returns-clause-watch_lacks g c = (c.standard_limits-limits.result, c.standard_limits-limits.ensures, c.audit_run.ensures.watch_lacks)
+
+pub returns-clause-always_refused : goal.returns-clause-always_refused
+returns-clause-always_refused g c = (c.standard_limits-limits.result, c.standard_limits-limits.ensures, c.audit_run.ensures.always_refused)
+
+pub returns-clause-always_unwatched : goal.returns-clause-always_unwatched
+returns-clause-always_unwatched g c = (c.standard_limits-limits.result, c.standard_limits-limits.ensures, c.audit_run.ensures.always_unwatched)
+
+pub returns-clause-always_unanswered : goal.returns-clause-always_unanswered
+returns-clause-always_unanswered g c = (c.standard_limits-limits.result, c.standard_limits-limits.ensures, c.audit_run.ensures.always_unanswered)
+
+pub returns-clause-no_batch : goal.returns-clause-no_batch
+returns-clause-no_batch g c = (c.standard_limits-limits.result, c.standard_limits-limits.ensures, c.audit_run.ensures.no_batch)
+
+pub returns-clause-answers : goal.returns-clause-answers
+returns-clause-answers g c = (c.standard_limits-limits.result, c.standard_limits-limits.ensures, c.audit_run.ensures.answers)
+
+pub returns-clause-heard : goal.returns-clause-heard
+returns-clause-heard g c = (c.standard_limits-limits.result, c.standard_limits-limits.ensures, c.audit_run.ensures.heard)
+
+pub returns-clause-reduce_adds : goal.returns-clause-reduce_adds
+returns-clause-reduce_adds g c = (c.standard_limits-limits.result, c.standard_limits-limits.ensures, c.audit_run.ensures.reduce_adds)
+
+pub returns-clause-watch_adds : goal.returns-clause-watch_adds
+returns-clause-watch_adds g c = (c.standard_limits-limits.result, c.standard_limits-limits.ensures, c.audit_run.ensures.watch_adds)

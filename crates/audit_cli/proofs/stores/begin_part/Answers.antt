@@ -1,4 +1,6 @@
+use Rattle.std.proofs.Common.{◌∙◌}
 use Rattle.audit_cli.proofs.StoreRuns.{at_new_part, begun_on, enough_on, short_on}
+use Rattle.audit_cli.proofs.LackLemmas.{left_all, left_passed}
 use Rattle.audit_cli.proofs.stores.begin_part.Goals as goal
 
 pub returns-then-resume-clause-begun : goal.returns-then-resume-clause-begun
@@ -21,3 +23,13 @@ returns-clause-begun g c = λ limits h before bytes x told.
 
 pub returns-clause-enough : goal.returns-clause-enough
 returns-clause-enough g c = λ limits h before bytes x told. rw c.if-resume.false tt
+
+pub returns-then-resume-clause-left : goal.returns-then-resume-clause-left
+returns-then-resume-clause-left g c = λ limits h before bytes x told.
+    rw c.if-resume.true (left_passed c.part_taken-taken.result before bytes _ (c.part_taken-taken.ensures ∙ x.stands.has_part.counted) (c.go_on.ensures.left bytes told))
+
+pub returns-clause-left : goal.returns-clause-left
+returns-clause-left g c = λ limits h before bytes x told. left_all _ bytes _ told
+
+pub returns-then-resume-clause-causes : goal.returns-then-resume-clause-causes
+returns-then-resume-clause-causes g c = rw c.if-resume.true c.go_on.ensures.causes

@@ -1,16 +1,19 @@
-use Rattle.std.proofs.Common.{◌≡◌, ◌∙◌, ap, Some, subst}
+use Rattle.std.proofs.Common.{◌≡◌, ◌∙◌, ◌+◌, ℕ, ap, arith, Some, subst, sym}
+use Rattle.reduced_store.specs.OnDisk.{SameBut}
 use Rattle.std.proofs.lemmas.Result.{err_from_is_err_and}
 use Rattle.std.proofs.Math.ListN.{drop_of_length-le}
 use Rattle.audit_lex.specs.History.{History}
 use Rattle.ingest.specs.StandsFor.{StandsFor}
 use Rattle.ingest.specs.Stops.{Stops}
 use Rattle.audit_cli.specs.Dialogue.{Moment, settled_on, taken_on}
-use Rattle.audit_cli.specs.Saves.{IsAllPutAway, IsCutShort, IsPutAway}
+use Rattle.audit_cli.specs.Saves.{AddsToStore, IsAllPutAway, IsCutShort, IsPutAway, KeepsPace, LacksInStore}
 use Rattle.audit_cli.specs.Stores.{settled_all}
+use Rattle.audit_cli.proofs.AddLemmas.{adds_lawfully, pace_at, pace_on}
 use Rattle.audit_cli.proofs.HearLemmas.{on_ok}
 use Rattle.audit_cli.proofs.MomentLemmas.{due_weaker}
 use Rattle.audit_cli.proofs.SaveLemmas.{all_alike, all_of, away_leaves, cut_leaves, cut_passes, cut_within, log_fits, never_named, taken_whole}
 use Rattle.audit_cli.proofs.StoreLemmas.{front_none, never_due, stops_whole}
+use Rattle.audit_cli.proofs.LackLemmas.{lacks_if}
 use Rattle.audit_cli.proofs.stores.reduce_all.Goals as goal
 
 pub returns-in_err-_taken-clause-leaves : goal.returns-in_err-_taken-clause-leaves
@@ -105,3 +108,51 @@ returns-clause-front g c = λ start limits m at.
 
 pub returns-clause-due : goal.returns-clause-due
 returns-clause-due g c = λ start limits m at. never_due c.write_stat.result (Stops limits (settled_all m).history) c.write_stat.ensures.due
+
+pub returns-in_err-_taken-clause-lacks : goal.returns-in_err-_taken-clause-lacks
+returns-in_err-_taken-clause-lacks g c = λ start limits m at was.
+    let p = err_from_is_err_and c.from_residual.result c.from_residual.ensures.1 in
+    rw p.1 (c.in_err-_taken.ensures.lacks _ start limits m at was)
+
+pub returns-in_err-_settled-clause-lacks : goal.returns-in_err-_settled-clause-lacks
+returns-in_err-_settled-clause-lacks g c = λ start limits m at was.
+    let p = err_from_is_err_and c.from_residual-in_err-_settled.result c.from_residual-in_err-_settled.ensures.1 in
+    let taken = c.in_ok-_taken.ensures.took _ start limits m at in
+    let lacks = c.in_err-_settled.ensures.lacks _ start limits _ (taken_on all_of m) taken (c.in_ok-_taken.ensures.lacks _ start limits m at was) in
+    rw (p.1, ← c.take.ensures.batch) lacks
+
+pub returns-clause-lacks : goal.returns-clause-lacks
+returns-clause-lacks g c = λ start limits m at was.
+    let taken = c.in_ok-_taken.ensures.took _ start limits m at in
+    let session = c.settle_all.new.session in
+    let few = session.few in
+    let batch = c.settle_all.ensures.batch in
+    let batch2 = c.take.ensures.batch in
+    lacks_if SameBut (LacksInStore g.D.Disk.state) c.lacks_lawfully.ensures start limits g.R.Reducer.mode session.engine.joined.keep c.write_stat.new.engine.joined.keep _ c.write_stat.result session.unsaved c.args.session.now.batch
+    c.write_stat.ensures.alike (omega (arith, few, batch, batch2)) (c.in_ok-_settled.ensures.lacks _ start limits _ (taken_on all_of m) taken (c.in_ok-_taken.ensures.lacks _ start limits m at was))
+
+pub returns-in_err-_taken-clause-adds : goal.returns-in_err-_taken-clause-adds
+returns-in_err-_taken-clause-adds g c = λ start limits m most at pace.
+    let keep = c.take.new.session.engine.joined.keep in
+    pace_on (AddsToStore g.D.Disk.state start limits) c.args.session.now.batch keep keep 0 0 (g.L.Source.left c.take.new.log) most (most + c.args.session.now.batch) (λ n so. so) (omega arith) (omega arith)
+    (c.in_err-_taken.ensures.adds _ start limits m most at pace)
+
+pub returns-in_err-_settled-clause-adds : goal.returns-in_err-_settled-clause-adds
+returns-in_err-_settled-clause-adds g c = λ start limits m most at pace.
+    let adds = AddsToStore g.D.Disk.state start limits in
+    let batch = c.args.session.now.batch in
+    let taken = c.in_ok-_taken.ensures.took _ start limits m at in
+    let before = pace_at adds batch c.take.new.session.batch c.take.new.session.engine.joined.keep c.take.new.session.unsaved (g.L.Source.left c.take.new.log) most (sym c.take.ensures.batch) (c.in_ok-_taken.ensures.adds _ start limits m most at pace) in
+    subst (λ (b : ℕ). KeepsPace adds b c.settle_all.new.session.engine.joined.keep 0 (g.L.Source.left c.take.new.log) (most + b)) c.take.ensures.batch (c.in_err-_settled.ensures.adds _ start limits _ (taken_on all_of m) most taken before)
+
+pub returns-clause-adds : goal.returns-clause-adds
+returns-clause-adds g c = λ start limits m most at pace.
+    let adds = AddsToStore g.D.Disk.state start limits in
+    let batch = c.args.session.now.batch in
+    let taken = c.in_ok-_taken.ensures.took _ start limits m at in
+    let before = pace_at adds batch c.take.new.session.batch c.take.new.session.engine.joined.keep c.take.new.session.unsaved (g.L.Source.left c.take.new.log) most (sym c.take.ensures.batch) (c.in_ok-_taken.ensures.adds _ start limits m most at pace) in
+    let rows = c.settle_all.new.session.engine.joined.keep in
+    let unsaved = c.settle_all.new.session.unsaved in
+    let settled = subst (λ (b : ℕ). KeepsPace adds b rows unsaved (g.L.Source.left c.take.new.log) (most + b)) c.take.ensures.batch (c.in_ok-_settled.ensures.adds _ start limits _ (taken_on all_of m) most taken before) in
+    pace_on adds batch rows c.write_stat.new.engine.joined.keep unsaved 0 (g.L.Source.left c.take.new.log) (most + batch) (most + batch) (λ n so. adds_lawfully g.D.Disk.state start limits rows c.write_stat.new.engine.joined.keep n c.write_stat.ensures.alike so)
+    (omega arith) (omega arith) settled

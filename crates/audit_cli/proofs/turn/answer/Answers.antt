@@ -1,4 +1,4 @@
-use Rattle.std.proofs.Common.{rules, true, ◌≡◌, sym, ◌∙◌, ap, subst, Some, Option}
+use Rattle.std.proofs.Common.{rules, true, ◌≡◌, ◌+◌, ◌*◌, ℕ, arith, sym, ◌∙◌, ap, subst, Some, Option}
 use Rattle.report_json.specs.declared.ask.Ask.{Ask}
 use Rattle.report_json.specs.declared.ask.Ask.TheVariants as ask
 use Rattle.std.proofs.lemmas.Result.{err_from_is_err_and}
@@ -6,11 +6,15 @@ use Rattle.report_json.specs.declared.reply.Reply.TheVariants as reply
 use Rattle.ingest.specs.Parts.{Engine}
 use Rattle.ingest.specs.Replies.{IsQuestion}
 use Rattle.ingest.specs.Stops.{Stops}
+use Rattle.audit_cli.specs.Settles.{is_settle}
 use Rattle.audit_cli.specs.Dialogue.{Moment, after, Answers}
+use Rattle.audit_cli.specs.Saves.{KeepsPace, lack_of}
 use Rattle.audit_cli.specs.Course.{At, IsDue, kind_of}
 use Rattle.audit_cli.proofs.MomentLemmas.{settle_said, settles_on, still, take_said, takes_on, engine_reply, memory_due}
 use Rattle.audit_cli.proofs.HearLemmas.{on_ok}
-use Rattle.audit_cli.proofs.SaveLemmas.{ends_memory}
+use Rattle.audit_cli.proofs.SaveLemmas.{causes_on, ends_memory}
+use Rattle.audit_cli.proofs.AddLemmas.{pace_free, pace_halted, pace_still}
+use Rattle.audit_cli.proofs.LackLemmas.{lacks_still}
 use Rattle.audit_cli.proofs.turn.answer.Goals as goal
 
 pub returns-in-None-clause-uses : goal.returns-in-None-clause-uses
@@ -117,3 +121,64 @@ returns-in-Some-clause-answers g c = λ start limits m h.
 
 pub returns-in-Some-clause-due : goal.returns-in-Some-clause-due
 returns-in-Some-clause-due g c = λ start limits m h. memory_due c.reply_of.result _ c.reply_of.ensures.memory
+
+pub returns-in_err-count-in-Some-Take-clause-lacks : goal.returns-in_err-count-in-Some-Take-clause-lacks
+returns-in_err-count-in-Some-Take-clause-lacks g c = λ start limits m h was.
+    let p = err_from_is_err_and c.from_residual.result c.from_residual.ensures.1 in
+    rw p.1 (c.in_err-count-in-Some-Take.ensures.lacks c.args.takes start limits m h was)
+
+pub returns-in_ok-count-in-Some-Take-clause-lacks : goal.returns-in_ok-count-in-Some-Take-clause-lacks
+returns-in_ok-count-in-Some-Take-clause-lacks g c = λ start limits m h was. c.in_ok-count-in-Some-Take.ensures.lacks c.args.takes start limits m h was
+
+pub returns-in-Some-Settle-clause-lacks : goal.returns-in-Some-Settle-clause-lacks
+returns-in-Some-Settle-clause-lacks g c = λ start limits m h was. c.settle_all.ensures.lacks c.args.takes start limits _ m h was
+
+pub returns-in-Some-clause-lacks : goal.returns-in-Some-clause-lacks
+returns-in-Some-clause-lacks g c = λ start limits m h was.
+    lacks_still g.K.Rows.alike g.K.Saves.lacks c.lacks_lawfully.ensures start limits g.R.Reducer.mode c.args.session.now.engine.joined.keep c.reply_of.new.engine.joined.keep _ c.reply_of.result c.args.session.now.unsaved
+    c.args.session.now.batch c.reply_of.ensures.alike c.args.session.now.few was
+
+pub returns-in_err-count-in-Some-Take-clause-causes : goal.returns-in_err-count-in-Some-Take-clause-causes
+returns-in_err-count-in-Some-Take-clause-causes g c =
+    let p = err_from_is_err_and c.from_residual.result c.from_residual.ensures.1 in
+    rw (p.1, p.2, c.if-takes.true) c.in_err-count-in-Some-Take.ensures.causes
+
+pub returns-in-Some-Settle-clause-causes : goal.returns-in-Some-Settle-clause-causes
+returns-in-Some-Settle-clause-causes g c = rw c.if-takes-2.true (causes_on _ _ _ _ _ _ _ c.settle_all.result (λ none. absurd none) (λ none. none) (λ store. store) c.settle_all.ensures.causes)
+
+pub returns-in-None-clause-adds : goal.returns-in-None-clause-adds
+returns-in-None-clause-adds g c = λ start limits m most h pace. pace_free (g.K.Saves.adds start limits) c.args.session.now.batch c.args.session.now.engine.joined.keep c.args.session.now.engine.joined.keep c.args.session.now.unsaved _ most _ (λ n so. so) pace
+
+pub returns-in-Some-Take-2-clause-adds : goal.returns-in-Some-Take-2-clause-adds
+returns-in-Some-Take-2-clause-adds g c = λ start limits m most h pace. pace_free (g.K.Saves.adds start limits) c.args.session.now.batch c.args.session.now.engine.joined.keep c.args.session.now.engine.joined.keep c.args.session.now.unsaved _ most _ (λ n so. so) pace
+
+pub returns-in-Some-Settle-2-clause-adds : goal.returns-in-Some-Settle-2-clause-adds
+returns-in-Some-Settle-2-clause-adds g c = λ start limits m most h pace. pace_free (g.K.Saves.adds start limits) c.args.session.now.batch c.args.session.now.engine.joined.keep c.args.session.now.engine.joined.keep c.args.session.now.unsaved _ most _ (λ n so. so) pace
+
+pub returns-in-Some-End-clause-adds : goal.returns-in-Some-End-clause-adds
+returns-in-Some-End-clause-adds g c = λ start limits m most h pace. pace_free (g.K.Saves.adds start limits) c.args.session.now.batch c.args.session.now.engine.joined.keep c.args.session.now.engine.joined.keep c.args.session.now.unsaved _ most _ (λ n so. so) pace
+
+pub returns-in_err-count-in-Some-Take-clause-adds : goal.returns-in_err-count-in-Some-Take-clause-adds
+returns-in_err-count-in-Some-Take-clause-adds g c = λ start limits m most h pace.
+    let p = err_from_is_err_and c.from_residual.result c.from_residual.ensures.1 in
+    let keep = c.take.new.session.engine.joined.keep in
+    rw p.1 (pace_halted (g.K.Saves.adds start limits) c.args.session.now.batch keep keep 0 _ most (is_settle c.args.question.now * c.args.session.now.batch) (λ n so. so) (c.in_err-count-in-Some-Take.ensures.adds c.args.takes start limits m most h pace))
+
+pub returns-in_ok-count-in-Some-Take-clause-adds : goal.returns-in_ok-count-in-Some-Take-clause-adds
+returns-in_ok-count-in-Some-Take-clause-adds g c = λ start limits m most h pace.
+    let keep = c.take.new.session.engine.joined.keep in
+    pace_free (g.K.Saves.adds start limits) c.args.session.now.batch keep keep c.take.new.session.unsaved _ most _ (λ n so. so) (c.in_ok-count-in-Some-Take.ensures.adds c.args.takes start limits m most h pace)
+
+pub returns-in-Some-Settle-clause-adds : goal.returns-in-Some-Settle-clause-adds
+returns-in-Some-Settle-clause-adds g c = λ start limits m most h pace.
+    let inner = rw c.in-Some-Settle.is at c.in-Some-Settle.field-0-is in
+    let e : c.args.question.now ≡ Some ask.Settle = c.in-Some-Settle.is ∙ ap Some inner in
+    let batch = c.args.session.now.batch in
+    let one : most + batch ≡ most + is_settle (Some ask.Settle) * batch = omega arith in
+    let settled = c.settle_all.ensures.adds c.args.takes start limits _ m most h pace in
+    subst (λ (q : Option Ask). KeepsPace (g.K.Saves.adds start limits) batch c.settle_all.new.session.engine.joined.keep (lack_of c.settle_all.result c.settle_all.new.session.unsaved 0) (g.L.Source.left c.args.log.now) (most + is_settle q * batch)) (sym e)
+    (subst (λ (n : ℕ). KeepsPace (g.K.Saves.adds start limits) batch c.settle_all.new.session.engine.joined.keep (lack_of c.settle_all.result c.settle_all.new.session.unsaved 0) (g.L.Source.left c.args.log.now) n) one settled)
+
+pub returns-in-Some-clause-adds : goal.returns-in-Some-clause-adds
+returns-in-Some-clause-adds g c = λ start limits m most h pace.
+    pace_still (g.K.Saves.adds start limits) c.args.session.now.batch c.args.session.now.engine.joined.keep c.reply_of.new.engine.joined.keep c.reply_of.result c.args.session.now.unsaved _ most _ (λ n so. c.adds_lawfully.ensures start limits _ _ n c.reply_of.ensures.alike so) pace

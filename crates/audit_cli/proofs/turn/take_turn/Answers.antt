@@ -1,9 +1,12 @@
-use Rattle.std.proofs.Common.{[], take, ◌∙◌}
+use Rattle.std.proofs.Common.{[], arith, take, ◌∙◌, ◌+◌, ◌*◌}
 use Rattle.std.proofs.lemmas.Result.{err_from_is_err_and}
 use Rattle.report_json.specs.Replies.{text_of}
 use Rattle.audit_cli.specs.Dialogue.{after, nothing_beyond}
 use Rattle.audit_cli.proofs.SaveLemmas.{after_mode, cut_short, names_none}
 use Rattle.audit_cli.proofs.TalkLemmas.{appends_none, no_reply, other_halt, half_said, one_turn}
+use Rattle.audit_cli.specs.Settles.{is_settle}
+use Rattle.audit_cli.proofs.AddLemmas.{pace_on}
+use Rattle.audit_cli.proofs.LackLemmas.{lacks_halted}
 use Rattle.audit_cli.proofs.turn.take_turn.Goals as goal
 
 pub returns-in_err-reply-clause-talk : goal.returns-in_err-reply-clause-talk
@@ -50,3 +53,36 @@ returns-in_err-say-clause-ends g c = λ start limits m h.
     let here = c.in_ok-reply.ensures.moves start limits m h in
     rw (p.1, p.2) (cut_short g.K.Rows.alike g.K.Saves.can g.K.Saves.holds g.K.Saves.ends g.K.Saves.uses g.K.Saves.rose c.saves_lawfully.ensures start limits g.R.Reducer.mode c.args.takes c.answer.new.session.engine _
     c.answer.new.session.engine.joined.keep (after c.args.question.now m) c.in_err-say.field-0.0 (names_none _ _ _ _ c.in_err-say.ensures.causes) (g.met.K.Rows.goes_along.same c.answer.new.session.engine.joined.keep) here)
+
+pub returns-in_err-reply-clause-lacks : goal.returns-in_err-reply-clause-lacks
+returns-in_err-reply-clause-lacks g c = λ start limits m h was.
+    let p = err_from_is_err_and c.from_residual.result c.from_residual.ensures.1 in
+    rw p.1 (c.in_err-reply.ensures.lacks start limits m h was)
+
+pub returns-in_err-say-clause-lacks : goal.returns-in_err-say-clause-lacks
+returns-in_err-say-clause-lacks g c = λ start limits m h was.
+    let p = err_from_is_err_and c.from_residual-in_err-say.result c.from_residual-in_err-say.ensures.1 in
+    let session = c.answer.new.session in
+    let few = session.few in
+    let batch = c.answer.ensures.batch in
+    rw p.1 (lacks_halted g.K.Rows.alike g.K.Saves.lacks c.lacks_lawfully.ensures start limits g.R.Reducer.mode session.engine.joined.keep _ session.unsaved c.args.session.now.batch (omega (arith, few, batch))
+    (c.in_ok-reply.ensures.lacks start limits m h was))
+
+pub returns-clause-lacks : goal.returns-clause-lacks
+returns-clause-lacks g c = λ start limits m h was. c.in_ok-reply.ensures.lacks start limits m h was
+
+pub returns-in_err-reply-clause-adds : goal.returns-in_err-reply-clause-adds
+returns-in_err-reply-clause-adds g c = λ start limits m most h pace.
+    let p = err_from_is_err_and c.from_residual.result c.from_residual.ensures.1 in
+    rw p.1 (c.in_err-reply.ensures.adds start limits m most h pace)
+
+pub returns-in_err-say-clause-adds : goal.returns-in_err-say-clause-adds
+returns-in_err-say-clause-adds g c = λ start limits m most h pace.
+    let p = err_from_is_err_and c.from_residual-in_err-say.result c.from_residual-in_err-say.ensures.1 in
+    let session = c.answer.new.session in
+    let keep = session.engine.joined.keep in
+    let more = most + is_settle c.args.question.now * c.args.session.now.batch in
+    rw p.1 (pace_on (g.K.Saves.adds start limits) c.args.session.now.batch keep keep session.unsaved 0 (g.L.Source.left c.answer.new.log) more more (λ n so. so) (omega arith) (omega arith) (c.in_ok-reply.ensures.adds start limits m most h pace))
+
+pub returns-clause-adds : goal.returns-clause-adds
+returns-clause-adds g c = λ start limits m most h pace. c.in_ok-reply.ensures.adds start limits m most h pace
