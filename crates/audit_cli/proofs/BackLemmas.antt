@@ -1,7 +1,6 @@
 -- The three questions of `back`.
 use Rattle.std.proofs.Common.{Option, ◌≡◌, ◌≤◌, ◌<◌, ◌+◌, ◌-◌, ◌^◌, ℕ, List, [], ◌∷◌, ◌++◌, map, length, take, drop, refl, ap, sym, arith, ◌∙◌, Some, None, subst, inl, inr}
-use Rattle.std.specs.Prelude.{cond, Err}
-use Rattle.std.proofs.lemmas.List.Sums.{sum_by-append}
+use Rattle.std.specs.Prelude.{Err}
 use Rattle.std.proofs.lemmas.List.{length-take, take-append-drop, map-append, take_all as list_take_all}
 use Rattle.std.proofs.Math.ListN.{drop_of_length-le}
 use Rattle.flow_base.specs.declared.limits.Limits.{Limits}
@@ -13,17 +12,16 @@ use Rattle.reach_rows.specs.declared.questions.Question.TheVariants as question
 use Rattle.report_json.specs.declared.reply.Reply.{Reply}
 use Rattle.report_json.specs.declared.reply.Reply.TheVariants as reply
 use Rattle.report_json.specs.Replies.{text_of}
-use Rattle.ingest.specs.Counting.{is_byte, bytes_in}
 use Rattle.ingest.specs.Stops.{Fits, Stops}
-use Rattle.audit_cli.specs.Dialogue.{Moment, after, Answers, nothing_beyond, begin}
-use Rattle.audit_cli.specs.Course.{Stopped, IsDue, never}
-use Rattle.audit_cli.specs.declared.halt.Halt.{Halt}
-use Rattle.audit_cli.specs.declared.halt.Halt.TheVariants as halt
+use Rattle.dialogue.specs.Dialogue.{Moment, after, Answers, nothing_beyond, begin}
+use Rattle.dialogue.specs.Course.{Stopped, IsDue, never}
+use Rattle.dialogue.specs.declared.halt.Halt.{Halt}
+use Rattle.dialogue.specs.declared.halt.Halt.TheVariants as halt
 use Rattle.audit_cli.specs.Jobs.{LastCourse}
 use Rattle.report_json.specs.declared.ask.Ask.{Ask}
 use Rattle.audit_cli.specs.Headline.{back_questions, unsaid, IsLast, IsLastFront}
-use Rattle.audit_cli.proofs.MomentLemmas.{Stay, take_all}
-use Rattle.audit_cli.proofs.TalkLemmas.{stops_now}
+use Rattle.dialogue.proofs.MomentLemmas.{Stay, take_all}
+use Rattle.dialogue.proofs.TalkLemmas.{stops_now}
 
 -- the most that one question takes
 abbrev pub most : ℕ
@@ -32,14 +30,6 @@ most = 2 ^ 64 - 1
 -- the moment when all was taken
 abbrev pub taken : Mode → List ℕ → Moment
 taken mode bytes = after (Some (ask.Take most)) (begin mode bytes)
-
--- as many bytes in a history as were taken
-pub count_bytes : (bytes : List ℕ) → bytes_in (map Byte bytes) ≡ length bytes
-count_bytes [] = refl
-count_bytes (b ∷ bytes) =
-    let split : bytes_in (map Byte (b ∷ bytes)) ≡ 1 + bytes_in (map Byte bytes) = sum_by-append (λ x. cond (is_byte x) 1 0) (Byte b ∷ []) (map Byte bytes) in
-    let rest = count_bytes bytes in
-    omega arith
 
 -- what was taken within the limits is all
 pub all_taken : (mode : Mode) (limits : Limits) (bytes : List ℕ) → limits.input < most → Fits limits (taken mode bytes).history → length bytes ≤ most

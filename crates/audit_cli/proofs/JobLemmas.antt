@@ -8,23 +8,23 @@ use Rattle.reach_model.specs.declared.modes.Mode.TheVariants.{Plain}
 use Rattle.flow_base.specs.declared.limits.Limits.{Limits}
 use Rattle.flow_base.specs.declared.limits.Full.{Full}
 use Rattle.ingest.specs.Parts.{Engine}
-use Rattle.audit_cli.specs.declared.halt.Halt.{Halt}
-use Rattle.audit_cli.specs.declared.halt.Halt.TheVariants as halt
-use Rattle.audit_cli.specs.declared.status.Status.TheVariants as status
+use Rattle.dialogue.specs.declared.halt.Halt.{Halt}
+use Rattle.dialogue.specs.declared.halt.Halt.TheVariants as halt
+use Rattle.store_runs.specs.declared.status.Status.TheVariants as status
 use Rattle.audit_cli.specs.declared.words.Job.{Job}
 use Rattle.audit_cli.specs.declared.words.Job.TheVariants as job
-use Rattle.audit_cli.specs.Dialogue.{Moment, begin, asks, lines_in, nothing_beyond, QuestionsStop}
-use Rattle.audit_cli.specs.Course.{kind_of, EndTalked, HasCauses, Halted}
+use Rattle.dialogue.specs.Dialogue.{Moment, begin, asks, lines_in, nothing_beyond, QuestionsStop}
+use Rattle.dialogue.specs.Course.{kind_of, EndTalked, HasCauses, Halted}
 use Rattle.audit_cli.specs.Headline.{back_questions, Tells, TellsLog, Writes, WritesFront, TrialStops, Finished, Written, StoppedAt, PassesLimit, PassesNone}
 use Rattle.audit_cli.specs.Jobs.{LastCourse, LastTalked, JobStopped, JobCourse, JobTalked, KeepsLimit}
-use Rattle.audit_cli.specs.Statuses.{status_for, StatusCause}
-use Rattle.audit_cli.proofs.ExactLemmas.{NeverStops, within_stops, questions_within}
-use Rattle.audit_cli.proofs.MomentLemmas.{Stay}
+use Rattle.store_runs.specs.Statuses.{status_for, StatusCause}
+use Rattle.dialogue.proofs.ExactLemmas.{NeverStops, within_stops, questions_within}
+use Rattle.dialogue.proofs.MomentLemmas.{Stay}
 use Rattle.audit_lex.specs.History.{History}
 use Rattle.ingest.specs.Stops.{Fits, Stops}
 use Rattle.audit_cli.specs.Trials.{TrialCourse, Tried, all_modes, trial_history}
 use Rattle.audit_cli.proofs.TrialLemmas.{no_lines, whole_lines}
-use Rattle.audit_cli.proofs.TalkLemmas.{appends_none, dialogue_of, nothing_said}
+use Rattle.dialogue.proofs.TalkLemmas.{appends_none, dialogue_of, nothing_said}
 
 last_halt : (limits : Limits) (of : ℕ) (log asked : List ℕ) (why : Halt) (bytes : List ℕ) (to : Moment) → LastCourse limits (Err why) (begin Plain log) (back_questions of log) bytes to → JobCourse limits (job.Back of) (Err why) log asked bytes to
 last_halt limits of log asked (halt.Full full) bytes to x = x

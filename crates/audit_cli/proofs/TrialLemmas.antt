@@ -12,15 +12,15 @@ use Rattle.report_json.specs.declared.reply.Reply.TheVariants as reply
 use Rattle.ingest.specs.Events.{objects_of}
 use Rattle.ingest.specs.Replies.{IsReply, counts_of}
 use Rattle.ingest.specs.Stops.{Fits, Stops}
-use Rattle.audit_cli.specs.declared.halt.Halt.{Halt}
-use Rattle.audit_cli.specs.declared.halt.Halt.TheVariants as halt
-use Rattle.audit_cli.specs.Course.{IsDue}
+use Rattle.dialogue.specs.declared.halt.Halt.{Halt}
+use Rattle.dialogue.specs.declared.halt.Halt.TheVariants as halt
+use Rattle.dialogue.specs.Course.{IsDue}
 use Rattle.audit_gen.specs.Logs.{generated}
 use Rattle.report_json.specs.Replies.{line_of}
 use Rattle.audit_cli.specs.declared.trial_line.Totals.{Totals}
 use Rattle.audit_cli.specs.Trials.{AreTotals, IsModeLine, AreModeLines, AreCutLines, CountsBack, Tried, back_from, settled, size_of, totals_in, trial_data, trial_history}
-use Rattle.audit_cli.proofs.ExactLemmas.{NeverStops}
-use Rattle.audit_cli.proofs.TalkLemmas.{appends_both, appends_none}
+use Rattle.dialogue.proofs.ExactLemmas.{NeverStops}
+use Rattle.dialogue.proofs.TalkLemmas.{appends_both, appends_none}
 
 -- one line
 pub one_line : (kind : Mode) (limits : Limits) (h : History) (line : List ℕ) → IsModeLine kind limits h line → AreModeLines limits h (kind ∷ []) line

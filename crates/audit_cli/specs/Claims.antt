@@ -2,8 +2,8 @@
 use Rattle.std.specs.Prelude.{◌≡◌, ◌⊎◌, ◌<◌, ⊤, ℕ, true, List, Option, Some}
 use Rattle.flow_base.specs.declared.limits.Limits.{Limits}
 use Rattle.flow_base.specs.declared.limits.Full.{Full}
-use Rattle.audit_cli.specs.declared.status.Status.{Status}
-use Rattle.audit_cli.specs.declared.status.Status.TheVariants as status
+use Rattle.store_runs.specs.declared.status.Status.{Status}
+use Rattle.store_runs.specs.declared.status.Status.TheVariants as status
 use Rattle.audit_cli.specs.declared.words.Job.{Job}
 use Rattle.audit_cli.specs.declared.words.Job.TheVariants as job
 use Rattle.audit_cli.specs.Words.{job_of}

@@ -13,7 +13,7 @@ use Rattle.report_json.specs.Replies.{text_of}
 use Rattle.ingest.specs.Stops.{Fits, Stops}
 use Rattle.audit_cli.specs.declared.words.Job.{Job}
 use Rattle.audit_cli.specs.declared.words.Job.TheVariants as job
-use Rattle.audit_cli.specs.Dialogue.{Moment, Dialogue, Beyond, IsFront, StopsAfter, QuestionsStop, ReadsNoFurther, nothing_beyond, begin, asks, lines_in, texts}
+use Rattle.dialogue.specs.Dialogue.{Moment, Dialogue, Beyond, IsFront, StopsAfter, QuestionsStop, ReadsNoFurther, nothing_beyond, begin, asks, lines_in, texts}
 use Rattle.audit_cli.specs.Trials.{AreModeLines, AreCutLines, all_modes, trial_history}
 
 -- what `back` asks: to take all of the log, to settle, and what the object can have come from

@@ -5,17 +5,17 @@ use Rattle.flow_base.specs.declared.limits.Limits.{Limits}
 use Rattle.flow_base.specs.declared.limits.Full.{Full}
 use Rattle.report_json.specs.declared.ask.Ask.{Ask}
 use Rattle.ingest.specs.Parts.{Engine}
-use Rattle.audit_cli.specs.declared.halt.Halt.{Halt}
-use Rattle.audit_cli.specs.declared.halt.Halt.TheVariants as halt
+use Rattle.dialogue.specs.declared.halt.Halt.{Halt}
+use Rattle.dialogue.specs.declared.halt.Halt.TheVariants as halt
 use Rattle.audit_cli.specs.declared.words.Job.{Job}
 use Rattle.audit_cli.specs.declared.words.Job.TheVariants as job
 use Rattle.reach_model.specs.declared.modes.Mode.TheVariants.{Plain}
 use Rattle.ingest.specs.Stops.{Stops}
-use Rattle.audit_cli.specs.Dialogue.{Moment, QuestionsStop, nothing_beyond, begin, asks, lines_in, texts}
-use Rattle.audit_cli.specs.Course.{Kind, At, Stopped}
+use Rattle.dialogue.specs.Dialogue.{Moment, QuestionsStop, nothing_beyond, begin, asks, lines_in, texts}
+use Rattle.dialogue.specs.Course.{Kind, At, Stopped}
 use Rattle.audit_cli.specs.Trials.{trial_history}
 use Rattle.audit_cli.specs.Headline.{IsLast, IsLastFront, Writes, WritesFront, Ends, back_questions, unsaid}
-use Rattle.audit_cli.specs.Listening.{KeepsWithin}
+use Rattle.dialogue.specs.Listening.{KeepsWithin}
 
 -- the bytes are the last reply's text; nothing if a limit stopped the run; after another halt nothing,
 -- or a prefix of that text

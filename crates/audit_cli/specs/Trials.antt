@@ -17,8 +17,8 @@ use Rattle.ingest.specs.Parts.{Engine}
 use Rattle.ingest.specs.Replies.{IsReply}
 use Rattle.ingest.specs.StandsFor.{StandsFor}
 use Rattle.ingest.specs.Stops.{Fits, Stops}
-use Rattle.audit_cli.specs.declared.halt.Halt.{Halt}
-use Rattle.audit_cli.specs.declared.halt.Halt.TheVariants as halt
+use Rattle.dialogue.specs.declared.halt.Halt.{Halt}
+use Rattle.dialogue.specs.declared.halt.Halt.TheVariants as halt
 use Rattle.audit_cli.specs.declared.trial_line.Totals.{Totals}
 
 -- all of a log, and then a settle
@@ -32,13 +32,6 @@ trial_history seed events = settled (generated seed events)
 -- the modes in the order in which they are tried
 abbrev pub all_modes : List Mode
 all_modes = mode.Plain ∷ mode.Continuous ∷ mode.Full ∷ mode.Source ∷ []
-
--- the name of a mode
-abbrev pub mode_name : Mode → List ℕ
-mode_name mode.Plain = codes "plain"
-mode_name mode.Continuous = codes "continuous"
-mode_name mode.Full = codes "full"
-mode_name mode.Source = codes "source"
 
 -- the flows, the kept rows and the known objects that a reply to `stat` counts. No other reply answers `stat`
 abbrev pub totals_in : Reply → Totals

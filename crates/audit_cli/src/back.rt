@@ -2,15 +2,13 @@
 ghost use Rattle.std.specs.Prelude.{true, ◌≡◌, ◌<◌, ◌-◌, ◌^◌, ℕ, List, [], Some, OnOk, IfErr};
 ghost use Rattle.flow_base.specs.declared.limits.Limits.{Limits};
 ghost use Rattle.outside.specs.Cause.{Rose};
-ghost use Rattle.audit_cli.specs.Dialogue.{begin};
-ghost use Rattle.audit_cli.specs.Course.{At, HasCauses, kind_of};
-ghost use Rattle.audit_cli.specs.Saves.{nothing_at};
+ghost use Rattle.dialogue.specs.Dialogue.{begin};
+ghost use Rattle.dialogue.specs.Course.{At, HasCauses, kind_of};
+ghost use Rattle.dialogue.specs.Saves.{nothing_at};
 ghost use Rattle.audit_cli.specs.Headline.{back_questions};
 ghost use Rattle.audit_cli.specs.Jobs.{LastTalked};
 
-use crate::halt::Halt;
-use crate::session::Session;
-use crate::turn::{answer, say};
+use dialogue::{Halt, Session, answer, say};
 use flow_base::EntityId;
 use ingest::stops_stay;
 use outside::{Sink, Source};

@@ -18,23 +18,13 @@ mod back;
 mod command_line;
 #[cfg(test)]
 mod device_tests;
-mod halt;
-mod hear;
-mod laws;
-mod listen;
-mod log;
 mod run;
-mod saving;
-mod session;
-mod status;
 #[cfg(test)]
 mod store_tests;
-mod stores;
 #[cfg(test)]
 mod tests;
 mod trial;
 mod trial_line;
-mod turn;
 mod words;
 #[cfg(test)]
 mod words_tests;
@@ -43,10 +33,10 @@ use flow_base::Bytes;
 use outside::put_all;
 use outside_real::{Reading, Storing, Writing, open_log, open_or_make_store, open_store};
 pub use run::{Ended, audit_main, audit_run};
-pub use status::{Status, status_line, status_number};
 use std::fs::File;
 use std::process::ExitCode;
 use std::{env, io, str};
+use store_runs::{Status, status_line, status_number};
 pub use words::{Job, WordsFault, read_words};
 
 fn main(rt: HostRuntime) -> ExitCode {

@@ -5,27 +5,23 @@ ghost use Rattle.outside.specs.Disk.{OnlyLooks, UsesDisk};
 ghost use Rattle.reach_model.specs.declared.modes.Mode.{Mode};
 ghost use Rattle.audit_cli.specs.declared.words.Job.{Job};
 ghost use Rattle.audit_cli.specs.Words.{IsInMemory, job_of, mode_for};
-ghost use Rattle.audit_cli.specs.Course.{HasCauses};
-ghost use Rattle.audit_cli.specs.Dialogue.{asks, lines_in};
-ghost use Rattle.audit_cli.specs.Settles.{settles};
+ghost use Rattle.dialogue.specs.Course.{HasCauses};
+ghost use Rattle.dialogue.specs.Dialogue.{asks, lines_in};
+ghost use Rattle.dialogue.specs.Settles.{settles};
 ghost use Rattle.audit_cli.specs.Jobs.{JobTalked, KeepsLimit};
 ghost use Rattle.audit_cli.specs.Claims.{WhereTold, WhereStandard, Finishes, WritesPrefix, StopsAtLimit, ReadsToEnd, FitsAtDone, IsComplete, ShortCause};
 ghost use Rattle.audit_cli.specs.Headline.{Tells, TellsLog, LeavesQuestions};
-ghost use Rattle.audit_cli.specs.Refusals.{AlwaysRefuses, RefusesNoBatch};
+ghost use Rattle.store_runs.specs.Refusals.{AlwaysRefuses, RefusesNoBatch};
 ghost use Rattle.audit_cli.specs.Standard.{IsStandard, WithStandard};
-ghost use Rattle.audit_cli.specs.Statuses.{RefusesStore, StatusCause, store_status};
-ghost use Rattle.audit_cli.specs.StoreHalts.{no_modes, no_place};
-ghost use Rattle.audit_cli.specs.Stores.{AddsFew, AnswersAll, AreTold, EndsAs, HearsOut, IsBadIn, IsBadOrNone, IsQueryRun, IsReduceRun, IsWatchRun, IsWrongIn, LooksOrLacks, ReducesAll, RefusesAStore, StoodAt, WatchesAll};
+ghost use Rattle.store_runs.specs.Statuses.{RefusesStore, StatusCause, store_status};
+ghost use Rattle.dialogue.specs.StoreHalts.{no_modes, no_place};
+ghost use Rattle.store_runs.specs.Stores.{AddsFew, AnswersAll, AreTold, EndsAs, HearsOut, IsBadIn, IsBadOrNone, IsQueryRun, IsReduceRun, IsWatchRun, IsWrongIn, LooksOrLacks, ReducesAll, RefusesAStore, StoodAt, WatchesAll};
 
 use crate::back::back;
-use crate::halt::Halt;
-use crate::listen::watch;
-use crate::session::{Session, room_for_a_read};
-use crate::status::{Status, status_of, status_over_store};
-use crate::stores::{Ran, Taking, extend, query};
 use crate::trial::trial;
 use crate::words::{Job, WordsFault, read_words};
 use batch_log::a_disk_reads_in_one_way;
+use dialogue::{Halt, Session, room_for_a_read, watch};
 use flow_base::{EntityId, Limits};
 use ingest::{
     Ingest, a_store_of_a_history_is_no_bad_store, stops_stay, what_fits_never_stops,
@@ -38,6 +34,7 @@ use reduce_continuous::Continuous;
 use reduce_source::Sources;
 use reduced_store::what_is_found_was_stored;
 use std::alloc::Global;
+use store_runs::{Ran, Status, Taking, extend, query, status_of, status_over_store};
 
 /// How a run ended, and the disk of its store. A job that keeps its rows in memory hands the disk
 /// back as it came.

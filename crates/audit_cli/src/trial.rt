@@ -9,14 +9,13 @@ ghost use Rattle.outside.specs.Cause.{Rose};
 ghost use Rattle.audit_lex.specs.History.{History};
 ghost use Rattle.ingest.specs.StandsFor.{StandsFor};
 ghost use Rattle.ingest.specs.Stops.{Fits, Stops};
-ghost use Rattle.audit_cli.specs.declared.halt.Halt.TheVariants as halt;
-ghost use Rattle.audit_cli.specs.Course.{GoesUp, HasCauses, IsDue};
+ghost use Rattle.dialogue.specs.declared.halt.Halt.TheVariants as halt;
+ghost use Rattle.dialogue.specs.Course.{GoesUp, HasCauses, IsDue};
 ghost use Rattle.audit_cli.specs.Trials.{AreTotals, CountsBack, HasHistory, IsModeLine, IsNew, Tried, all_modes, settled, trial_history};
 
-use crate::halt::{Halt, halt_of};
 use crate::trial_line::{Totals, mode_line, size_of, totals_in};
-use crate::turn::{reply_of, settle};
 use audit_gen::generate;
+use dialogue::{Halt, halt_of, reply_of, settle};
 use flow_base::{Bytes, EntityId, Limits};
 use ingest::{Ingest, stops_stay, what_fits_never_stops};
 use outside::{Sink, put_all};

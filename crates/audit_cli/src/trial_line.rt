@@ -1,15 +1,17 @@
 //! The line that a trial writes for a mode, as compact JSON with keys in ascending order.
-ghost use Rattle.std.specs.Prelude.{◌≡◌, ◌≤◌, length, IfOk};
+ghost use Rattle.std.specs.Prelude.{◌≡◌, IfOk};
 ghost use Rattle.serde_json.specs.View.{view};
 ghost use Rattle.report_json.specs.Replies.{line_of};
 ghost use Rattle.audit_cli.specs.Trials as trials;
-ghost use Rattle.audit_cli.specs.Trials.{mode_name, trial_data};
+ghost use Rattle.store_runs.specs.Statuses.{mode_name};
+ghost use Rattle.audit_cli.specs.Trials.{trial_data};
 
 use flow_base::{Bytes, NoMemory};
 use reach_model::Mode;
 use report_json::Reply;
 use serde_json::{Value, json};
 use std::alloc::{AllocError, Global};
+use store_runs::name_of_mode;
 
 /// What a trial tells of the counts over a history.
 #[derive(Clone, Copy, Debug, PartialEq, Eq)]
@@ -72,17 +74,4 @@ fn mode_value(alloc: Global, mode: Mode, totals: &Totals, back: u64) -> Result<V
         "known": totals.known,
         "mode": name_of_mode(mode)
     })
-}
-
-/// The name of a mode.
-pub fn name_of_mode(mode: Mode) -> &'static str
-    ensures name { result.now ≡ mode_name mode }
-    ensures short { length result.now ≤ 10 }
-{
-    match mode {
-        Mode::Plain => "plain",
-        Mode::Continuous => "continuous",
-        Mode::Full => "full",
-        Mode::Source => "source",
-    }
 }

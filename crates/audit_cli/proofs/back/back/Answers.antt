@@ -2,9 +2,9 @@ use Rattle.std.proofs.Common.{◌∙◌, [], take, ap, Some, refl}
 use Rattle.std.proofs.lemmas.Result.{err_from_is_err_and}
 use Rattle.report_json.specs.declared.ask.Ask.TheVariants as ask
 use Rattle.report_json.specs.Replies.{text_of}
-use Rattle.audit_cli.specs.Dialogue.{after, begin}
-use Rattle.audit_cli.proofs.TalkLemmas.{appends_none}
-use Rattle.audit_cli.proofs.SaveLemmas.{in_memory}
+use Rattle.dialogue.specs.Dialogue.{after, begin}
+use Rattle.dialogue.proofs.TalkLemmas.{appends_none}
+use Rattle.dialogue.proofs.SaveLemmas.{in_memory}
 use Rattle.audit_cli.proofs.BackLemmas.{taken, nothing_left, take_stops, settle_stops, last_said, last_cut, quiet_halt, cut_halt}
 use Rattle.audit_cli.proofs.back.back.Goals as goal
 

@@ -1,19 +1,21 @@
 use Rattle.std.proofs.Common.{ap, false, inl, refl, ◌≡◌, subst, None, Some, Err, sym, inr, ◌∙◌}
 use Rattle.audit_cli.proofs.JobLemmas.{headline, front_written, nothing_written, full_exact, complete, job_same, same_log, same_questions, ended_within, done_only, read_fault}
-use Rattle.audit_cli.specs.declared.halt.Halt.TheVariants as halt
-use Rattle.audit_cli.specs.declared.halt.StoreHalt.TheVariants as over
-use Rattle.audit_cli.proofs.AddLemmas.{adds_none}
-use Rattle.audit_cli.proofs.EndLemmas.{not_bad_or_none, not_other, queried_all, short_by, short_none}
-use Rattle.audit_cli.proofs.StoreRuns.{not_bad, not_wrong, queried_none, reduced_all, refusal_of, refuses_by, refuses_nothing, unbegun_run, unbegun_watch, watched_all}
+use Rattle.dialogue.specs.declared.halt.Halt.TheVariants as halt
+use Rattle.dialogue.specs.declared.halt.StoreHalt.TheVariants as over
+use Rattle.dialogue.proofs.AddLemmas.{adds_none}
+use Rattle.store_runs.proofs.EndLemmas.{not_bad_or_none, not_other, queried_all}
+use Rattle.audit_cli.proofs.ShortLemmas.{short_by, short_none}
+use Rattle.store_runs.proofs.StoreRuns.{not_bad, not_wrong, queried_none, reduced_all, refusal_of, refuses_by, refuses_nothing, unbegun_run, unbegun_watch, watched_all}
 use Rattle.reach_model.specs.declared.modes.Mode.{Mode}
-use Rattle.audit_cli.specs.Statuses.{RefusesStore, store_status}
+use Rattle.store_runs.specs.Statuses.{RefusesStore, store_status}
 use Rattle.std.specs.Prelude.{⊤}
-use Rattle.audit_cli.specs.Stores.{AreTold, FitsDialogue, FitsWhole, IsBadIn, IsWrongIn, StoodAt, begun_of}
-use Rattle.audit_cli.specs.declared.stores.Taking.TheVariants as taking
+use Rattle.store_runs.specs.Stores.{AreTold, FitsDialogue, FitsWhole, IsBadIn, IsWrongIn, StoodAt}
+use Rattle.dialogue.specs.Runs.{begun_of}
+use Rattle.store_runs.specs.declared.extending.Taking.TheVariants as taking
 use Rattle.outside.proofs.Moments.{no_look}
-use Rattle.audit_cli.proofs.RefusalLemmas.{failed_refuses, no_memory}
-use Rattle.audit_cli.specs.Refusals.{AlwaysRefuses}
-use Rattle.audit_cli.specs.declared.status.Status.TheVariants as status
+use Rattle.store_runs.proofs.RefusalLemmas.{failed_refuses, no_memory}
+use Rattle.store_runs.specs.Refusals.{AlwaysRefuses}
+use Rattle.store_runs.specs.declared.status.Status.TheVariants as status
 use Rattle.audit_cli.proofs.run.audit_run.Goals as goal
 
 pub returns-in-Ok-clause-headline : goal.returns-in-Ok-clause-headline

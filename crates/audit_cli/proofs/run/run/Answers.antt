@@ -1,4 +1,4 @@
-use Rattle.audit_cli.proofs.HearLemmas.{on_ok}
+use Rattle.dialogue.proofs.HearLemmas.{on_ok}
 use Rattle.audit_cli.proofs.JobLemmas.{trial_talked, no_read}
 use Rattle.audit_cli.proofs.run.run.Goals as goal
 

@@ -1,8 +1,8 @@
 use Rattle.std.proofs.Common.{refl, ◌<◌, ◌-◌, ◌^◌, sym, arith}
-use Rattle.audit_cli.specs.Dialogue.{begin}
+use Rattle.dialogue.specs.Dialogue.{begin}
 use Rattle.audit_cli.proofs.JobLemmas.{back_talked, watch_talked}
-use Rattle.audit_cli.proofs.SaveLemmas.{in_memory}
-use Rattle.audit_cli.proofs.HearLemmas.{on_ok}
+use Rattle.dialogue.proofs.SaveLemmas.{in_memory}
+use Rattle.dialogue.proofs.HearLemmas.{on_ok}
 use Rattle.audit_cli.proofs.JobLemmas.{causes_too, not_begun, some_same}
 use Rattle.std.proofs.lemmas.Result.{err_from_is_err_and}
 use Rattle.audit_cli.proofs.run.run_with.Goals as goal

@@ -3,7 +3,7 @@ use Rattle.std.proofs.lemmas.Result.{err_from_is_err_and}
 use Rattle.audit_lex.specs.History.{Settle, with_bytes}
 use Rattle.ingest.specs.Stops.{Stops}
 use Rattle.audit_cli.specs.Trials.{settled}
-use Rattle.audit_cli.proofs.MomentLemmas.{due_for}
+use Rattle.dialogue.proofs.MomentLemmas.{due_for}
 use Rattle.audit_cli.proofs.trial.follow.Goals as goal
 
 pub returns-in-Err-clause-due : goal.returns-in-Err-clause-due

@@ -1,6 +1,6 @@
 use Rattle.std.proofs.lemmas.Result.{err_from_is_err_and}
 use Rattle.audit_cli.specs.Trials.{settled}
-use Rattle.audit_cli.proofs.HearLemmas.{on_ok}
+use Rattle.dialogue.proofs.HearLemmas.{on_ok}
 use Rattle.audit_cli.proofs.TrialLemmas.{memory_due}
 use Rattle.audit_cli.proofs.trial.line_after.Goals as goal
 

@@ -1,6 +1,6 @@
 use Rattle.std.proofs.lemmas.Result.{err_from_is_err_and}
 use Rattle.audit_cli.specs.Trials.{all_modes, trial_history}
-use Rattle.audit_cli.specs.declared.halt.Halt.TheVariants as halt
+use Rattle.dialogue.specs.declared.halt.Halt.TheVariants as halt
 use Rattle.audit_cli.proofs.TrialLemmas.{not_tried, same_log}
 use Rattle.audit_cli.proofs.trial.trial.Goals as goal
 

@@ -1,5 +1,0 @@
-use Rattle.audit_cli.proofs.AddLemmas.{adds_lawfully}
-use Rattle.audit_cli.proofs.saving.StoreSaves.adds_lawfully.Goals as goal
-
-pub returns : goal.returns
-returns g c = adds_lawfully g.D.Disk.state

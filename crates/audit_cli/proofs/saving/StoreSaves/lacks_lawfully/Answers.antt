@@ -1,5 +1,0 @@
-use Rattle.audit_cli.proofs.LackLemmas.{lacks_lawfully}
-use Rattle.audit_cli.proofs.saving.StoreSaves.lacks_lawfully.Goals as goal
-
-pub returns : goal.returns
-returns g c = lacks_lawfully g.D.Disk.state

@@ -1,0 +1,10 @@
+pub mod AddLemmas
+pub mod ExactLemmas
+pub mod HearLemmas
+pub mod LackLemmas
+pub mod ListenLemmas
+pub mod MomentLemmas
+pub mod SaveLemmas
+pub mod SettleLemmas
+pub mod StoreLemmas
+pub mod TalkLemmas

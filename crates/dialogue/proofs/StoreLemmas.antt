@@ -1,0 +1,211 @@
+-- A log that is taken into a store.
+use Rattle.std.proofs.Common.{◌≡◌, ◌≤◌, ◌+◌, ℕ, List, [], ◌∷◌, ◌++◌, map, length, take, drop, refl, ap, sym, subst, arith, append_assoc, ◌∙◌, Option, inl, inr, ⊎_elim}
+use Rattle.std.specs.Prelude.{◌⊎◌, cond, Result, Ok, Err, OnErr, IfErr}
+use Rattle.std.proofs.lemmas.List.{map-append, take-append-drop, take_all as list_take_all}
+use Rattle.std.proofs.lemmas.List.Sums.{sum_by-append}
+use Rattle.flow_base.specs.declared.limits.Limits.{Limits}
+use Rattle.flow_base.specs.declared.limits.Full.{Full}
+use Rattle.outside.specs.Cause.{Rose}
+use Rattle.outside.specs.Disk.{DiskState, IsDisk, LeavesOnly, OnlyLooks, Settles, UsesDisk}
+use Rattle.outside.proofs.Moments.{leaves_by_looking}
+use Rattle.audit_lex.specs.History.{History, Byte, Settle, with_bytes}
+use Rattle.reach_model.specs.declared.modes.Mode.{Mode}
+use Rattle.reduced_store.specs.OnDisk.{OnDisk, SameBut}
+use Rattle.ingest.specs.Counting.{is_byte, bytes_in}
+use Rattle.ingest.specs.Parts.{Engine}
+use Rattle.ingest.specs.Saving.{IsSaved}
+use Rattle.ingest.specs.Stops.{Stops}
+use Rattle.std.specs.Io.KnownBytes.{Appends}
+use Rattle.report_json.specs.declared.ask.Ask.TheVariants as ask
+use Rattle.report_json.specs.declared.reply.Reply.{Reply}
+use Rattle.report_json.specs.Replies.{text_of}
+use Rattle.ingest.specs.Replies.{IsReply}
+use Rattle.dialogue.specs.declared.halt.Halt.{Halt}
+use Rattle.dialogue.specs.Dialogue.{Moment, taken_on}
+use Rattle.dialogue.specs.Course.{IsDue, never}
+use Rattle.dialogue.specs.declared.halt.StoreHalt.{StoreHalt}
+use Rattle.dialogue.specs.Runs.{LeavesOnceSynced, MayLeave, WroteFront, settled_all}
+use Rattle.dialogue.proofs.MomentLemmas.{count_bytes}
+use Rattle.dialogue.proofs.TalkLemmas.{appends_none}
+use Rattle.dialogue.proofs.MomentLemmas.{Stay, due_weaker}
+
+-- ---- bytes of a history
+
+pub bytes_more : (h : History) (bytes : List ℕ) → bytes_in (with_bytes h bytes) ≡ bytes_in h + length bytes
+bytes_more h bytes = sum_by-append (λ x. cond (is_byte x) 1 0) h (map Byte bytes) ∙ ap (λ (n : ℕ). bytes_in h + n) (count_bytes bytes)
+
+pub bytes_settled : (h : History) → bytes_in (h ++ Settle ∷ []) ≡ bytes_in h
+bytes_settled h =
+    let split : bytes_in (h ++ Settle ∷ []) ≡ bytes_in h + 0 = sum_by-append (λ x. cond (is_byte x) 1 0) h (Settle ∷ []) in
+    omega (arith, split)
+
+-- ---- what a crash leaves
+
+-- a disk that stays as it is
+pub leaves_same : (state : DiskState) (P : List ℕ → Type 0) → IsDisk state → ((c : List ℕ) → state.image c → P c) → LeavesOnly state state P
+leaves_same state P disk images = record {
+  later = omega arith;
+  each = λ c left. images c (disk.only_now c left);
+  before = λ t c low left. inl left;
+}
+
+before_both : (A B C P : Type 0) → (C → B ⊎ P) → (B → A ⊎ P) → C → A ⊎ P
+before_both A B C P second first c = either_first A B P first (second c)
+  where
+    either_first : (A B P : Type 0) → (B → A ⊎ P) → B ⊎ P → A ⊎ P
+    either_first A B P first (inl b) = first b
+    either_first A B P first (inr p) = inr p
+
+one_of : (A P : Type 0) → (A → P) → A ⊎ P → P
+one_of A P f (inl a) = f a
+one_of A P f (inr p) = p
+
+-- one run after another
+pub leaves_both : (a b c : DiskState) (P : List ℕ → Type 0) → LeavesOnly a b P → LeavesOnly b c P → LeavesOnly a c P
+leaves_both a b c P first second =
+    let early = first.later in
+    let late = second.later in
+    record {
+      later = omega (arith, early, late);
+      each = λ bytes left. one_of (b.since a.moment bytes) (P bytes) (first.each bytes) (second.before a.moment bytes early left);
+      before = λ t bytes low left.
+          before_both (a.since t bytes) (b.since t bytes) (c.since t bytes) (P bytes) (second.before t bytes (omega (arith, low, early))) (first.before t bytes low) left;
+    }
+
+-- a look at a disk, and then a run
+pub leaves_looked : (a b c : DiskState) (P : List ℕ → Type 0) → IsDisk a → OnlyLooks a b → ((bytes : List ℕ) → a.image bytes → P bytes) → LeavesOnly b c P → LeavesOnly a c P
+leaves_looked a b c P disk looks images run =
+    let early = looks.later in
+    let late = run.later in
+    record {
+      later = omega (arith, early, late);
+      each = λ bytes left. one_of (b.since a.moment bytes) (P bytes)
+          (λ old. images bytes (disk.only_now bytes (looks.adds_nothing a.moment bytes (omega arith) old))) (run.before a.moment bytes early left);
+      before = λ t bytes low left.
+          before_both (a.since t bytes) (b.since t bytes) (c.since t bytes) (P bytes) (run.before t bytes (omega (arith, low, early))) (λ old. inl (looks.adds_nothing t bytes low old)) left;
+    }
+
+weaker_of : (A P Q : Type 0) → (P → Q) → A ⊎ P → A ⊎ Q
+weaker_of A P Q f (inl a) = inl a
+weaker_of A P Q f (inr p) = inr (f p)
+
+pub leaves_weaker : (a b : DiskState) (P Q : List ℕ → Type 0) → ((c : List ℕ) → P c → Q c) → LeavesOnly a b P → LeavesOnly a b Q
+leaves_weaker a b P Q f run = record {
+  later = run.later;
+  each = λ c left. f c (run.each c left);
+  before = λ t c low left. weaker_of (a.since t c) (P c) (Q c) (f c) (run.before t c low left);
+}
+
+-- a run that begins with another name of its disk
+pub leaves_from : {D : Type 0} (state : D → DiskState) (a b : D) (c : DiskState) (P : List ℕ → Type 0) → b ≡ a → LeavesOnly (state b) c P → LeavesOnly (state a) c P
+leaves_from {D} state a b c P same run = subst (λ (d : D). LeavesOnly (state d) c P) same run
+
+-- a run that doesn't touch its disk
+pub leaves_still : {D : Type 0} (state : D → DiskState) (a b : D) (P : List ℕ → Type 0) → b ≡ a → IsDisk (state a) → ((bytes : List ℕ) → (state a).image bytes → P bytes) → LeavesOnly (state a) (state b) P
+leaves_still {D} state a b P same disk images = subst (λ (d : D). LeavesOnly (state a) (state d) P) (sym same) (leaves_same (state a) P disk images)
+
+-- a run over a disk that is durable at its begin
+pub synced_before : (outcome : Result Unit StoreHalt) (a b : DiskState) (P : List ℕ → Type 0) → LeavesOnly a b P → MayLeave outcome a b P
+synced_before outcome a b P run = inr (record {
+  synced = a.moment;
+  after = omega arith;
+  by_now = run.later;
+  since = run.each;
+  ever = leaves_weaker a b P (λ bytes. a.image bytes ⊎ P bytes) (λ bytes p. inr p) run;
+})
+
+-- a look at a disk that settles it, and then a run
+pub synced_by_looking : (outcome : Result Unit StoreHalt) (a b c : DiskState) (P : List ℕ → Type 0) → IsDisk a → IsDisk b → OnlyLooks a b → Settles a b → P b.reads → MayLeave outcome b c P → LeavesOnceSynced a c P
+synced_by_looking outcome a b c P first second looks settles here run =
+    let all : LeavesOnly b c (λ bytes. b.image bytes ⊎ P bytes) = ever_of run in
+    record {
+      synced = settles.from;
+      after = settles.after;
+      by_now = (let early = settles.by_now in let late = all.later in omega (arith, early, late));
+      since = λ bytes left. ⊎_elim (since_now bytes) (λ now. ⊎_elim (λ image. since_now bytes (second.counts_now settles.from bytes settles.by_now image)) (λ p. p) now) (all.before settles.from bytes settles.by_now left);
+      ever = leaves_looked a b c (λ bytes. a.image bytes ⊎ P bytes) first looks (λ bytes image. inl image)
+          (leaves_weaker b c (λ bytes. b.image bytes ⊎ P bytes) (λ bytes. a.image bytes ⊎ P bytes) (λ bytes x. ⊎_elim (λ image. inl (looks.image bytes image)) (λ p. inr p) x) all);
+    }
+  where
+    since_now : (bytes : List ℕ) → b.since settles.from bytes → P bytes
+    since_now bytes past = subst P (sym (settles.only bytes past)) here
+
+    ever_of : MayLeave outcome b c P → LeavesOnly b c (λ bytes. b.image bytes ⊎ P bytes)
+    ever_of (inl unopened) = leaves_weaker b c b.image (λ bytes. b.image bytes ⊎ P bytes) (λ bytes image. inl image) (leaves_by_looking b c second unopened.1)
+    ever_of (inr once) = once.ever
+
+-- ---- calls on a disk, one after another
+
+pub rose_too : (a b c : ℕ) (spent : Type 0) → a ≤ b → Rose b c spent → Rose a c spent
+rose_too a b c spent low (inl above) = inl (omega (arith, low, above))
+rose_too a b c spent low (inr none) = inr none
+
+pub rose_on : (a b c : ℕ) (was spent : Type 0) → b ≤ c → (was → spent) → Rose a b was → Rose a c spent
+rose_on a b c was spent low stays (inl above) = inl (omega (arith, low, above))
+rose_on a b c was spent low stays (inr none) = inr (stays none)
+
+-- calls that aren't blamed, one after another
+pub uses_both : {D : Type 0} (state : D → DiskState) (faults : D → ℕ) (spent : D → Type 0) (a b c : D) → UsesDisk state faults spent a b ⊥ → UsesDisk state faults spent b c ⊥ → UsesDisk state faults spent a c ⊥
+uses_both state faults spent a b c first second =
+    let low = first.later in
+    let high = second.later in
+    record {
+      still_told = λ told. second.still_told (first.still_told told);
+      told_before = λ told. first.told_before (second.told_before told);
+      later = omega (arith, low, high);
+      stays = λ was. second.stays (first.stays was);
+      rose = λ none. absurd none;
+    }
+
+-- calls that are blamed for a count that rose
+pub uses_blamed : {D : Type 0} (state : D → DiskState) (faults : D → ℕ) (spent : D → Type 0) (a b : D) (P Q : Type 0) → UsesDisk state faults spent a b P → (Q → Rose (faults a) (faults b) (spent b)) → UsesDisk state faults spent a b Q
+uses_blamed state faults spent a b P Q uses rose = record { still_told = uses.still_told; told_before = uses.told_before; later = uses.later; stays = uses.stays; rose = rose }
+
+pub uses_same : {D : Type 0} (state : D → DiskState) (faults : D → ℕ) (spent : D → Type 0) (a b : D) → b ≡ a → UsesDisk state faults spent a b ⊥
+uses_same {D} state faults spent a b same = subst (λ (d : D). UsesDisk state faults spent a d ⊥) (sym same) (record {
+  still_told = λ told. told;
+  told_before = λ told. told;
+  later = omega arith;
+  stays = λ was. was;
+  rose = λ none. absurd none;
+})
+
+-- ---- a log that is taken
+
+abbrev pub StaysSaved : {D : Type 0} → (D → DiskState) → Type 0
+StaysSaved {D} state = (limits : Limits) (mode : Mode) (h : History) (part : ℕ) (old new : Engine (OnDisk D)) → SameBut old.joined.keep new.joined.keep
+    → new.joined.tables.marked ≡ old.joined.tables.marked → IsSaved state limits mode old h part → IsSaved state limits mode new h part
+
+-- what stops the engine within the log stops it within all of it, settled
+pub stops_whole : Stay → (limits : Limits) (m : Moment) (n : ℕ) (full : Full) → Stops limits (taken_on n m).history full → Stops limits (settled_all m).history full
+stops_whole stay limits m n full stops =
+    let a = map Byte (take n m.log) in
+    let b = map Byte (drop n m.log) in
+    let whole : take (length m.log) m.log ≡ take n m.log ++ drop n m.log = list_take_all (length m.log) m.log (omega arith) ∙ sym (take-append-drop n m.log) in
+    let parts : (settled_all m).history ≡ (m.history ++ a) ++ (b ++ Settle ∷ []) =
+    ap (λ (xs : List ℕ). (m.history ++ map Byte xs) ++ Settle ∷ []) whole
+    ∙ ap (λ (ys : History). (m.history ++ ys) ++ Settle ∷ []) (map-append Byte (take n m.log) (drop n m.log))
+    ∙ ap (λ (zs : History). zs ++ Settle ∷ []) (sym (append_assoc m.history a b))
+    ∙ append_assoc (m.history ++ a) b (Settle ∷ []) in
+    subst (λ (h : History). Stops limits h full) (sym parts) (stay limits (m.history ++ a) (b ++ Settle ∷ []) full stops)
+
+-- ---- the reply to `stat`
+
+-- a write that was cut wrote a front
+pub front_cut : (limits : Limits) (mode : Mode) (h : History) (old new : Option (List ℕ)) (stat : Reply) (r : Result Unit Halt) → IsReply mode limits h ask.Stat stat
+    → OnErr r ((done : ℕ) × Appends old new (take done (text_of stat))) → OnErr r (WroteFront limits mode h old new)
+front_cut limits mode h old new stat (Ok t) is cut = tt
+front_cut limits mode h old new stat (Err why) is cut = record {
+  bytes = take cut.0 (text_of stat);
+  wrote = cut.1;
+  front = inr (stat, drop cut.0 (text_of stat), is, take-append-drop cut.0 (text_of stat));
+}
+
+-- nothing was written
+pub front_none : (limits : Limits) (mode : Mode) (h : History) (old : Option (List ℕ)) → WroteFront limits mode h old old
+front_none limits mode h old = record { bytes = []; wrote = appends_none old; front = inl refl }
+
+-- no limit was due
+pub never_due : (r : Result Unit Halt) (passes : Full → Type 0) → IfErr r (IsDue never) → IfErr r (IsDue passes)
+never_due (Ok t) passes due = tt
+never_due (Err why) passes due = due_weaker why never passes (λ full none. absurd none) due

@@ -1,0 +1,39 @@
+//! What a dialogue works with: an engine, and the memory through which the log comes to it.
+ghost use Rattle.std.specs.Prelude.{◌≡◌, ◌<◌, IfOk, length};
+ghost use Rattle.kept_flows.specs.Answering.{AlwaysTold, NeverFail};
+ghost use Rattle.dialogue.specs.Sessions.{told_once};
+
+use flow_base::NoMemory;
+use ingest::Ingest;
+use reach_rows::{Keep, Reducer};
+use std::alloc::Global;
+
+/// The most bytes of one read.
+pub const PIECE: usize = 65_536;
+
+/// An engine that answers, and the buffer for each read of its log. The buffer is allocated once a
+/// run, in memory that can be refused, and no question allocates another.
+///
+/// The engine keeps its flows in rows that are always observable and whose reads never fail, so only
+/// the allocation of an answer can fail.
+#[derive(Drop)]
+pub struct Session<R: Reducer, K: Keep> {
+    pub alloc: Global,
+    pub engine: Ingest<R, K>,
+    pub piece: Vec<u8>,
+    /// How many bytes of the log are a batch, after which all is saved.
+    pub batch: u64,
+    /// How many were taken since the last save.
+    pub unsaved: u64,
+    pub ghost few: { unsaved < batch },
+    pub ghost room: { length piece.items ≡ 65536 },
+    pub ghost never: { NeverFail K.faults K.spent },
+    pub ghost told: { AlwaysTold K.rows } by { told_once K.rows },
+}
+
+/// A buffer for the bytes of one read.
+pub fn room_for_a_read(alloc: Global) -> Result<Vec<u8>, NoMemory>
+    ensures { IfOk result (λ room. length room.items ≡ 65536) }
+{
+    Ok(vec![in alloc; 0; PIECE]?)
+}

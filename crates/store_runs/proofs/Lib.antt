@@ -1,0 +1,4 @@
+pub mod EndLemmas
+pub mod RefusalLemmas
+pub mod ResumeLemmas
+pub mod StoreRuns

@@ -1,0 +1,35 @@
+use Rattle.std.proofs.Common.{◌≡◌, ◌∙◌, [], ap, Some, refl, arith}
+use Rattle.reduced_store.specs.OnDisk.{OnDisk}
+use Rattle.dialogue.specs.Saves.{Begun, Start}
+use Rattle.store_runs.specs.Stores.{querying}
+use Rattle.store_runs.proofs.EndLemmas.{any_limit, at_query, heard_out, run_names}
+use Rattle.dialogue.proofs.SaveLemmas.{causes_on}
+use Rattle.store_runs.proofs.StoreRuns.{no_log, over_causes, queried_none, queried_of, rose_unchanged}
+use Rattle.store_runs.proofs.queries.query_engine.Goals as goal
+
+pub returns-in-Err-clause-queried : goal.returns-in-Err-clause-queried
+returns-in-Err-clause-queried g c = λ h before asked stands told. queried_none c.args.limits.now g.R.Reducer.mode h asked (g.Q.Source.left c.args.questions.now) (g.O.Sink.written c.args.out.now)
+
+-- rows of a store never fail and are always observable
+pub invariant_of-session : goal.invariant_of-session
+invariant_of-session g c = record { few = omega (arith, c.args.limits.now.batch_some); room = c.in-Ok.ensures; never = λ s. (refl, λ spent. spent); told = λ s. (s.rows.rows, refl) }
+
+pub returns-clause-queried : goal.returns-clause-queried
+returns-clause-queried g c = λ h before asked x told.
+    let limits = c.args.limits.now in
+    let begun : Begun = record { history = h; before = before; part = before; log = [] } in
+    let start : Start (OnDisk g.row.D.Denot) = record { begun = begun; rows = c.args.engine.joined.keep } in
+    let from = querying g.R.Reducer.mode h in
+    let at = at_query g.D.Disk.state limits g.R.Reducer.mode c.args.engine _ h before c.what_is_saved_stays_saved.ensures g.met.D.Disk.lawful x (ap Some (c.new-log.ensures ∙ c.new.ensures)) in
+    let watch = c.watch-outcome.ensures in
+    let talked = watch.talked start from asked at told in
+    let heard = heard_out c.stops_stay.ensures c.what_fits_never_stops.ensures _ limits from asked _ _ _ _ _ c.watch-outcome.result talked (watch.within start from asked at told) (watch.left start from asked at told) in
+    rw c.halted.ensures (queried_of _ limits g.R.Reducer.mode h asked _ _ _ _ _ c.watch-outcome.result (run_names _ _ _ c.watch-outcome.result watch.causes) heard talked)
+
+pub returns-clause-causes : goal.returns-clause-causes
+returns-clause-causes g c =
+    let now = c.watch-outcome.new.session.engine.joined.keep.disk in
+    let last : c.into_disk-2.result ≡ now = c.into_disk-2.ensures ∙ ap (λ (k : OnDisk g.row.D.Denot). k.disk) c.into_keep-2.ensures in
+    let same = (c.watch-outcome.ensures.alike refl).disk in
+    rw c.halted.ensures (over_causes _ _ _ _ _ _ c.watch-outcome.result (causes_on _ _ _ _ _ _ _ c.watch-outcome.result (no_log _) (λ write. write)
+    (rose_unchanged g.D.Disk.faults g.D.Disk.spent c.args.engine.joined.keep.disk now c.into_disk-2.result same last) (any_limit _ _ _ c.watch-outcome.result c.watch-outcome.ensures.causes)))
