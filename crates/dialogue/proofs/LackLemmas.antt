@@ -4,8 +4,6 @@ use Rattle.std.specs.Prelude.{Result, Ok, Err, IfErr}
 use Rattle.std.specs.List.{AllZip}
 use Rattle.std.specs.Io.KnownBytes.{Keeps}
 use Rattle.std.proofs.lemmas.List.{length-drop}
-use Rattle.std.proofs.lemmas.List.Sums.{sum_by-append}
-use Rattle.std.specs.Prelude.{cond}
 use Rattle.flow_base.specs.declared.limits.Limits.{Limits}
 use Rattle.outside.specs.Disk.{DiskState, IsDisk}
 use Rattle.audit_lex.specs.History.{History, Byte, Settle}
@@ -18,7 +16,7 @@ use Rattle.stored.specs.Moment.{Moment as Stood}
 use Rattle.stored.specs.Stored.{EndsAt, last_of}
 use Rattle.reduced_store.specs.OnDisk.{OnDisk, SameBut}
 use Rattle.reduced_store.proofs.ReadLemmas.{Apart, one_reading}
-use Rattle.ingest.specs.Counting.{is_byte, bytes_in}
+use Rattle.ingest.specs.Counting.{bytes_in}
 use Rattle.ingest.specs.Parts.{Engine}
 use Rattle.ingest.specs.Saving.{IsEither, IsSaved, LeavesEither}
 use Rattle.ingest.specs.StandsFor.{StandsFor}
@@ -29,6 +27,7 @@ use Rattle.dialogue.specs.Dialogue.{Moment}
 use Rattle.dialogue.specs.StoreHalts.{over_run}
 use Rattle.dialogue.specs.Runs.{LacksIn, begun_of}
 use Rattle.dialogue.specs.Saves.{Begun, IsAllPutAway, IsOf, IsPutAway, LacksAtMost, LacksInStore, LacksLawfully, LeavesAllBut, Start, bytes_of, lack_of, since}
+use Rattle.dialogue.proofs.MomentLemmas.{counted_both}
 use Rattle.dialogue.proofs.SaveLemmas.{stands_since}
 
 -- ---- bytes that are read
@@ -60,9 +59,6 @@ pub left_passed : (taken before : ℕ) (bytes : List ℕ) (left : Option (List �
 left_passed taken before bytes left same but = record { rest = but.rest; told = but.told; few = (let long = length-drop before bytes in omega (arith, long, same, but.few)); no_more = but.no_more }
 
 -- ---- the bytes that a store has taken
-
-counted_both : (a b : History) → bytes_in (a ++ b) ≡ bytes_in a + bytes_in b
-counted_both a b = sum_by-append (λ x. cond (is_byte x) 1 0) a b
 
 -- the steps that are bytes, counted
 pub long_of : (h : History) → length (bytes_of h) ≡ bytes_in h

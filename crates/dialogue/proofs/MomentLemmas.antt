@@ -1,9 +1,10 @@
 -- Moments of a log that is taken in pieces.
 use Rattle.std.proofs.Common.{true, false, ◌≡◌, ◌≤◌, ◌+◌, ◌-◌, ◌^◌, ℕ, zero, suc, List, [], ◌∷◌, ◌++◌, map, length, take, drop, refl, ap, sym, arith, append_assoc, ◌∙◌, subst, Option, Some, None, min}
 use Rattle.std.proofs.Math.Seq.{take-add, drop-append_seam, take-append_seam}
+use Rattle.std.proofs.lemmas.List.Sums.{sum_by-append}
 use Rattle.std.proofs.lemmas.List.{append-nil, length-drop, length-append, drop-drop, map-append, take_all as list_take_all}
 use Rattle.std.proofs.Math.ListN.{drop_of_length-le}
-use Rattle.std.specs.Prelude.{Result, Ok, Err, OnOk, IfOk, IfErr}
+use Rattle.std.specs.Prelude.{cond, Result, Ok, Err, OnOk, IfOk, IfErr}
 use Rattle.std.specs.Io.KnownBytes.{Consumes, IsAtEnd}
 use Rattle.flow_base.specs.declared.limits.Limits.{Limits}
 use Rattle.flow_base.specs.declared.limits.Full.{Full}
@@ -13,6 +14,7 @@ use Rattle.report_json.specs.declared.ask.Ask.TheVariants as ask
 use Rattle.report_json.specs.Reading.{ask_of}
 use Rattle.report_json.specs.declared.reply.Reply.{Reply}
 use Rattle.report_json.specs.declared.reply.Reply.TheVariants as reply
+use Rattle.ingest.specs.Counting.{is_byte, bytes_in}
 use Rattle.ingest.specs.Events.{events_of}
 use Rattle.reach_model.specs.declared.modes.Mode.{Mode}
 use Rattle.ingest.specs.Parts.{Engine}
@@ -197,10 +199,14 @@ none_found line (Some asks) is none = absurd (none asks (sym is))
 pub no_more : (least first second : ℕ) → least ≡ min first second → least ≤ second
 no_more least first second is = omega (arith, is)
 
+-- the bytes of a history, counted in two parts
+pub counted_both : (a b : History) → bytes_in (a ++ b) ≡ bytes_in a + bytes_in b
+counted_both a b = sum_by-append (λ x. cond (is_byte x) 1 0) a b
+
 -- as many bytes in a history as were taken
 pub count_bytes : (bytes : List ℕ) → bytes_in (map Byte bytes) ≡ length bytes
 count_bytes [] = refl
 count_bytes (b ∷ bytes) =
-    let split : bytes_in (map Byte (b ∷ bytes)) ≡ 1 + bytes_in (map Byte bytes) = sum_by-append (λ x. cond (is_byte x) 1 0) (Byte b ∷ []) (map Byte bytes) in
+    let split : bytes_in (map Byte (b ∷ bytes)) ≡ 1 + bytes_in (map Byte bytes) = counted_both (Byte b ∷ []) (map Byte bytes) in
     let rest = count_bytes bytes in
     omega arith

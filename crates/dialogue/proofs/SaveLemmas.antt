@@ -1,9 +1,8 @@
 -- What is saved of a log as it is taken.
 use Rattle.std.proofs.Common.{Bool, true, false, None, ◌≡◌, ◌≤◌, ◌+◌, ◌-◌, ◌^◌, ℕ, List, [], ◌∷◌, ◌++◌, map, length, take, drop, refl, ap, sym, subst, arith, append_assoc, ◌∙◌, Option, Some, inl, inr}
-use Rattle.std.specs.Prelude.{◌⊎◌, if◌then◌else◌, cond, Result, Ok, Err, IfErr}
+use Rattle.std.specs.Prelude.{◌⊎◌, if◌then◌else◌, Result, Ok, Err, IfErr}
 use Rattle.std.proofs.lemmas.List.{append-nil, length-take, take-append-drop, take_all as list_take_all}
 use Rattle.std.proofs.lemmas.List.Concat.{flat_map-append}
-use Rattle.std.proofs.lemmas.List.Sums.{sum_by-append}
 use Rattle.std.proofs.Math.Seq.{drop-append_seam}
 use Rattle.flow_base.specs.declared.limits.Limits.{Limits}
 use Rattle.flow_base.specs.declared.limits.Full.{Full}
@@ -13,7 +12,7 @@ use Rattle.batch_log.specs.declared.log.CommitFault.{CommitFault}
 use Rattle.batch_log.specs.declared.log.CommitFault.TheVariants as commit
 use Rattle.reach_model.specs.declared.modes.Mode.{Mode}
 use Rattle.reduced_store.specs.OnDisk.{OnDisk, SameBut}
-use Rattle.ingest.specs.Counting.{is_byte, bytes_in}
+use Rattle.ingest.specs.Counting.{bytes_in}
 use Rattle.ingest.specs.Parts.{Engine}
 use Rattle.ingest.specs.PartTaken.{HasPart, StandsWith}
 use Rattle.ingest.specs.Saving.{IsEither, IsSaved, LeavesEither, PassesFull, Saves}
@@ -28,9 +27,9 @@ use Rattle.dialogue.specs.Dialogue.{Moment, after, settled_on, taken_on}
 use Rattle.dialogue.specs.Runs.{first_of, settled_all, steps_of, whole_of}
 use Rattle.dialogue.specs.Course.{At, CountsOn, HasCauses, StandsAt, kind_of}
 use Rattle.dialogue.specs.Saves.{Begun, IsAllPutAway, IsCutShort, IsOf, IsPutAway, IsReached, CutShort, NamesNoStore, PassesStore, SavesLawfully, Start, StoresFront, byte_of, bytes_of, since}
-use Rattle.dialogue.proofs.MomentLemmas.{count_bytes}
-use Rattle.dialogue.proofs.MomentLemmas.{take_all, take_both}
-use Rattle.dialogue.proofs.StoreLemmas.{StaysSaved, bytes_more, leaves_both, leaves_weaker}
+use Rattle.outside.proofs.Moments.{leaves_in_a_row, leaves_more}
+use Rattle.dialogue.proofs.MomentLemmas.{count_bytes, counted_both, take_all, take_both}
+use Rattle.dialogue.proofs.StoreLemmas.{StaysSaved, bytes_more}
 
 -- ---- bytes of a log, and what came since the begin of a run
 
@@ -40,9 +39,6 @@ bytes_of_text (b ∷ bytes) = ap (λ (xs : List ℕ). b ∷ xs) (bytes_of_text b
 
 bytes_both : (a b : History) → bytes_of (a ++ b) ≡ bytes_of a ++ bytes_of b
 bytes_both a b = flat_map-append byte_of a b
-
-counted_both : (a b : History) → bytes_in (a ++ b) ≡ bytes_in a + bytes_in b
-counted_both a b = sum_by-append (λ x. cond (is_byte x) 1 0) a b
 
 -- what came since, and then more
 pub since_more : (begun : Begun) (m m2 : Moment) (x : History) → IsOf begun m → m2.history ≡ m.history ++ x → since begun m2 ≡ since begun m ++ x
@@ -242,9 +238,9 @@ module _ {D : Type 0} (state : D → DiskState) (start : Start (OnDisk D)) (limi
             (reached_more limits m2.mode begun (since begun m) x bytes (subst (λ (k : Mode). IsReached limits k begun (since begun m) bytes) (sym mode)
             (away.reached bytes (subst (λ (k : Mode). StoresHistory limits k bytes away.first away.saved_part) mode stores))));
         leaves = subst (λ (d : D). LeavesOnly (state start.rows.disk) (state d) (IsReached limits m2.mode begun (since begun m2))) (sym same.disk)
-            (leaves_weaker _ _ (IsReached limits m.mode begun (since begun m)) (IsReached limits m2.mode begun (since begun m2))
+            (leaves_more _ _ (IsReached limits m.mode begun (since begun m)) (IsReached limits m2.mode begun (since begun m2)) away.leaves
             (λ bytes reached. subst (λ (s : History). IsReached limits m2.mode begun s bytes) (sym more)
-            (reached_more limits m2.mode begun (since begun m) x bytes (subst (λ (k : Mode). IsReached limits k begun (since begun m) bytes) (sym mode) reached))) away.leaves);
+            (reached_more limits m2.mode begun (since begun m) x bytes (subst (λ (k : Mode). IsReached limits k begun (since begun m) bytes) (sym mode) reached))));
       }
 
   -- a part of a log that fits is counted with room to spare
@@ -268,9 +264,9 @@ module _ {D : Type 0} (state : D → DiskState) (start : Start (OnDisk D)) (limi
       let more = since_more begun m m2 x cut.moment longer in
       record {
         moment = is_of_more begun m m2 x cut.moment longer left;
-        leaves = leaves_weaker _ _ (IsReached limits m.mode begun (since begun m)) (IsReached limits m2.mode begun (since begun m2))
+        leaves = leaves_more _ _ (IsReached limits m.mode begun (since begun m)) (IsReached limits m2.mode begun (since begun m2)) cut.leaves
             (λ bytes reached. subst (λ (s : History). IsReached limits m2.mode begun s bytes) (sym more)
-            (reached_more limits m2.mode begun (since begun m) x bytes (subst (λ (k : Mode). IsReached limits k begun (since begun m) bytes) (sym mode) reached))) cut.leaves;
+            (reached_more limits m2.mode begun (since begun m) x bytes (subst (λ (k : Mode). IsReached limits k begun (since begun m) bytes) (sym mode) reached)));
         passes = λ full is. subst (λ (s : History). PassesStore limits m2.mode begun s full) (sym more)
             (passes_more limits m2.mode begun (since begun m) x full (subst (λ (k : Mode). PassesStore limits k begun (since begun m) full) (sym mode) (cut.passes full is)));
       }
@@ -309,9 +305,9 @@ module _ {D : Type 0} (state : D → DiskState) (start : Start (OnDisk D)) (limi
       → LeavesOnly (state start.rows.disk) (state new.joined.keep.disk) (IsReached limits m.mode start.begun (since start.begun m))
   leaves_now old new m leaves stands away =
       let part = start.begun.part + bytes_in (since start.begun m) in
-      leaves_both _ (state old.joined.keep.disk) _ (IsReached limits m.mode start.begun (since start.begun m)) away.leaves
-      (leaves_weaker _ _ (IsEither limits m.mode away.first away.more away.saved_part part) (IsReached limits m.mode start.begun (since start.begun m)) (either_reached old m away)
-      (leaves limits away.first away.more away.saved_part part (stands_since old m stands away) away.saved))
+      leaves_in_a_row _ (state old.joined.keep.disk) _ (IsReached limits m.mode start.begun (since start.begun m)) away.leaves
+      (leaves_more _ _ (IsEither limits m.mode away.first away.more away.saved_part part) (IsReached limits m.mode start.begun (since start.begun m))
+      (leaves limits away.first away.more away.saved_part part (stands_since old m stands away) away.saved) (either_reached old m away))
 
   -- after a save all is put away
   pub away_now : (old new : Engine (OnDisk D)) (m : Moment) → Saves state m.mode old new → LeavesEither state m.mode old new → new.part ≡ old.part → (state new.joined.keep.disk).told

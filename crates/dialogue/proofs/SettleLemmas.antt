@@ -10,7 +10,7 @@ use Rattle.report_json.specs.declared.reply.Reply.TheVariants as reply
 use Rattle.dialogue.specs.declared.halt.Turn.{Turn}
 use Rattle.dialogue.specs.declared.halt.Turn.TheVariants as turn
 use Rattle.dialogue.specs.Dialogue.{Moment, AfterTurn, Dialogue, Leads, after, asked, asks, lines_in, turn_of}
-use Rattle.dialogue.specs.Settles.{is_settle, last_since, lines_since, settles, settles_since, unless_ended}
+use Rattle.dialogue.specs.Settles.{settles_in_one, last_since, lines_since, settles, settles_since, unless_ended}
 use Rattle.dialogue.proofs.HearLemmas.{LinesStay, pieces}
 
 -- ---- lists of questions
@@ -22,7 +22,7 @@ fewer turn.More one x y within = omega (arith, within)
 -- further questions ask for no fewer
 front_settles : (a b : List (Option Ask)) → settles a ≤ settles (a ++ b)
 front_settles [] b = omega arith
-front_settles (q ∷ a) b = fewer (turn_of q) (is_settle q) (settles a) (settles (a ++ b)) (front_settles a b)
+front_settles (q ∷ a) b = fewer (turn_of q) (settles_in_one q) (settles a) (settles (a ++ b)) (front_settles a b)
 
 -- what comes after a question that doesn't end the dialogue
 by_turn : (t : Turn) (closed later : Type 0) (one x y z : ℕ) → (closed → ⊥) → (later → x ≡ y + z) → AfterTurn t closed later → one + unless_ended t x ≡ (one + unless_ended t y) + z
@@ -34,7 +34,7 @@ no_end : (limits : Limits) (from to : Moment) (f questions : List (Option Ask)) 
 no_end limits from to [] questions replies g many talk = omega arith
 no_end limits from to (q ∷ f) questions [] g many talk = absurd (omega (arith, many))
 no_end limits from to (q ∷ f) questions (r ∷ replies) g many talk =
-    by_turn (turn_of q) ((replies ≡ []) × (to ≡ after q from)) (Dialogue limits (after q from) (f ++ questions) replies to) (is_settle q) (settles (f ++ g)) (settles f) (settles g)
+    by_turn (turn_of q) ((replies ≡ []) × (to ≡ after q from)) (Dialogue limits (after q from) (f ++ questions) replies to) (settles_in_one q) (settles (f ++ g)) (settles f) (settles g)
     (λ ends. let none = ap length ends.0 in omega (arith, many, none))
     (λ goes. no_end limits (after q from) to f questions replies g (omega (arith, many)) goes) talk.1
 
@@ -102,18 +102,18 @@ since_both stay limits from to h p q ls said is leads =
     let sum = ap settles (map-append (asked limits.question) ls more.0) ∙ settles_both limits from to (asks limits ls) (asks limits more.0) said leads in
     omega (arith, first, second, both, sum)
 
-one_asked : (limits : Limits) (text : List ℕ) (q : Option Ask) → q ≡ asked limits.question text → is_settle q ≤ settles (asks limits (text ∷ []))
-one_asked limits text q is = subst (λ (x : Option Ask). is_settle x ≤ settles (asks limits (text ∷ []))) (sym is) (omega arith)
+one_asked : (limits : Limits) (text : List ℕ) (q : Option Ask) → q ≡ asked limits.question text → settles_in_one q ≤ settles (asks limits (text ∷ []))
+one_asked limits text q is = subst (λ (x : Option Ask). settles_in_one x ≤ settles (asks limits (text ∷ []))) (sym is) (omega arith)
 
 -- a piece that ends one line
-pub one_since : (limits : Limits) (h : History) (p text : List ℕ) (q : Option Ask) → q ≡ asked limits.question text → lines_of (with_bytes h p) ≡ lines_of h ++ text ∷ [] → is_settle q ≤ settles_since limits h p
+pub one_since : (limits : Limits) (h : History) (p text : List ℕ) (q : Option Ask) → q ≡ asked limits.question text → lines_of (with_bytes h p) ≡ lines_of h ++ text ∷ [] → settles_in_one q ≤ settles_since limits h p
 one_since limits h p text q is lines =
     let first = ap (λ (xs : List (List ℕ)). settles (asks limits xs)) (since_is h p (text ∷ []) lines) in
     let one = one_asked limits text q is in
     omega (arith, first, one)
 
 -- the last line
-pub one_last : (limits : Limits) (h : History) (text : List ℕ) (q : Option Ask) → q ≡ asked limits.question text → lines_of (h ++ Settle ∷ []) ≡ lines_of h ++ text ∷ [] → is_settle q ≤ settles (asks limits (last_since h))
+pub one_last : (limits : Limits) (h : History) (text : List ℕ) (q : Option Ask) → q ≡ asked limits.question text → lines_of (h ++ Settle ∷ []) ≡ lines_of h ++ text ∷ [] → settles_in_one q ≤ settles (asks limits (last_since h))
 one_last limits h text q is lines =
     let first = ap (λ (xs : List (List ℕ)). settles (asks limits xs)) (last_is h (text ∷ []) lines) in
     let one = one_asked limits text q is in

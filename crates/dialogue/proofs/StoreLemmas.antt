@@ -1,17 +1,16 @@
 -- A log that is taken into a store.
 use Rattle.std.proofs.Common.{◌≡◌, ◌≤◌, ◌+◌, ℕ, List, [], ◌∷◌, ◌++◌, map, length, take, drop, refl, ap, sym, subst, arith, append_assoc, ◌∙◌, Option, inl, inr, ⊎_elim}
-use Rattle.std.specs.Prelude.{◌⊎◌, cond, Result, Ok, Err, OnErr, IfErr}
+use Rattle.std.specs.Prelude.{◌⊎◌, Result, Ok, Err, OnErr, IfErr}
 use Rattle.std.proofs.lemmas.List.{map-append, take-append-drop, take_all as list_take_all}
-use Rattle.std.proofs.lemmas.List.Sums.{sum_by-append}
 use Rattle.flow_base.specs.declared.limits.Limits.{Limits}
 use Rattle.flow_base.specs.declared.limits.Full.{Full}
 use Rattle.outside.specs.Cause.{Rose}
 use Rattle.outside.specs.Disk.{DiskState, IsDisk, LeavesOnly, OnlyLooks, Settles, UsesDisk}
-use Rattle.outside.proofs.Moments.{leaves_by_looking}
+use Rattle.outside.proofs.Moments.{leaves_at_start, leaves_by_looking, leaves_in_a_row, leaves_more}
 use Rattle.audit_lex.specs.History.{History, Byte, Settle, with_bytes}
 use Rattle.reach_model.specs.declared.modes.Mode.{Mode}
 use Rattle.reduced_store.specs.OnDisk.{OnDisk, SameBut}
-use Rattle.ingest.specs.Counting.{is_byte, bytes_in}
+use Rattle.ingest.specs.Counting.{bytes_in}
 use Rattle.ingest.specs.Parts.{Engine}
 use Rattle.ingest.specs.Saving.{IsSaved}
 use Rattle.ingest.specs.Stops.{Stops}
@@ -25,76 +24,28 @@ use Rattle.dialogue.specs.Dialogue.{Moment, taken_on}
 use Rattle.dialogue.specs.Course.{IsDue, never}
 use Rattle.dialogue.specs.declared.halt.StoreHalt.{StoreHalt}
 use Rattle.dialogue.specs.Runs.{LeavesOnceSynced, MayLeave, WroteFront, settled_all}
-use Rattle.dialogue.proofs.MomentLemmas.{count_bytes}
 use Rattle.dialogue.proofs.TalkLemmas.{appends_none}
-use Rattle.dialogue.proofs.MomentLemmas.{Stay, due_weaker}
+use Rattle.dialogue.proofs.MomentLemmas.{Stay, count_bytes, counted_both, due_weaker}
 
 -- ---- bytes of a history
 
 pub bytes_more : (h : History) (bytes : List ℕ) → bytes_in (with_bytes h bytes) ≡ bytes_in h + length bytes
-bytes_more h bytes = sum_by-append (λ x. cond (is_byte x) 1 0) h (map Byte bytes) ∙ ap (λ (n : ℕ). bytes_in h + n) (count_bytes bytes)
+bytes_more h bytes = counted_both h (map Byte bytes) ∙ ap (λ (n : ℕ). bytes_in h + n) (count_bytes bytes)
 
 pub bytes_settled : (h : History) → bytes_in (h ++ Settle ∷ []) ≡ bytes_in h
 bytes_settled h =
-    let split : bytes_in (h ++ Settle ∷ []) ≡ bytes_in h + 0 = sum_by-append (λ x. cond (is_byte x) 1 0) h (Settle ∷ []) in
+    let split : bytes_in (h ++ Settle ∷ []) ≡ bytes_in h + 0 = counted_both h (Settle ∷ []) in
     omega (arith, split)
 
 -- ---- what a crash leaves
 
 -- a disk that stays as it is
 pub leaves_same : (state : DiskState) (P : List ℕ → Type 0) → IsDisk state → ((c : List ℕ) → state.image c → P c) → LeavesOnly state state P
-leaves_same state P disk images = record {
-  later = omega arith;
-  each = λ c left. images c (disk.only_now c left);
-  before = λ t c low left. inl left;
-}
-
-before_both : (A B C P : Type 0) → (C → B ⊎ P) → (B → A ⊎ P) → C → A ⊎ P
-before_both A B C P second first c = either_first A B P first (second c)
-  where
-    either_first : (A B P : Type 0) → (B → A ⊎ P) → B ⊎ P → A ⊎ P
-    either_first A B P first (inl b) = first b
-    either_first A B P first (inr p) = inr p
-
-one_of : (A P : Type 0) → (A → P) → A ⊎ P → P
-one_of A P f (inl a) = f a
-one_of A P f (inr p) = p
-
--- one run after another
-pub leaves_both : (a b c : DiskState) (P : List ℕ → Type 0) → LeavesOnly a b P → LeavesOnly b c P → LeavesOnly a c P
-leaves_both a b c P first second =
-    let early = first.later in
-    let late = second.later in
-    record {
-      later = omega (arith, early, late);
-      each = λ bytes left. one_of (b.since a.moment bytes) (P bytes) (first.each bytes) (second.before a.moment bytes early left);
-      before = λ t bytes low left.
-          before_both (a.since t bytes) (b.since t bytes) (c.since t bytes) (P bytes) (second.before t bytes (omega (arith, low, early))) (first.before t bytes low) left;
-    }
+leaves_same state P disk images = leaves_more state state state.image P (leaves_at_start state disk) images
 
 -- a look at a disk, and then a run
-pub leaves_looked : (a b c : DiskState) (P : List ℕ → Type 0) → IsDisk a → OnlyLooks a b → ((bytes : List ℕ) → a.image bytes → P bytes) → LeavesOnly b c P → LeavesOnly a c P
-leaves_looked a b c P disk looks images run =
-    let early = looks.later in
-    let late = run.later in
-    record {
-      later = omega (arith, early, late);
-      each = λ bytes left. one_of (b.since a.moment bytes) (P bytes)
-          (λ old. images bytes (disk.only_now bytes (looks.adds_nothing a.moment bytes (omega arith) old))) (run.before a.moment bytes early left);
-      before = λ t bytes low left.
-          before_both (a.since t bytes) (b.since t bytes) (c.since t bytes) (P bytes) (run.before t bytes (omega (arith, low, early))) (λ old. inl (looks.adds_nothing t bytes low old)) left;
-    }
-
-weaker_of : (A P Q : Type 0) → (P → Q) → A ⊎ P → A ⊎ Q
-weaker_of A P Q f (inl a) = inl a
-weaker_of A P Q f (inr p) = inr (f p)
-
-pub leaves_weaker : (a b : DiskState) (P Q : List ℕ → Type 0) → ((c : List ℕ) → P c → Q c) → LeavesOnly a b P → LeavesOnly a b Q
-leaves_weaker a b P Q f run = record {
-  later = run.later;
-  each = λ c left. f c (run.each c left);
-  before = λ t c low left. weaker_of (a.since t c) (P c) (Q c) (f c) (run.before t c low left);
-}
+leaves_looked : (a b c : DiskState) (P : List ℕ → Type 0) → IsDisk a → OnlyLooks a b → ((bytes : List ℕ) → a.image bytes → P bytes) → LeavesOnly b c P → LeavesOnly a c P
+leaves_looked a b c P disk looks images run = leaves_in_a_row a b c P (leaves_more a b a.image P (leaves_by_looking a b disk looks) images) run
 
 -- a run that begins with another name of its disk
 pub leaves_from : {D : Type 0} (state : D → DiskState) (a b : D) (c : DiskState) (P : List ℕ → Type 0) → b ≡ a → LeavesOnly (state b) c P → LeavesOnly (state a) c P
@@ -111,7 +62,7 @@ synced_before outcome a b P run = inr (record {
   after = omega arith;
   by_now = run.later;
   since = run.each;
-  ever = leaves_weaker a b P (λ bytes. a.image bytes ⊎ P bytes) (λ bytes p. inr p) run;
+  ever = leaves_more a b P (λ bytes. a.image bytes ⊎ P bytes) run (λ bytes p. inr p);
 })
 
 -- a look at a disk that settles it, and then a run
@@ -124,14 +75,14 @@ synced_by_looking outcome a b c P first second looks settles here run =
       by_now = (let early = settles.by_now in let late = all.later in omega (arith, early, late));
       since = λ bytes left. ⊎_elim (since_now bytes) (λ now. ⊎_elim (λ image. since_now bytes (second.counts_now settles.from bytes settles.by_now image)) (λ p. p) now) (all.before settles.from bytes settles.by_now left);
       ever = leaves_looked a b c (λ bytes. a.image bytes ⊎ P bytes) first looks (λ bytes image. inl image)
-          (leaves_weaker b c (λ bytes. b.image bytes ⊎ P bytes) (λ bytes. a.image bytes ⊎ P bytes) (λ bytes x. ⊎_elim (λ image. inl (looks.image bytes image)) (λ p. inr p) x) all);
+          (leaves_more b c (λ bytes. b.image bytes ⊎ P bytes) (λ bytes. a.image bytes ⊎ P bytes) all (λ bytes x. ⊎_elim (λ image. inl (looks.image bytes image)) (λ p. inr p) x));
     }
   where
     since_now : (bytes : List ℕ) → b.since settles.from bytes → P bytes
     since_now bytes past = subst P (sym (settles.only bytes past)) here
 
     ever_of : MayLeave outcome b c P → LeavesOnly b c (λ bytes. b.image bytes ⊎ P bytes)
-    ever_of (inl unopened) = leaves_weaker b c b.image (λ bytes. b.image bytes ⊎ P bytes) (λ bytes image. inl image) (leaves_by_looking b c second unopened.1)
+    ever_of (inl unopened) = leaves_more b c b.image (λ bytes. b.image bytes ⊎ P bytes) (leaves_by_looking b c second unopened.1) (λ bytes image. inl image)
     ever_of (inr once) = once.ever
 
 -- ---- calls on a disk, one after another

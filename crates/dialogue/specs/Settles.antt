@@ -8,10 +8,10 @@ use Rattle.dialogue.specs.declared.halt.Turn.{Turn}
 use Rattle.dialogue.specs.declared.halt.Turn.TheVariants as turn
 use Rattle.dialogue.specs.Dialogue.{asks, turn_of}
 
--- one for a settle
-abbrev pub is_settle : Option Ask → ℕ
-is_settle (Some ask.Settle) = 1
-is_settle _ = 0
+-- of one question: one for `settle`, none for another
+abbrev pub settles_in_one : Option Ask → ℕ
+settles_in_one (Some ask.Settle) = 1
+settles_in_one _ = 0
 
 -- none where the dialogue has ended
 abbrev pub unless_ended : Turn → ℕ → ℕ
@@ -21,7 +21,7 @@ unless_ended turn.More n = n
 -- how many settles the questions ask for, up to `end`
 abbrev pub settles : List (Option Ask) → ℕ
 settles [] = 0
-settles (question ∷ questions) = is_settle question + unless_ended (turn_of question) (settles questions)
+settles (question ∷ questions) = settles_in_one question + unless_ended (turn_of question) (settles questions)
 
 -- the lines that a piece ends after a history
 abbrev pub lines_since : History → List ℕ → List (List ℕ)

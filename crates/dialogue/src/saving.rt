@@ -47,7 +47,7 @@ pub trait Saves: Keep {
     /// Of the bytes that were read of a log, at most this many aren't saved.
     ghost lacks: { Start Self → Limits → Mode → Self → Option (List ℕ) → ℕ → Type 0 };
 
-    /// At most so many batches were put on a disk since the start.
+    /// Since the start, at most this many batches were put on the disk.
     ghost adds: { Start Self → Limits → Self → ℕ → Type 0 };
 
     /// The second state is the first one after calls that didn't fail.

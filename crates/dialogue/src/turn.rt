@@ -15,7 +15,7 @@ ghost use Rattle.ingest.specs.StandsFor.{StandsFor};
 ghost use Rattle.ingest.specs.Stops.{Stops};
 ghost use Rattle.dialogue.specs.declared.halt.Halt.TheVariants as halt;
 ghost use Rattle.dialogue.specs.Dialogue.{Moment, after, Answers, asked, turn_of, nothing_beyond};
-ghost use Rattle.dialogue.specs.Settles.{is_settle};
+ghost use Rattle.dialogue.specs.Settles.{settles_in_one};
 ghost use Rattle.dialogue.specs.Saves.{CutShort, KeepsPace, Start, lack_of};
 ghost use Rattle.dialogue.specs.Course.{At, kind_of, GoesUp, HasCauses, IsDue, Talked, never, when_takes};
 
@@ -126,7 +126,7 @@ pub fn answer<R: Reducer, K: Saves, L: Source>(
         session.old.unsaved (L.left log.old) most
         → KeepsPace (K.adds start limits) session.old.batch session.new.engine.joined.keep
         (lack_of result session.new.unsaved 0) (L.left log.new)
-        (most + is_settle question.now * session.old.batch) }
+        (most + settles_in_one question.now * session.old.batch) }
     ensures batch { session.new.batch ≡ session.old.batch }
     ensures causes { IfErr result
         (HasCauses (Rose (L.faults log.old) (L.faults log.new) (L.spent log.new)) ⊥
@@ -215,7 +215,7 @@ pub fn take_turn<R: Reducer, K: Saves, L: Source, O: Sink>(
         session.old.unsaved (L.left log.old) most
         → KeepsPace (K.adds start limits) session.old.batch session.new.engine.joined.keep
         (lack_of result session.new.unsaved 0) (L.left log.new)
-        (most + is_settle question.now * session.old.batch) }
+        (most + settles_in_one question.now * session.old.batch) }
     ensures batch { session.new.batch ≡ session.old.batch }
     ensures causes { IfErr result (HasCauses
         (Rose (L.faults log.old) (L.faults log.new) (L.spent log.new))

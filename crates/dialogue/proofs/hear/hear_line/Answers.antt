@@ -6,7 +6,7 @@ use Rattle.audit_lex.specs.LineCut.{line_of}
 use Rattle.dialogue.specs.Dialogue.{nothing_beyond}
 use Rattle.dialogue.specs.Course.{kind_of}
 use Rattle.dialogue.specs.Hearing.{Heard, Holds}
-use Rattle.dialogue.specs.Settles.{is_settle, settles_since}
+use Rattle.dialogue.specs.Settles.{settles_in_one, settles_since}
 use Rattle.dialogue.specs.declared.halt.Halt.TheVariants as halt
 use Rattle.dialogue.proofs.SaveLemmas.{cut_short, memory_names}
 use Rattle.dialogue.proofs.HearLemmas.{heard_line, heard_longer, heard_no_line, heard_nothing}
@@ -82,7 +82,7 @@ returns-in_err-turn-in-Some-clause-adds g c = λ start limits m h most at holds 
     let piece = c.args.piece.now in
     let rest = drop c.in_ok-count.count piece in
     let longer : settles_since limits h part ≤ settles_since limits h piece = subst (λ (xs : List ℕ). settles_since limits h part ≤ settles_since limits h xs) (take-append-drop c.in_ok-count.count piece) (since_longer c.lines_stay.ensures.stay limits h part rest) in
-    rw p.1 (pace_up (g.K.Saves.adds start limits) c.args.session.now.batch c.take_turn.new.session.engine.joined.keep 0 (g.L.Source.left c.take_turn.new.log) most (is_settle c.question_in.result) (settles_since limits h piece) (omega (arith, one, longer))
+    rw p.1 (pace_up (g.K.Saves.adds start limits) c.args.session.now.batch c.take_turn.new.session.engine.joined.keep 0 (g.L.Source.left c.take_turn.new.log) most (settles_in_one c.question_in.result) (settles_since limits h piece) (omega (arith, one, longer))
     (c.in_err-turn-in-Some.ensures.adds start limits m most at pace))
 
 pub returns-in_ok-turn-in-Some-clause-adds : goal.returns-in_ok-turn-in-Some-clause-adds
@@ -91,5 +91,5 @@ returns-in_ok-turn-in-Some-clause-adds g c = λ start limits m h most at holds p
     let told : c.in-Some.line ≡ line_of limits.question (length (lines_of h) + 1) given.0 = subst (λ (most : ℕ). c.in-Some.line ≡ line_of most (length (lines_of h) + 1) given.0) holds.limit given.2 in
     let part = take c.in_ok-count.count c.args.piece.now in
     let one = one_since limits h part given.0 _ (c.question_in.ensures limits.question (length (lines_of h) + 1) given.0 told) given.1 in
-    pace_up (g.K.Saves.adds start limits) c.args.session.now.batch c.take_turn.new.session.engine.joined.keep c.take_turn.new.session.unsaved (g.L.Source.left c.take_turn.new.log) most (is_settle c.question_in.result) (settles_since limits h part) one
+    pace_up (g.K.Saves.adds start limits) c.args.session.now.batch c.take_turn.new.session.engine.joined.keep c.take_turn.new.session.unsaved (g.L.Source.left c.take_turn.new.log) most (settles_in_one c.question_in.result) (settles_since limits h part) one
     (c.in_ok-turn-in-Some.ensures.adds start limits m most at pace)

@@ -4,7 +4,7 @@ use Rattle.audit_lex.specs.History.{lines_of}
 use Rattle.audit_lex.specs.LineCut.{line_of}
 use Rattle.dialogue.proofs.ListenLemmas.{last_none, last_line}
 use Rattle.dialogue.specs.Dialogue.{asks}
-use Rattle.dialogue.specs.Settles.{is_settle, last_since, settles}
+use Rattle.dialogue.specs.Settles.{settles_in_one, last_since, settles}
 use Rattle.dialogue.proofs.AddLemmas.{pace_free, pace_up}
 use Rattle.dialogue.proofs.SettleLemmas.{one_last}
 use Rattle.dialogue.proofs.listen.finish.Goals as goal
@@ -46,7 +46,7 @@ returns-in_err-_turn-in-Some-clause-adds g c = λ start limits m h most at holds
     let given = rw c.in-Some.is at c.finish.ensures.line h holds.stands in
     let told : c.in-Some.line ≡ line_of limits.question (length (lines_of h) + 1) given.0 = subst (λ (most : ℕ). c.in-Some.line ≡ line_of most (length (lines_of h) + 1) given.0) holds.limit given.2 in
     let one = one_last limits h given.0 _ (c.question_in.ensures limits.question (length (lines_of h) + 1) given.0 told) given.1 in
-    rw p.1 (pace_up (g.K.Saves.adds start limits) c.args.session.now.batch c.take_turn.new.session.engine.joined.keep 0 (g.L.Source.left c.take_turn.new.log) most (is_settle c.question_in.result) (settles (asks limits (last_since h))) one
+    rw p.1 (pace_up (g.K.Saves.adds start limits) c.args.session.now.batch c.take_turn.new.session.engine.joined.keep 0 (g.L.Source.left c.take_turn.new.log) most (settles_in_one c.question_in.result) (settles (asks limits (last_since h))) one
     (c.in_err-_turn-in-Some.ensures.adds start limits m most at pace))
 
 pub returns-in_ok-_turn-in-Some-clause-adds : goal.returns-in_ok-_turn-in-Some-clause-adds
@@ -54,5 +54,5 @@ returns-in_ok-_turn-in-Some-clause-adds g c = λ start limits m h most at holds 
     let given = rw c.in-Some.is at c.finish.ensures.line h holds.stands in
     let told : c.in-Some.line ≡ line_of limits.question (length (lines_of h) + 1) given.0 = subst (λ (most : ℕ). c.in-Some.line ≡ line_of most (length (lines_of h) + 1) given.0) holds.limit given.2 in
     let one = one_last limits h given.0 _ (c.question_in.ensures limits.question (length (lines_of h) + 1) given.0 told) given.1 in
-    pace_up (g.K.Saves.adds start limits) c.args.session.now.batch c.take_turn.new.session.engine.joined.keep c.take_turn.new.session.unsaved (g.L.Source.left c.take_turn.new.log) most (is_settle c.question_in.result) (settles (asks limits (last_since h))) one
+    pace_up (g.K.Saves.adds start limits) c.args.session.now.batch c.take_turn.new.session.engine.joined.keep c.take_turn.new.session.unsaved (g.L.Source.left c.take_turn.new.log) most (settles_in_one c.question_in.result) (settles (asks limits (last_since h))) one
     (c.in_ok-_turn-in-Some.ensures.adds start limits m most at pace)

@@ -6,7 +6,7 @@ use Rattle.report_json.specs.declared.reply.Reply.TheVariants as reply
 use Rattle.ingest.specs.Parts.{Engine}
 use Rattle.ingest.specs.Replies.{IsQuestion}
 use Rattle.ingest.specs.Stops.{Stops}
-use Rattle.dialogue.specs.Settles.{is_settle}
+use Rattle.dialogue.specs.Settles.{settles_in_one}
 use Rattle.dialogue.specs.Dialogue.{Moment, after, Answers}
 use Rattle.dialogue.specs.Saves.{KeepsPace, lack_of}
 use Rattle.dialogue.specs.Course.{At, IsDue, kind_of}
@@ -162,7 +162,7 @@ pub returns-in_err-count-in-Some-Take-clause-adds : goal.returns-in_err-count-in
 returns-in_err-count-in-Some-Take-clause-adds g c = λ start limits m most h pace.
     let p = err_from_is_err_and c.from_residual.result c.from_residual.ensures.1 in
     let keep = c.take.new.session.engine.joined.keep in
-    rw p.1 (pace_halted (g.K.Saves.adds start limits) c.args.session.now.batch keep keep 0 _ most (is_settle c.args.question.now * c.args.session.now.batch) (λ n so. so) (c.in_err-count-in-Some-Take.ensures.adds c.args.takes start limits m most h pace))
+    rw p.1 (pace_halted (g.K.Saves.adds start limits) c.args.session.now.batch keep keep 0 _ most (settles_in_one c.args.question.now * c.args.session.now.batch) (λ n so. so) (c.in_err-count-in-Some-Take.ensures.adds c.args.takes start limits m most h pace))
 
 pub returns-in_ok-count-in-Some-Take-clause-adds : goal.returns-in_ok-count-in-Some-Take-clause-adds
 returns-in_ok-count-in-Some-Take-clause-adds g c = λ start limits m most h pace.
@@ -174,9 +174,9 @@ returns-in-Some-Settle-clause-adds g c = λ start limits m most h pace.
     let inner = rw c.in-Some-Settle.is at c.in-Some-Settle.field-0-is in
     let e : c.args.question.now ≡ Some ask.Settle = c.in-Some-Settle.is ∙ ap Some inner in
     let batch = c.args.session.now.batch in
-    let one : most + batch ≡ most + is_settle (Some ask.Settle) * batch = omega arith in
+    let one : most + batch ≡ most + settles_in_one (Some ask.Settle) * batch = omega arith in
     let settled = c.settle_all.ensures.adds c.args.takes start limits _ m most h pace in
-    subst (λ (q : Option Ask). KeepsPace (g.K.Saves.adds start limits) batch c.settle_all.new.session.engine.joined.keep (lack_of c.settle_all.result c.settle_all.new.session.unsaved 0) (g.L.Source.left c.args.log.now) (most + is_settle q * batch)) (sym e)
+    subst (λ (q : Option Ask). KeepsPace (g.K.Saves.adds start limits) batch c.settle_all.new.session.engine.joined.keep (lack_of c.settle_all.result c.settle_all.new.session.unsaved 0) (g.L.Source.left c.args.log.now) (most + settles_in_one q * batch)) (sym e)
     (subst (λ (n : ℕ). KeepsPace (g.K.Saves.adds start limits) batch c.settle_all.new.session.engine.joined.keep (lack_of c.settle_all.result c.settle_all.new.session.unsaved 0) (g.L.Source.left c.args.log.now) n) one settled)
 
 pub returns-in-Some-clause-adds : goal.returns-in-Some-clause-adds

@@ -4,7 +4,7 @@ use Rattle.report_json.specs.Replies.{text_of}
 use Rattle.dialogue.specs.Dialogue.{after, nothing_beyond}
 use Rattle.dialogue.proofs.SaveLemmas.{after_mode, cut_short, names_none}
 use Rattle.dialogue.proofs.TalkLemmas.{appends_none, no_reply, other_halt, half_said, one_turn}
-use Rattle.dialogue.specs.Settles.{is_settle}
+use Rattle.dialogue.specs.Settles.{settles_in_one}
 use Rattle.dialogue.proofs.AddLemmas.{pace_on}
 use Rattle.dialogue.proofs.LackLemmas.{lacks_halted}
 use Rattle.dialogue.proofs.turn.take_turn.Goals as goal
@@ -81,7 +81,7 @@ returns-in_err-say-clause-adds g c = λ start limits m most h pace.
     let p = err_from_is_err_and c.from_residual-in_err-say.result c.from_residual-in_err-say.ensures.1 in
     let session = c.answer.new.session in
     let keep = session.engine.joined.keep in
-    let more = most + is_settle c.args.question.now * c.args.session.now.batch in
+    let more = most + settles_in_one c.args.question.now * c.args.session.now.batch in
     rw p.1 (pace_on (g.K.Saves.adds start limits) c.args.session.now.batch keep keep session.unsaved 0 (g.L.Source.left c.answer.new.log) more more (λ n so. so) (omega arith) (omega arith) (c.in_ok-reply.ensures.adds start limits m most h pace))
 
 pub returns-clause-adds : goal.returns-clause-adds
