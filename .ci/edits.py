@@ -1,6 +1,7 @@
 """Whether the wrong bodies of each crate are wrong bodies: each changes code in src/, and each crate with code has some.
 
 An edit of a definition, a contract or a proof would be refused whatever it said, so it would show nothing.
+A crate of laws or of tests alone has no code that could be wrong.
 Prints what isn't so, and ends with status 1 if there is any.
 """
 import re
@@ -8,6 +9,8 @@ import sys
 from pathlib import Path
 
 CLAUSE = re.compile(r'\s*(pub )?(requires|ensures|ghost)\b')
+# A module that is read for tests alone.
+TESTS = re.compile(r'#\[cfg\(test\)\]\nmod (\w+);')
 # A law that a law's body cites.
 CITES = re.compile(r'\s*\w+\(\);')
 BODY = re.compile(r'\s*\{$|\s*(pub(\(crate\))? )?fn .*\{$|\s*\) .*\{$')
@@ -54,9 +57,19 @@ def fault_of(crate, edit):
     return None
 
 
-def has_code(crate):
-    """Whether some function does more than cite laws: a crate of laws alone has none that could be wrong."""
+def tests_of(crate):
+    """The files of a crate that are read for its tests alone."""
+    found = set()
     for path in crate.glob('src/**/*.rt'):
+        folder = path.parent if path.stem in ('lib', 'main') else path.with_suffix('')
+        for name in TESTS.findall(path.read_text(encoding='utf-8')):
+            found |= {folder / f'{name}.rt', *(folder / name).glob('**/*.rt')}
+    return found
+
+
+def has_code(crate):
+    """Whether some function that isn't of tests does more than cite laws."""
+    for path in set(crate.glob('src/**/*.rt')) - tests_of(crate):
         code = code_of(path.read_text(encoding='utf-8'))
         if any(BODY.match(line) and not CITES.fullmatch(after) for line, after in zip(code, [*code[1:], ''])):
             return True

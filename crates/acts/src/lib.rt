@@ -20,6 +20,3 @@ pub use laws::{
 };
 pub use link::Link;
 pub use look_back::{Plain, Refused, Standing, is_live, link_of, stands_after};
-
-#[cfg(test)]
-mod tests;

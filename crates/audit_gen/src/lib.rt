@@ -14,7 +14,5 @@
 mod deeds;
 mod lines;
 mod logs;
-#[cfg(test)]
-mod tests;
 
 pub use logs::generate;

@@ -18,8 +18,6 @@ mod places;
 mod slots;
 mod table_places;
 mod tally;
-#[cfg(test)]
-mod tests;
 mod tokens;
 mod used_line;
 mod usual;

@@ -8,8 +8,6 @@
 mod fields;
 mod laws;
 mod read;
-#[cfg(test)]
-mod tests;
 mod texts;
 mod types;
 

@@ -15,8 +15,6 @@ mod laws;
 mod open;
 mod processes;
 mod records;
-#[cfg(test)]
-mod tests;
 mod transfers;
 
 pub use acts::{Act, FileRef, Opens, Thing};

@@ -12,6 +12,3 @@ mod saving;
 pub use entities::Entities;
 pub use fault::EnterFault;
 pub use key_names::Named;
-
-#[cfg(test)]
-mod tests;

@@ -34,6 +34,3 @@ pub use laws::{a_see_starts_the_process, calm_acts_leave_the_process};
 pub use plan::{NewAddress, Plan};
 pub use rows::TableRows;
 pub use tables::Tables;
-
-#[cfg(test)]
-mod tests;

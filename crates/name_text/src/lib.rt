@@ -7,8 +7,6 @@ mod labels;
 mod laws;
 mod paths;
 mod pieces;
-#[cfg(test)]
-mod tests;
 
 pub use addresses::{address_key, address_text};
 pub use keys::key_text;

@@ -18,8 +18,6 @@ mod kinds;
 mod laws;
 mod parts;
 mod releases;
-#[cfg(test)]
-mod tests;
 
 pub use clock::JoinClock;
 pub use event::{Event, EventView, Taken};

@@ -1,6 +1,6 @@
-//! Logs that were made apart from this crate: by another program, with PCG's published constants.
+//! Logs that were made apart from `audit_gen`: by another program, with PCG's published constants.
 
-use crate::generate;
+use audit_gen::generate;
 use std::test::Fail;
 
 #[test]

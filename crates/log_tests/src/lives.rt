@@ -2,7 +2,7 @@
 ghost use Rattle.std.specs.Prelude.{◌≡◌, ◌≤◌, ◌<◌, ◌-◌, ◌^◌, true, IfSome};
 ghost use Rattle.proc_table.specs.Table.{at};
 
-use crate::*;
+use proc_table::{Forked, Life, Procs, Seen};
 
 #[derive(Clone, Copy)]
 enum Step {

@@ -8,7 +8,7 @@ use Rattle.flow_events.specs.Drafts.{turned}
 use Rattle.flow_events.specs.Following.{MayFollow, MayComeAfter}
 use Rattle.flow_events.proofs.Drafting.{joined}
 use Rattle.flow_events.proofs.Planning.{turned_acts}
-use Rattle.flow_events.proofs.tests.Course.take.Goals as goal
+use Rattle.log_tests.proofs.tables.Course.take.Goals as goal
 
 -- an event may follow what was taken so far
 pub prepare-requires : goal.prepare-requires

@@ -2,7 +2,7 @@
 ghost use Rattle.std.specs.Prelude.{◌≡◌, false};
 ghost use Rattle.acts.specs.LookBack.{opens};
 
-use crate::*;
+use acts::{Act, FileRef, Plain, Refused, Taken, Thing};
 use flow_base::{Bytes, Device, EntityId, FileId, Flow, Full, How, Key, Limit, NoMemory, Stamp};
 use std::alloc::Global;
 use std::test::Fail;

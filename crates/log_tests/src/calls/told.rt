@@ -1,5 +1,5 @@
 //! Acts written as text.
-use crate::{Act, FileRef, Opens, Thing};
+use call_acts::{Act, FileRef, Opens, Thing};
 use flow_base::{Bytes, How, NoMemory};
 use std::alloc::Global;
 

@@ -1,9 +1,9 @@
 //! Records in, events out. The wanted events are worked out by hand from the rules of joining.
 
-use crate::{Event, EventView, GroupView, Join, JoinClock, Taken, join_all, release_ripe};
 use audit_lex::EventKey;
 use audit_record::{Body, Record, Syscall};
 use flow_base::{Bytes, Limits, List, NoMemory};
+use record_join::{Event, EventView, GroupView, Join, JoinClock, Taken, join_all, release_ripe};
 use std::alloc::Global;
 use std::test::Fail;
 

@@ -3,8 +3,6 @@
 ghost use Rattle.std.specs.Prelude.{◌≡◌, ⊤};
 ghost use Rattle.acts.specs.LookBack.{opens};
 
-use crate::parts::newest_first;
-use crate::{PrepareFault, Tables};
 use How::{Alter, Exec, Fork, Make, Read, Write};
 use Known::{AtAddress, Inode, Lost, Made, Process};
 use NameKind::{Create, Delete, Normal};
@@ -16,6 +14,7 @@ use call_acts::{acts, acts_are_few, event_acts_are_admitted};
 use flow_base::{
     Bytes, Device, EntityId, FileId, Flow, Full, How, Key, Limit, Limits, List, NoMemory, Stamp,
 };
+use flow_events::{PrepareFault, Tables};
 use proc_table::Life;
 use record_join::EventView;
 use row_codec::{StateRow, StoreRow};
@@ -612,6 +611,16 @@ fn may_open(act: &Act) -> bool
         act,
         Act::Set { .. } | Act::SetBoth { .. } | Act::Copy { .. } | Act::Address { .. }
     )
+}
+
+// The acts of an event with the last one first.
+fn newest_first(alloc: Global, acts: List<Act>) -> Result<List<Act>, NoMemory> {
+    let mut acts = acts;
+    let mut turned = List::new(alloc);
+    while let Some(act) = acts.pop() {
+        turned.push(act)?;
+    }
+    Ok(turned)
 }
 
 // The plain program takes these acts, the newest of which stands first.

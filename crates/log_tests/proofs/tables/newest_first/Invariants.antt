@@ -1,10 +1,10 @@
 use Rattle.std.proofs.Common.{length}
 use Rattle.std.specs.Prelude.{⊤}
-use Rattle.flow_events.proofs.tests.take_plainly.Given as goal
+use Rattle.log_tests.proofs.tables.newest_first.Given as goal
 
--- each act is taken once
+-- each act is turned once
 abbrev pub invariant-loop-act : goal.invariant-loop-act
-invariant-loop-act l = ⊤
+invariant-loop-act g l = ⊤
 
 abbrev pub decreases-loop-act : goal.decreases-loop-act
-decreases-loop-act l = length l.acts
+decreases-loop-act g l = length l.acts

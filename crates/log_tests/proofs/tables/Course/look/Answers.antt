@@ -2,7 +2,7 @@ use Rattle.std.proofs.Common.{rules, ◌<◌, ◌+◌, ◌-◌, ◌^◌, subst, 
 use Rattle.name_text.specs.Addresses.{text_of}
 use Rattle.call_acts.specs.Acts.{event_acts}
 use Rattle.flow_base.specs.declared.limits.Limits.{Limits}
-use Rattle.flow_events.proofs.tests.Course.look.Goals as goal
+use Rattle.log_tests.proofs.tables.Course.look.Goals as goal
 
 -- an event may follow what was taken so far
 pub prepare-requires : goal.prepare-requires

@@ -1,7 +1,7 @@
 //! Lines in, records out. The wanted records are worked out by hand from the format of audit records.
 
-use crate::{Body, NameKind, PathItem, Record, Syscall, read_record};
 use audit_lex::{EventKey, Lexed, lex};
+use audit_record::{Body, NameKind, PathItem, Record, Syscall, read_record};
 use flow_base::{Bytes, Device, FileId, NoMemory};
 use std::alloc::Global;
 use std::test::Fail;

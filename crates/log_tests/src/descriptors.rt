@@ -1,6 +1,6 @@
 //! Lists of acts with what is held after them, worked out by hand from the rules of descriptors.
-use crate::*;
 use acts::{Held, Object};
+use fd_table::{FdEntry, Fds};
 use flow_base::Bytes;
 use std::test::Fail;
 

@@ -1,5 +1,8 @@
 //! Lines of each class and with each fault. What is expected was worked out by hand from the format.
-use crate::*;
+use audit_lex::{
+    Field, Lexed, LineCut, LineFault, Tally, UsedLine, dec32, dec64, device, handle, hex32, hex64,
+    lex, quoted, signed, yesno,
+};
 use flow_base::{Bad, Bytes, NoMemory};
 use std::alloc::Global;
 use std::test::Fail;

@@ -1,6 +1,6 @@
 //! Numbers and names of a few keys, worked out by hand from the rules.
 
-use crate::*;
+use entity_names::{EnterFault, Entities};
 use flow_base::{Bytes, EntityId, Full, Key, Limit, Limits};
 use std::alloc::Global;
 use std::test::Fail;

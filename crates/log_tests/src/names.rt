@@ -1,7 +1,7 @@
 //! Texts by hand: the rows of the format, its traps, and one row for each family and kind of key.
 
-use crate::{address_key, address_text, join_path, key_text, label};
 use flow_base::{Bytes, Device, FileId, Key};
+use name_text::{address_key, address_text, join_path, key_text, label};
 use std::test::Fail;
 
 #[test]

@@ -7,8 +7,8 @@ mod processes;
 mod told;
 mod transfers;
 
-use crate::{Call, acts, call_of, event_call, is_unmapped, opens_descriptors};
 use audit_record::NameKind;
+use call_acts::{Call, acts, call_of, event_call, is_unmapped, opens_descriptors};
 use cases::Answer::Done;
 use cases::Said::Path;
 use cases::{Case, X86_64, call, one_record, path, records, view};

@@ -1,0 +1,10 @@
+use Rattle.std.proofs.Common.{length}
+use Rattle.std.specs.Prelude.{⊤}
+use Rattle.log_tests.proofs.tables.take_plainly.Given as goal
+
+-- each act is taken once
+abbrev pub invariant-loop-act : goal.invariant-loop-act
+invariant-loop-act l = ⊤
+
+abbrev pub decreases-loop-act : goal.decreases-loop-act
+decreases-loop-act l = length l.acts
