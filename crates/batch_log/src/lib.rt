@@ -21,6 +21,3 @@ pub use find::Batch;
 pub use log::{BatchLog, CommitFault};
 pub use open::{LogFault, a_disk_reads_in_one_way};
 pub use payload::{listed_batches_have_their_payloads, read_payload};
-
-#[cfg(test)]
-mod tests;

@@ -20,10 +20,6 @@ mod spellable;
 mod state_row;
 mod stop;
 mod store_laws;
-#[cfg(test)]
-mod store_tests;
-#[cfg(test)]
-mod tests;
 mod waiting;
 mod waiting_rows;
 

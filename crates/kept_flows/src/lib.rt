@@ -16,6 +16,3 @@ pub use kept_flows::KeptFlows;
 pub use laws::flows_that_come_next_may_be_taken;
 pub use one_path::Way;
 pub use restoring::Unrestored;
-
-#[cfg(test)]
-mod tests;

@@ -9,6 +9,3 @@ mod laws;
 
 pub use full::Full;
 pub use laws::full_mode_loses_later_starts;
-
-#[cfg(test)]
-mod tests;

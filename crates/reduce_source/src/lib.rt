@@ -18,6 +18,3 @@ mod standing;
 pub use laws::source_mode_loses_other_starts;
 pub use sets::SourceSets;
 pub use sources::Sources;
-
-#[cfg(test)]
-mod tests;

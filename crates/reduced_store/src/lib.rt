@@ -35,6 +35,3 @@ pub use opened::{OpenFault, Opened, Unopened};
 pub use reading::Found;
 pub use rows::StoreRows;
 pub use store::Store;
-
-#[cfg(test)]
-mod tests;

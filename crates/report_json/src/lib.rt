@@ -8,8 +8,6 @@ mod numbers;
 mod parts;
 mod paths;
 mod reply;
-#[cfg(test)]
-mod tests;
 mod texts;
 
 pub use ask::{Ask, BadQuestion, a_line_asks_one_thing, read_question, what_is_found_is_asked};

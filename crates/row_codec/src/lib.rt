@@ -47,6 +47,3 @@ pub use readers::{read_extend, read_kept, read_row, spellings_are_apart};
 pub use rows::{ExtendRow, KeptRow, StoreRow};
 pub use state::StateRow;
 pub use writers::{rows_that_fit_can_be_spelled, write_row};
-
-#[cfg(test)]
-mod tests;

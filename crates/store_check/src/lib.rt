@@ -23,6 +23,3 @@ mod numbers;
 mod order;
 
 pub use check::StoreCheck;
-
-#[cfg(test)]
-mod tests;

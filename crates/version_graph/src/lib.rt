@@ -12,6 +12,3 @@ mod versions;
 
 pub use laws::links_are_those_of_full_mode;
 pub use versions::Versions;
-
-#[cfg(test)]
-mod tests;

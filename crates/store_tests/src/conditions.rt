@@ -1,9 +1,10 @@
-use crate::StoreCheck;
+//! Rows that may be the first batch of a store, and rows that may not.
 use flow_base::{Bytes, Limits};
 use reach_model::Mode;
 use row_codec::read_payload;
 use std::alloc::Global;
 use std::test::Fail;
+use store_check::StoreCheck;
 
 const ENTITY: &[u8] = b"\x01\x03\x02\0\0\0/a";
 

@@ -1,7 +1,8 @@
-use crate::{SourceSets, Sources};
+//! Which flows source mode keeps, the sources of an object, and which questions it answers.
 use flow_base::{EntityId, Flow, How, NoMemory, Stamp};
 use reach_model::Verdict;
 use reach_rows::{First, Mark, Question, Reducer, Row};
+use reduce_source::{SourceSets, Sources};
 use std::alloc::Global;
 use std::test::Fail;
 

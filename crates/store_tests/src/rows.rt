@@ -1,6 +1,7 @@
-use crate::{Payload, RowRead, StoreRow, read_kept, read_payload, read_row, write_row};
+//! Payloads and rows of a store as bytes.
 use flow_base::Bytes;
 use reach_model::Mode;
+use row_codec::{Payload, RowRead, StoreRow, read_kept, read_payload, read_row, write_row};
 use std::alloc::Global;
 use std::test::Fail;
 

@@ -1,10 +1,9 @@
+//! Flows kept as rows of plain and of continuous mode, and the answers over them.
 ghost use Rattle.std.specs.Prelude.{[], IfOk, IfSome};
 ghost use Rattle.reach_model.specs.Numbers.{IsLawfulWith};
 
-use crate::kept_flows::KeptFlows;
-use crate::laws::flows_that_come_next_may_be_taken;
-use crate::one_path::Way;
 use flow_base::{EntityId, Flow, How, List, NoMemory, Stamp};
+use kept_flows::{KeptFlows, Way, flows_that_come_next_may_be_taken};
 use reach_model::{Mode, lawful_flows_grow};
 use reach_rows::{Plain, Question, Reducer, VecRows};
 use reduce_continuous::Continuous;

@@ -5,9 +5,9 @@ ghost use Rattle.kept_flows.specs.Committing.{CanCommit};
 ghost use Rattle.reduced_store.specs.OnDisk.{SameBut};
 ghost use Rattle.ingest.specs.Replies.{IsQuestion};
 
-use crate::tests::DESCRIPTORS;
-use crate::{Ingest, what_can_commit_still_can};
+use crate::engine::DESCRIPTORS;
 use flow_base::{Bytes, EntityId, Limits, List, NoMemory};
+use ingest::{Ingest, what_can_commit_still_can};
 use outside::{Disk, MemDisk};
 use reach_model::Mode;
 use reach_rows::{Plain, Question};

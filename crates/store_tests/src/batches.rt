@@ -1,5 +1,5 @@
 //! Commits over disks in memory, whole and stopped.
-use super::*;
+use batch_log::{Batch, BatchLog, CommitFault, LogFault};
 use flow_base::{Bytes, Full, Limit, Limits, List};
 use outside::{MemDisk, StopDisk};
 use std::alloc::Global;

@@ -1,7 +1,8 @@
-use crate::Versions;
+//! Versions of objects, and which pairs are linked.
 use flow_base::{EntityId, Flow, How, NoMemory, Stamp};
 use std::alloc::Global;
 use std::test::Fail;
+use version_graph::Versions;
 
 /// A source and a target.
 type Step = (u32, u32);

@@ -1,7 +1,7 @@
 //! Lines and replies. What is expected was worked out by hand from the formats.
-use crate::*;
 use flow_base::{Bad, Bytes, EntityId, Flow, How, List, NoMemory, Stamp};
 use reach_rows::Question;
+use report_json::{Ask, BadQuestion, Counts, FindText, Reply, read_question, reply_text};
 use std::alloc::Global;
 use std::test::Fail;
 

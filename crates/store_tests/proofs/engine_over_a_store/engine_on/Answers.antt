@@ -1,6 +1,6 @@
 use Rattle.std.proofs.Common.{ap}
 use Rattle.batch_log.specs.Log.{Log}
-use Rattle.ingest.proofs.store_tests.engine_on.Goals as goal
+use Rattle.store_tests.proofs.engine_over_a_store.engine_on.Goals as goal
 
 pub returns-in-Ok-restore : goal.returns-in-Ok-restore
 returns-in-Ok-restore g c =

@@ -1,7 +1,8 @@
-use crate::Full;
+//! Which flows full mode keeps, and which questions it answers.
 use flow_base::{EntityId, Flow, How, NoMemory, Stamp};
 use reach_model::Verdict;
 use reach_rows::{First, Mark, Question, Reducer, Row};
+use reduce_full::Full;
 use std::alloc::Global;
 use std::test::Fail;
 

@@ -3,7 +3,7 @@ use Rattle.std.specs.List.{Contains}
 use Rattle.flow_base.specs.declared.types.Flow.{Flow}
 use Rattle.reach_model.specs.Flows.{time}
 use Rattle.reach_model.specs.Numbers.{IsLawfulWith}
-use Rattle.kept_flows.proofs.tests.lawful_flows.Given as goal
+use Rattle.store_tests.proofs.kept.lawful_flows.Given as goal
 
 -- the flows so far are lawful, and none is later than `last`
 abbrev pub invariant-loop-from : goal.invariant-loop-from

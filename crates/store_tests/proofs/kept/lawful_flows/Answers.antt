@@ -4,7 +4,7 @@ use Rattle.flow_base.specs.declared.types.Flow.{Flow}
 use Rattle.flow_base.specs.declared.types.How.TheVariants.{Fork}
 use Rattle.reach_model.specs.Numbers.{IsLawfulWith, beyond}
 use Rattle.reach_model.proofs.Numbering.{latest_push}
-use Rattle.kept_flows.proofs.tests.lawful_flows.Goals as goal
+use Rattle.store_tests.proofs.kept.lawful_flows.Goals as goal
 
 pub loop-from-preserved : goal.loop-from-preserved
 loop-from-preserved c =

@@ -1,8 +1,11 @@
 //! Sources, sinks and disks in memory, and a sink that takes less than it is given.
 ghost use Rattle.std.specs.Prelude.{◌≡◌, ◌-◌, ◌^◌, Some};
 
-use super::*;
 use flow_base::{Bytes, List};
+use outside::{
+    CleanSource, Disk, Failed, MemDisk, MemSink, MemSource, Sink, Source, StopDisk, WriteFault,
+    put_all,
+};
 use std::test::Fail;
 
 // A sink that takes at most three bytes a call.

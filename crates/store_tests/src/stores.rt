@@ -2,11 +2,11 @@
 ghost use Rattle.std.specs.Prelude.{IfOk};
 ghost use Rattle.row_codec.specs.Rows.{CanBeSpelled};
 
-use super::*;
 use flow_base::{Bytes, Limits, List};
 use outside::{MemDisk, StopDisk};
 use reach_model::Mode;
 use reach_rows::Rows;
+use reduced_store::{OpenFault, Opened, Store};
 use row_codec::{StoreRow, read_row, rows_that_fit_can_be_spelled};
 use std::alloc::Global;
 use std::test::Fail;

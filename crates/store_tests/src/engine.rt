@@ -3,8 +3,8 @@
 //! A function that owns an engine has one way out, since each way out drops all of its tables.
 ghost use Rattle.ingest.specs.Replies.{IsQuestion};
 
-use crate::{Ingest, Stop, StopWhy};
 use flow_base::{EntityId, Full, Limit, Limits, NoMemory};
+use ingest::{Ingest, Stop, StopWhy};
 use reach_rows::{Plain, Question, Reducer, VecRows};
 use reduce_continuous::Continuous;
 use report_json::{Ask, FindText, reply_text};
