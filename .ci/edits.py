@@ -11,8 +11,9 @@ from pathlib import Path
 CLAUSE = re.compile(r'\s*(pub )?(requires|ensures|ghost)\b')
 # A module that is read for tests alone.
 TESTS = re.compile(r'#\[cfg\(test\)\]\nmod (\w+);')
-# A law that a law's body cites.
-CITES = re.compile(r'\s*\w+\(\);')
+# A law that is cited.
+CITES = re.compile(r'\s*(\w+::)*\w+(::<[^>]*>)?\(\);')
+ATTRIBUTE = re.compile(r'\s*#!?\[')
 BODY = re.compile(r'\s*\{$|\s*(pub(\(crate\))? )?fn .*\{$|\s*\) .*\{$')
 
 
@@ -26,6 +27,11 @@ def code_of(text):
         elif line:
             code.append(line)
     return code
+
+
+def deeds_of(text):
+    """The lines of code that do something: neither attributes nor laws that are cited."""
+    return [line for line in code_of(text) if not CITES.fullmatch(line) and not ATTRIBUTE.match(line)]
 
 
 def pairs_of(edit):
@@ -52,7 +58,7 @@ def fault_of(crate, edit):
         if text.count(old) != 1:
             return f'its old text stands {text.count(old)} times in {name}'
         changed[name] = text.replace(old, new)
-    if all(code_of(text) == code_of((crate / name).read_text(encoding='utf-8')) for name, text in changed.items()):
+    if all(deeds_of(text) == deeds_of((crate / name).read_text(encoding='utf-8')) for name, text in changed.items()):
         return 'changes no code'
     return None
 

@@ -24,6 +24,7 @@ TWO_FLOWS = (TOP / 'examples/two_flows.log').read_bytes()
 FORK, WRITE = TWO_FLOWS.splitlines(keepends=True)
 SECONDS = 30
 MEGABYTE = 1 << 20
+STACK = 1 << 16
 
 
 class Dialogue:
@@ -219,6 +220,33 @@ def a_closed_standard_error(here):
     here.want('the status', ran.returncode, 2)
 
 
+def a_store_with_closed_streams(here):
+    """Whichever of standard output and error is closed, no reply gets into the store."""
+    log = here.file('log', TWO_FLOWS)
+    jobs = [(['reduce', 'plain'], b''), (['watch', 'plain'], b'take 1000\nsettle\nstat\nend\n')]
+    for words, questions in jobs:
+        for closed, wanted in (('>&-', 5), ('2>&-', 0)):
+            store = here.folder / 'store'
+            line = f'exec "$0" "$@" {closed}'
+            ran = subprocess.run(['sh', '-c', line, here.program, *words, log, store], input=questions, capture_output=True, timeout=60)
+            here.want(f'{words[0]} {closed}', ran.returncode, wanted)
+            here.want(f'{words[0]} {closed}, a reply in the store', b'"' in store.read_bytes(), False)
+            here.want(f'{words[0]} {closed}, resumed', run(['reduce', 'plain', log, store, '--resume'], program=here.program).status, 0)
+            here.want(f'{words[0]} {closed}, asked', run(['query', store], b'back 2\n', here.program).out, b'{"back":2,"ids":[0,1,2]}\n')
+            store.unlink()
+
+
+def a_small_stack(here):
+    """The buffers of reads are in memory that can be refused, so a small stack suffices."""
+    log, store = here.file('log', TWO_FLOWS), here.folder / 'store'
+    questions = b'take 1000\nsettle\nback 2\nend\n'
+    small = {'preexec_fn': lambda: resource.setrlimit(resource.RLIMIT_STACK, (STACK, STACK)), 'capture_output': True, 'timeout': 60}
+    for words in (['watch', 'plain', log], ['reduce', 'plain', log, store], ['query', store]):
+        ran = subprocess.run([here.program, *words], input=questions, **small)
+        here.want(words[0], (ran.returncode, ran.stderr), (0, b''))
+        here.want(f'{words[0]}, its replies', ran.stdout, run(words if words[0] != 'reduce' else [*words, '--resume'], questions, here.program).out)
+
+
 def a_program_that_is_stopped_goes_on(here):
     talk = Dialogue(here, here.file('log', TWO_FLOWS))
     here.want('before', talk.ask('take 100'), '{"take":100}')
@@ -272,7 +300,7 @@ def least_memory(program):
 
 KINDS = [a_log_that_grows, a_log_that_is_cut, a_log_that_is_renamed_or_removed, a_settle_within_a_line, a_pipe_as_the_log, a_pipe_as_the_log_of_a_store,
          a_store_that_keeps_its_mode, files_of_proc, streams_that_are_not_ready, a_reader_that_goes_away, a_closed_standard_error,
-         a_program_that_is_stopped_goes_on, bounds_on_memory]
+         a_store_with_closed_streams, a_program_that_is_stopped_goes_on, a_small_stack, bounds_on_memory]
 
 
 def main():

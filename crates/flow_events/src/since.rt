@@ -121,14 +121,12 @@ impl Since {
 
     /// Makes room for this many acts, and for one address.
     pub fn reserve(&mut self, acts: usize) -> Result<(), NoMemory>
+        requires few { acts < 2 ^ 63 }
         ensures same { IsSameMemory self.old self.new }
         ensures room { OnOk result (HasRoom self.new acts) }
         ensures address { OnOk result (1 ≤ self.new.socket_spare) }
     {
-        let Some(pids) = acts.checked_mul(2) else {
-            return Err(NoMemory);
-        };
-        self.pids.reserve(pids)?;
+        self.pids.reserve(2 * acts)?;
         self.files.reserve(acts)?;
         self.sockets.reserve(1)?;
         Ok(())

@@ -31,7 +31,7 @@ pub enum Status {
     Done,
     /// The words name no job.
     BadWords,
-    /// An allocation failed.
+    /// Memory ran out. No clause says when.
     NoMemory,
     /// The log or the questions couldn't be read.
     ReadFault,
