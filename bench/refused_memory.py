@@ -11,6 +11,7 @@ must end with all of them. Prints how many allocations were refused and what is 
 import argparse
 import ctypes
 import os
+import platform
 import signal
 import struct
 import subprocess
@@ -206,12 +207,25 @@ class Refusals:
         self.refuse_each(name, words, questions, lambda: store.write_bytes(first), check)
 
 
+def can_trace():
+    """Whether a process of this machine may be traced, and has the registers that are named here."""
+    if platform.machine() != 'x86_64':
+        return False
+    child = os.fork()
+    if not child:
+        os._exit(0 if ptrace(TRACEME, 0, None, None) == 0 else 1)
+    return os.waitpid(child, 0)[1] == 0
+
+
 def main():
     parser = argparse.ArgumentParser(description=__doc__, formatter_class=argparse.RawDescriptionHelpFormatter)
     parser.add_argument('--program', default=PROGRAM)
     parser.add_argument('--only', default='')
     parser.add_argument('--every', type=int, default=1, help='refuse each so manieth allocation alone')
     options = parser.parse_args()
+    if not can_trace():
+        print('skipped: refused memory, since this machine is no x86-64 or lets no process be traced')
+        return 0
     with tempfile.TemporaryDirectory() as folder:
         here = Refusals(Path(folder), options)
         for name in DIALOGUES:
