@@ -2,8 +2,8 @@
 
     rt ci | .ci/progress.py FOLDER
 
-FOLDER/all.log gets everything, and FOLDER/CRATE.log what is said of that crate. Each line that is printed has the seconds since the start. Of a
-crate or of tests that aren't proved, or that fail, the last 20 lines are printed too.
+FOLDER/all.log gets everything, and FOLDER/CRATE.log what is said of that crate. Each line that is printed has the seconds since the start, not those
+of the crate. Of a crate or of tests that aren't proved, or that fail, the last 20 lines are printed too, and no lines of another crate.
 """
 import re
 import sys
@@ -43,8 +43,9 @@ def main(folder):
                 print(''.join(block[-SHOWN:]), end='')
             print(f'{time.monotonic() - started:6.0f} s  {line[len("rt: "):]}', end='', flush=True)
         block.append(line)
-        if END.fullmatch(line):
-            crate = None
+        # Outside the lines of a crate each such line ends what is said of one thing: of a wrong body, or of tests that were run.
+        if END.fullmatch(line) or crate is None and line.startswith('rt: '):
+            crate, block = None, []
 
 
 if __name__ == '__main__':
