@@ -24,7 +24,7 @@ TWO_FLOWS = (TOP / 'examples/two_flows.log').read_bytes()
 FORK, WRITE = TWO_FLOWS.splitlines(keepends=True)
 SECONDS = 30
 MEGABYTE = 1 << 20
-STACK = 1 << 16
+STACK = 1 << 18
 
 
 class Dialogue:
