@@ -384,7 +384,7 @@ def main() -> int:
     words.add_argument('names', nargs='*')
     options = words.parse_args()
     if not shutil.which('snakemake'):
-        print('the fleet: skipped, since snakemake (package snakemake) is not on this machine')
+        print('skipped: the fleet, since snakemake (package snakemake) is not on this machine')
         return 0
     subprocess.run([*shlex.split(options.program), 'back', '0'], stdin=subprocess.DEVNULL, stdout=subprocess.DEVNULL, check=True)
     LONG, PROGRAM = options.long, str(BUILT) if options.program == PROGRAM else options.program
