@@ -82,7 +82,8 @@ abbrev pub IsBadWaiting : {D K : Type 0} → Limits → Opened D → Unrestored 
 IsBadWaiting limits opened back = (place : ℕ) → back.why ≡ fault.BadStore place
     → (place ≡ unwrap_or opened.last 0) × OfState opened.rows (λ state. ¬ AreSoundWaiting limits state opened.rows)
 
--- a store is full if it has taken more bytes than the limit says
+-- a store is full if it has taken more bytes than the limit says, and what waits in it is sound
 abbrev pub IsPastInput : {D K : Type 0} → Limits → Opened D → Unrestored K → Type 0
 IsPastInput limits opened back = (full : Full) → back.why ≡ fault.Full full
     → (full ≡ input_full limits) × OfState opened.rows (λ state. limits.input < state.taken)
+    × OfState opened.rows (λ state. AreSoundWaiting limits state opened.rows)

@@ -443,7 +443,7 @@ impl<R: Reducer, D: Disk> Ingest<R, Store<D>> {
     /// remembers what is new.
     ///
     /// `BadStore` has the place of the last batch, which says that something waits which no joiner would have left so. `Full` means
-    /// that the store has taken more bytes than may be. A refusal hands the store back.
+    /// that the store has taken more bytes than may be, and that what waits in it is sound. A refusal hands the store back.
     pub fn restore(
         alloc: Global,
         limits: &Limits,

@@ -16,8 +16,8 @@ use record_join::Join;
 use row_codec::{StateRow, StoreRow};
 use std::alloc::Global;
 
-/// Why an engine wasn't made again: what waits isn't sound, which is told with the place of the batch that says it; the bytes that the
-/// store has taken are past the limit; or an allocation failed.
+/// Why an engine wasn't made again: what waits isn't sound, which is told with the place of the batch that says it; it is sound, and the
+/// bytes that the store has taken are past the limit; or an allocation failed.
 #[derive(Clone, Copy, Debug, PartialEq, Eq)]
 pub enum RestoreFault {
     BadStore(u64),
@@ -61,17 +61,18 @@ pub fn make_again(
     ensures bad { (p : ℕ) → result ≡ Err (fault.BadStore p)
         → (p ≡ place) × ¬ AreSoundWaiting limits.now state.now rows.now }
     ensures full { (full : Full) → result ≡ Err (fault.Full full)
-        → (full ≡ input_full limits.now) × (limits.now.input < state.now.taken) }
+        → (full ≡ input_full limits.now) × (limits.now.input < state.now.taken)
+        × AreSoundWaiting limits.now state.now rows.now }
 {
+    let Some(join) = restore_join(alloc, limits, state, rows)? else {
+        return Err(RestoreFault::BadStore(place));
+    };
     if limits.input < state.taken {
         return Err(RestoreFault::Full(Full {
             limit: Limit::Input,
             number: limits.input,
         }));
     }
-    let Some(join) = restore_join(alloc, limits, state, rows)? else {
-        return Err(RestoreFault::BadStore(place));
-    };
     let tables = Tables::restore(alloc, limits, rows)?;
     let reader = LineReader::restore(alloc, limits, state)?;
     Ok(Remade {

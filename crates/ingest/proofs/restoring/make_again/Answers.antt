@@ -1,4 +1,4 @@
-use Rattle.std.proofs.Common.{◌≤◌, ◌^◌, sym, subst, Option}
+use Rattle.std.proofs.Common.{◌≤◌, ◌^◌, sym, subst, rules, Option}
 use Rattle.std.specs.Prelude.{IfSome}
 use Rattle.record_join.specs.StandsFor.{Joiner, NothingRipe, StandsFor as JoinStandsFor}
 use Rattle.row_codec.specs.declared.state.StateRow.{StateRow}
@@ -24,3 +24,11 @@ returns-clause-parts c =
       counted = c.in_ok-tables.ensures.counts;
       unmarked = c.in_ok-tables.ensures.unmarked;
     }
+
+pub returns-then-limits-state-clause-full : goal.returns-then-limits-state-clause-full
+returns-then-limits-state-clause-full c = λ full is.
+    let limits = c.args.limits.now in
+    let state = c.args.state.now in
+    let rows = c.args.rows.now in
+    let sound = found_has c.in_ok-join.field-0 c.in-Some.join _ (λ join. AreSoundWaiting limits state rows) c.in-Some.is c.in_ok-join.ensures.exact in
+    (search rules, search rules, sound)

@@ -6,6 +6,7 @@ use Rattle.row_codec.specs.declared.rows.StoreRow.{StoreRow}
 use Rattle.store_check.specs.Conditions.{bounds_of}
 use Rattle.stored.specs.Words.{state_of}
 use Rattle.ingest.specs.Restoring.{CanBeRemade, IsRemade}
+use Rattle.ingest.specs.Waiting.{AreSoundWaiting}
 use Rattle.ingest.proofs.Remade.{can_remake, can_restore, no_rows, stored_by, stored_nothing}
 use Rattle.ingest.proofs.engine.Ingest+R+Store+D.restore.Goals as goal
 
@@ -47,4 +48,5 @@ pub returns-in-Err-clause-full : goal.returns-in-Err-clause-full
 returns-in-Err-clause-full g c = λ full is.
     let said : state_of c.args.opened.rows ≡ Some c.in-Some.state.now = sym (c.in-Some.ensures ∙ ap state_of c.as_slice.ensures) in
     let past = c.in-Err.ensures.full full (ap Err is) in
-    (past.0, (c.in-Some.state.now, said, past.1))
+    let sound = subst (λ (l : List StoreRow). AreSoundWaiting c.args.limits.now c.in-Some.state.now l) c.as_slice-2.ensures past.2 in
+    (past.0, (c.in-Some.state.now, said, past.1), (c.in-Some.state.now, said, sound))
