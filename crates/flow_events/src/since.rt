@@ -2,7 +2,7 @@
 //!
 //! A pid that an act names is remembered with the last life that it had at the mark: whether its life goes on since then
 //! decides whether its descriptors are written anew.
-ghost use Rattle.std.specs.Prelude.{◌≡◌, ◌≤◌, ◌+◌, ◌==◌, ◌||◌, ◌++◌, ◌∷◌, ℕ, [], List, Some, false, OnOk, length, option_copied, reverse};
+ghost use Rattle.std.specs.Prelude.{◌≡◌, ◌≤◌, ◌<◌, ◌+◌, ◌^◌, ◌==◌, ◌||◌, ◌++◌, ◌∷◌, ℕ, [], List, Some, false, OnOk, length, option_copied, reverse};
 ghost use Rattle.flow_base.specs.declared.types.FileId.{FileId};
 ghost use Rattle.acts.specs.declared.act.Act.{Act};
 ghost use Rattle.acts.specs.Births.{has_number, is_birth_of};
