@@ -13,10 +13,9 @@ mod saving;
 mod session;
 mod turn;
 
-pub use halt::{Halt, Heed, StoreHalt, Turn, halt_of, halt_of_open, halt_of_restore, halted};
-pub use hear::hear;
+pub use halt::{Halt, StoreHalt, halt_of, halt_of_open, halt_of_restore, halted};
 pub use listen::watch;
-pub use log::{pass_over, take_log};
+pub use log::pass_over;
 pub use saving::{Saves, settle_all, take};
 pub use session::{PIECE, Session, room_for_a_read};
-pub use turn::{answer, question_in, reply_of, say, settle, take_turn};
+pub use turn::{answer, reply_of, say, settle};
