@@ -1827,6 +1827,75 @@ class Gate(Scratch):
         self.assertRegex(lines[20], r'^ +\d+ s  ingest NOT PROVED$')
 
 
+# zsh with the folder's completion, in which some words and a tab are typed, and then a key that shows the line.
+ZSH = r'''
+zmodload zsh/zpty
+zpty shell 'TERM=dumb zsh -f -i'
+zpty -w shell "PROMPT='> '; fpath=(${(q)1} \$fpath); autoload -U compinit; compinit -u -D; bindkey '^I' complete-word"
+zpty -w shell 'show() { print -r -- "LINE[$BUFFER]"; BUFFER=; zle accept-line }; zle -N show; bindkey "^X" show; print "READ""Y"'
+zpty -r -m shell said '*READY*'
+zpty -n -w shell "$2"$'\t\x18'
+zpty -r -m shell said '*LINE\[*\]*'
+print -r -- "$said"
+'''
+
+
+class Unit(Scratch):
+    """The line that the service runs, as systemd hands it to the shell, with a month in place of that of the clock."""
+
+    def setUp(self) -> None:
+        super().setUp()
+        self.tools, self.stores, self.logs = (self.folder / it for it in ('tools', 'stores', 'audit logs'))
+        for folder in (self.tools, self.stores, self.logs):
+            folder.mkdir()
+        self.tool('date', 'echo "$MONTH"')
+        self.tool('autrail', f'exec {shlex.quote(str(AUTRAIL))} -if {shlex.quote(str(self.logs))} "$@"')
+        service = (HERE.parent / 'autrail-keep.service').read_text().replace('@PREFIX@/bin', str(self.tools)).replace('\\\n', ' ')
+        self.line = re.search(r'^ExecStart=(.*)$', service, re.M)[1]
+        self.parts = [call(serial, 0).encode() + call(serial + 1, 3).encode() for serial in (1, 11, 21, 31)]
+
+    def tool(self, name: str, text: str) -> None:
+        (self.tools / name).write_text(f'#!/bin/sh\n{text}\n')
+        (self.tools / name).chmod(0o755)
+
+    def keep(self, month: str, parts: int, **more: str) -> int:
+        """The unit is started in a month, when so many parts of the log are there."""
+        log = self.logs / 'audit.log'
+        log.write_bytes(b''.join(self.parts[:parts]))
+        os.utime(log, times=(time.time() - 60,) * 2)
+        words = [it.replace('$$', '$').replace('%%', '%') for it in shlex.split(self.line)]
+        self.assertEqual((words[:2], len(words)), (['/bin/sh', '-c'], 3))
+        return subprocess.run(words, stdout=subprocess.DEVNULL, stderr=subprocess.DEVNULL, cwd=self.stores, check=False,
+                              env=environment(PATH=f'{self.tools}:{os.environ["PATH"]}', MONTH=month, **more)).returncode
+
+    def taken(self) -> dict[str, int]:
+        """How many parts of the log each store has."""
+        size = len(self.parts[1])
+        self.assertEqual({len(it) for it in self.parts[1:]}, {size})
+        return {it.name.removesuffix('.state'): round(json.loads(it.read_text())['taken']['bytes'] / size) for it in sorted(self.stores.glob('*.state'))}
+
+    def test_each_month_has_a_store(self) -> None:
+        self.assertEqual((self.keep('2026-06', 1), self.taken()), (0, {'host.2026-06.store': 1}))
+        self.assertEqual((self.keep('2026-06', 1), self.taken()), (0, {'host.2026-06.store': 1}))
+        self.assertEqual((self.keep('2026-07', 2), self.taken()), (0, {'host.2026-06.store': 2, 'host.2026-07.store': 0}))
+        self.assertEqual((self.keep('2026-07', 3), self.taken()), (0, {'host.2026-06.store': 2, 'host.2026-07.store': 1}))
+        # A month in which the host didn't run has none.
+        self.assertEqual((self.keep('2026-11', 4), self.taken()), (0, {'host.2026-06.store': 2, 'host.2026-07.store': 2, 'host.2026-11.store': 0}))
+
+    def test_it_goes_on_from_the_one_store_of_earlier_versions(self) -> None:
+        (self.logs / 'audit.log').write_bytes(self.parts[0])
+        run('keep', self.stores / 'host.store', '-if', self.logs, '-m', 'continuous')
+        self.assertEqual((self.keep('2026-06', 2), self.keep('2026-06', 3)), (0, 0))
+        self.assertEqual(self.taken(), {'host.2026-06.store': 1, 'host.store': 2})
+
+    def test_a_run_that_was_stopped_at_the_end_of_a_month_is_ended_first(self) -> None:
+        self.assertEqual(self.keep('2026-06', 1, AUDIT_CLI="sh -c 'exit 6'"), 6)
+        self.assertEqual(self.keep('2026-07', 2, AUDIT_CLI="sh -c 'exit 6'"), 6)
+        self.assertEqual(self.taken(), {'host.2026-06.store': 0})
+        self.assertEqual((self.keep('2026-07', 2), self.keep('2026-07', 3)), (0, 0))
+        self.assertEqual(self.taken(), {'host.2026-06.store': 2, 'host.2026-07.store': 1})
+
+
 class Installed(Scratch):
     def test_make_install(self) -> None:
         if not shutil.which('make'):
@@ -1836,10 +1905,10 @@ class Installed(Scratch):
         order = self.log('#!/bin/sh\nexit 8\n', 'order')
         order.chmod(0o755)
         of_both = {'bin/audit_cli', 'bin/autrail', 'lib/kitrevasu/audit_cli', 'lib/kitrevasu/audit_cli.words', 'lib/systemd/system/autrail-keep.service', 'lib/systemd/system/autrail-keep.timer', 'share/autrail/kitrevasu.rules', 'share/bash-completion/completions/autrail',
-                   'share/man/man1/autrail.1', 'share/zsh/site-functions/_autrail'}
+                   'share/man/man1/autrail.1', 'share/man/man1/audit_cli.1', 'share/zsh/site-functions/_autrail'}
         of_both |= {f'lib/kitrevasu/autrail/{it.name}' for it in (PACKAGE / 'autrail').glob('*.py')}
         of_both |= {'share/autrail/fleet/' + it for it in ('Snakefile', 'host.py', 'slurm/config.yaml', 'slurm/job_state')}
-        for second, more in ((self.folder / 'none', set()), (order, {'bin/audit_order', 'lib/kitrevasu/audit_order', 'lib/kitrevasu/audit_order.words'})):
+        for second, more in ((self.folder / 'none', set()), (order, {'bin/audit_order', 'lib/kitrevasu/audit_order', 'lib/kitrevasu/audit_order.words', 'share/man/man1/audit_order.1'})):
             done = subprocess.run(['make', '-s', 'install', f'PREFIX={self.folder}/usr', f'PROGRAM={program}', f'ORDER={second}'], cwd=TOP, capture_output=True, check=False)
             self.assertEqual(done.returncode, 0, done.stderr)
             self.assertEqual(b'./audit_order </dev/null builds it' in done.stdout, not more)
@@ -1851,7 +1920,8 @@ class Installed(Scratch):
         told = subprocess.run([self.folder / 'usr' / 'bin' / 'audit_cli', '--help'], capture_output=True, check=False)
         self.assertEqual((told.returncode, told.stdout, told.stderr), (2, b'', (HERE.parent / 'words' / 'audit_cli').read_bytes()))
         service = (self.folder / 'usr' / 'lib' / 'systemd' / 'system' / 'autrail-keep.service').read_text()
-        self.assertIn(f'ExecStart={self.folder}/usr/bin/autrail keep ', service)
+        self.assertEqual(service.count(f'"{self.folder}/usr/bin/autrail" keep '), 3)
+        self.assertEqual((self.folder / 'usr' / 'share' / 'man' / 'man1' / 'audit_cli.1').read_bytes(), (HERE.parent / 'man' / 'audit_cli.1').read_bytes())
         # The companion finds the second program beside itself.
         done = subprocess.run([installed, '--order', '-if', EXAMPLE, 'stat'], capture_output=True, env=environment(AUDIT_ORDER=''), check=False)
         self.assertEqual((done.returncode, done.stdout), (8, b''))
@@ -1864,7 +1934,7 @@ class Installed(Scratch):
         program.chmod(0o755)
         subprocess.run(['make', '-s', 'install', f'DESTDIR={self.folder}/package', 'PREFIX=/usr', f'PROGRAM={program}', f'ORDER={program}'], cwd=TOP, stdout=subprocess.DEVNULL, check=True)
         service = (self.folder / 'package' / 'usr' / 'lib' / 'systemd' / 'system' / 'autrail-keep.service').read_text()
-        self.assertIn('ExecStart=/usr/bin/autrail keep ', service)
+        self.assertEqual((service.count('"/usr/bin/autrail" keep '), service.count('@PREFIX@')), (3, 0))
         self.assertEqual([it.name for it in (self.folder / 'package').iterdir()], ['usr'])
 
     def test_systemd_takes_the_units(self) -> None:
@@ -1878,10 +1948,20 @@ class Installed(Scratch):
     def test_the_man_page_is_built_of_its_source(self) -> None:
         if not shutil.which('scdoc'):
             self.skipTest('scdoc is not on this machine')
-        source = (HERE.parent / 'autrail.1.scd').read_bytes()
         strip = lambda text: [it for it in text.decode().splitlines() if not it.startswith(('.\\"', '.TH'))]
-        built = subprocess.run(['scdoc'], input=source, capture_output=True, check=True).stdout
-        self.assertEqual(strip(built), strip((HERE.parent / 'man' / 'autrail.1').read_bytes()))
+        for name in ('autrail', 'audit_cli', 'audit_order'):
+            built = subprocess.run(['scdoc'], input=(HERE.parent / f'{name}.1.scd').read_bytes(), capture_output=True, check=True).stdout
+            self.assertEqual(strip(built), strip((HERE.parent / 'man' / f'{name}.1').read_bytes()), name)
+
+    def test_the_pages_of_the_programs_name_each_form_of_words_and_each_status(self) -> None:
+        readme = (TOP / 'README.md').read_text()
+        statuses = {int(it) for row in re.findall(r'^\| ([\d, ]+) \|', readme[readme.index('| Status of'):], re.M) for it in row.split(', ')}
+        for name, ends in (('audit_cli', statuses), ('audit_order', {0, 2, 3, 4, 5})):
+            page = (HERE.parent / f'{name}.1.scd').read_text()
+            self.assertEqual({int(it) for it in re.findall(r'^\*(\d+)\*$', page, re.M)}, ends)
+            synopsis = page[page.index('# SYNOPSIS'):page.index('# DESCRIPTION')]
+            for form in re.findall(rf'^    ({name}.*?)(?:   .*)?$', (HERE.parent / 'words' / name).read_text(), re.M):
+                self.assertTrue(set(re.findall('[a-z_]+|[A-Z]+', form)) <= set(re.findall('[a-z]+(?:_[a-z]+)*|[A-Z]+', synopsis)), form)
 
     def test_the_man_page_and_completions_name_each_command_and_option(self) -> None:
         helps = ''.join(run(*it, '--help').stdout.decode() for it in ([], ['back'], ['fore'], ['why'], ['keep']))
@@ -1890,6 +1970,17 @@ class Installed(Scratch):
             text = (HERE.parent / name).read_text().replace('\\-', '-')
             for word in sorted(options) + ['back', 'fore', 'why', 'find', 'show', 'stat', 'ask', 'keep', 'rules']:
                 self.assertIn(word, text, name)
+
+    def test_zsh_completes(self) -> None:
+        """At a terminal of zsh's own. The key ^X shows what stands on its line."""
+        if not shutil.which('zsh'):
+            self.skipTest('zsh is not on this machine')
+        script = self.log(ZSH, 'completes.zsh')
+        self.assertEqual(subprocess.run(['zsh', '-n', HERE.parent / '_autrail'], capture_output=True, check=False).stderr, b'')
+        for words, want in (('ba', 'back '), ('keep x --ov', 'keep x --over-gap '), ('-m con', '-m continuous '), ('back x --tr', 'back x --tree '), ('back x --at yes', 'back x --at yesterday '),
+                            ('why x y --int', 'why x y --interpret '), ('--ord', '--order '), ('keep x --af', 'keep x --after '), ('fore x --si', 'fore x --since '), ('stat --js', 'stat --json ')):
+            done = subprocess.run(['zsh', '-f', script, HERE.parent, f'autrail {words}'], capture_output=True, text=True, timeout=60, check=False)
+            self.assertIn(f'LINE[autrail {want}]', done.stdout, done.stderr)
 
     def test_bash_completes(self) -> None:
         if not shutil.which('bash'):
