@@ -3,8 +3,8 @@
 
     companion/tests/run.py [--program WORDS] [--kills N] [NAME..]
 
-WORDS is the program (what ./audit_cli at the top has built, which is run first for it). Checks that need graphviz, tmux, auditctl, unshare or
-scdoc are skipped on a machine without them, and say so; so are those of --order if audit_order isn't built.
+WORDS is the program (what ./audit_cli at the top has built, which is run first for it). Checks that need graphviz, tmux, auditctl, unshare,
+scdoc, zsh or systemd-analyze are skipped on a machine without them, and say so; so are those of --order if audit_order isn't built.
 """
 from __future__ import annotations
 
@@ -1394,6 +1394,13 @@ class Words(Scratch):
             self.assertEqual(times.moment(words), at, words)
         self.assertEqual(times.spelled(1001), '1.001')
         self.assertEqual(times.spelled(1780992064400), '1780992064.400')
+
+    def test_each_word_for_a_time_is_told(self) -> None:
+        told = [(HERE.parent / it).read_text().replace('\\-', '-') for it in ('autrail.1.scd', 'autrail.bash', '_autrail')] + [run('--help', COLUMNS='1000').stdout.decode()]
+        for word in ('now', 'recent', 'this-hour', 'boot', 'today', 'yesterday', 'this-week', 'week-ago', 'this-month', 'this-year'):
+            self.assertGreater(times.moment(word), 0)
+            for text in told:
+                self.assertRegex(text, rf'[ (*\'\\]{word}\b')
 
     def test_the_start_of_the_machine_is_a_time(self) -> None:
         with unittest.mock.patch.object(Path, 'read_text', return_value='cpu 1 2\nctxt 5\nbtime 1780900001\nprocesses 7\n'):
