@@ -489,25 +489,48 @@ class Lives(Scratch):
         for number, flags in ((57, '0'), (58, '0'), (56, '1200011'), (435, '7ffd0')):
             forks = [call(serial, number, exit=500, a0=flags) for serial in (1, 10)]
             self.assertEqual(self.said(forks[0] + ran(2, 500, 'first') + call(3, 0, 500) + forks[1] + ran(11, 500, 'second') + call(12, 0, 500)), want, number)
-        # The child's first lines may stand before that of the fork, and so may its last.
-        text = call(1, 57, exit=500) + ran(2, 500, 'first') + call(3, 0, 500) + ran(11, 500, 'second') + call(12, 231, 500) + call(10, 57, exit=500)
-        self.assertEqual(self.said(text)[0], ('process 500 0', 'first ; then second', '2026-06-09 08:00:12.000', None))
 
     def test_what_begins_no_life_of_the_number_ends_none(self) -> None:
-        """A thread, a call that failed, one of another machine, a fork of another number, and a fork from before the last call."""
+        """A thread, a call that failed, one of another machine, a fork of another number, and a fork by the process itself."""
         begun = call(1, 57, exit=500) + ran(2, 500, 'first') + call(3, 0, 500)
         later = ran(11, 500, 'second') + call(12, 0, 500)
         for between in (call(10, 56, exit=500, a0='3d0f00'), call(10, 57, exit=500).replace('success=yes', 'success=no'), call(10, 57, exit=500, arch='40000003'),
-                        call(10, 57, exit=501), call(3, 57, exit=500), call(10, 57, pid=500, exit=500)):
+                        call(10, 57, exit=501), call(10, 57, pid=500, exit=500)):
             reading = lines.Reading()
             reading.take((begun + between + later).encode())
-            self.assertEqual(len(reading.lives[500]), 1, between)
+            self.assertEqual((len(reading.lives[500]), reading.lives[500][0].several), (1, False), between)
             self.assertEqual(reading.arguments_of(reading.lives[500][0]), [['first'], ['second']])
 
     def test_a_life_that_the_program_takes_for_one_has_a_note(self) -> None:
         """Process 500 was there before the log, so the fork by its parent is taken for its own, although its lines are from before that."""
         text = ran(1, 500, 'first') + opened_and(1, '"/tmp/o"', 9, 2, 'CREATE', pid=500) + call(10, 57, pid=1, exit=500) + ran(11, 500, 'second')
         self.assertEqual(self.said(text), [('process 500 0', 'first ; then second', '2026-06-09 08:00:11.000', 'lines of several lives of this number')])
+
+    def test_lines_before_that_of_their_vfork_are_told_apart_or_have_a_note(self) -> None:
+        """The line of a vfork comes after the first lines of its child, or even after all of them."""
+        first, second, note = call(1, 57, exit=500) + ran(2, 500, 'first'), ran(11, 500, 'second'), 'lines of several lives of this number'
+        vfork, end, later = call(10, 58, exit=500), call(12, 231, 500), call(20, 57, exit=500) + ran(21, 500, 'third')
+        mixed = ('process 500 0', 'first ; then second', '2026-06-09 08:00:11.000', note)
+        self.assertEqual(self.said(first + second + vfork), [mixed, ('process 500 1', *mixed[1:])])
+        mixed = (*mixed[:2], '2026-06-09 08:00:12.000', note)
+        third = ('third', '2026-06-09 08:00:21.000', None)
+        self.assertEqual(self.said(first + second + end + vfork + later), [mixed, ('process 500 1', None, None, None), ('process 500 2', *third)])
+        self.assertEqual(self.said(first + call(3, 231, 500) + second + end + vfork + later),
+                         [('process 500 0', 'first', '2026-06-09 08:00:03.000', None), ('process 500 1', 'second', '2026-06-09 08:00:12.000', None), ('process 500 2', *third)])
+
+    def test_lives_are_those_of_the_plain_reading(self) -> None:
+        """Of a log with many ends and starts bench/plain_reading.py tells the greatest number of a life that each process has."""
+        log = self.log(subprocess.run([sys.executable, TOP / 'bench' / 'make_log.py', '1', '2000'], capture_output=True, check=True).stdout)
+        script = ('import sys; sys.path.insert(0, "bench"); import plain_reading as it; engine = it.Engine("plain", it.MAPPED["all"]); '
+                  'engine.feed(open(sys.argv[1], "rb").read()); engine.settle(); print(*[f"{key[1]}:{key[2]}" for key in engine.host.ids if key[0] == "process"])')
+        told = subprocess.run([sys.executable, '-B', '-c', script, log], capture_output=True, text=True, cwd=TOP, check=True).stdout.split()
+        last: dict[int, int] = {}
+        for pid, number in (map(int, it.split(':')) for it in told):
+            last[pid] = max(last.get(pid, 0), number)
+        reading = lines.Reading()
+        reading.take(log.read_bytes())
+        self.assertGreater(sum(last.values()), 10)
+        self.assertEqual({it: len(reading.lives[it]) - 1 for it in last}, last)
 
     def test_a_life_without_calls_has_no_lines(self) -> None:
         text = call(1, 57, exit=500) + call(5, 57, exit=500) + ran(6, 500, 'second')

@@ -56,7 +56,7 @@ class Life:
     """What the lines with one process number say, up to its end: the line of the last call, the times, and the events of the execs.
 
     A life that a fork began has no line before its first call. One that its own call began awaits its parent, as the program has it: a fork by that
-    one begins no other life. If the lines show that the process had ended all the same, the life is that of `several` processes.
+    one begins no other life. If the process before had ended all the same, or its lines can't be told apart, the life has lines of `several`.
     """
     line: bytes
     first: int
@@ -145,15 +145,16 @@ class Reading:
             return
         lives = self.lives[int(started[1])]
         life = lives[-1] if lives else None
+        # The child's first lines may stand before that of the fork, as they do after a vfork.
+        mixed = life is not None and life.last >= at
         if life and life.first >= at:
-            # The child's first lines stand before that of the fork.
             life.awaited = None
-        elif life and not life.ended and life.awaited == parent:
-            life.awaited, life.several = None, life.last < at
-        elif life is None or life.ended or life.last < at:
+        elif life and not life.ended and (mixed or life.awaited == parent):
+            life.awaited, life.several = None, True
+        else:
             if life:
-                life.ended = True
-            lives.append(Life(b'', at, at))
+                life.ended, life.several = True, life.several or mixed
+            lives.append(Life(b'', at, at, ended=mixed))
 
     @property
     def calls_read(self) -> int:
