@@ -15,13 +15,15 @@ install: built
 	if [ -x "$(ORDER)" ]; then \
 		install -m 755 "$(ORDER)" "$(DESTDIR)$(PREFIX)/lib/kitrevasu/audit_order" && \
 		install -m 644 companion/words/audit_order "$(DESTDIR)$(PREFIX)/lib/kitrevasu/audit_order.words" && \
-		install -m 755 companion/installed.sh "$(DESTDIR)$(PREFIX)/bin/audit_order"; \
+		install -m 755 companion/installed.sh "$(DESTDIR)$(PREFIX)/bin/audit_order" && \
+		install -m 644 companion/man/audit_order.1 "$(DESTDIR)$(PREFIX)/share/man/man1/audit_order.1"; \
 	fi
 	install -m 755 companion/autrail "$(DESTDIR)$(PREFIX)/bin/autrail"
 	install -d "$(DESTDIR)$(PREFIX)/lib/kitrevasu/autrail"
 	install -m 644 companion/lib/autrail/*.py "$(DESTDIR)$(PREFIX)/lib/kitrevasu/autrail"
 	install -m 644 companion/kitrevasu.rules "$(DESTDIR)$(PREFIX)/share/autrail/kitrevasu.rules"
 	install -m 644 companion/man/autrail.1 "$(DESTDIR)$(PREFIX)/share/man/man1/autrail.1"
+	install -m 644 companion/man/audit_cli.1 "$(DESTDIR)$(PREFIX)/share/man/man1/audit_cli.1"
 	install -m 644 companion/autrail.bash "$(DESTDIR)$(PREFIX)/share/bash-completion/completions/autrail"
 	install -m 644 companion/_autrail "$(DESTDIR)$(PREFIX)/share/zsh/site-functions/_autrail"
 	install -d "$(DESTDIR)$(PREFIX)/share/autrail/fleet/slurm"
@@ -42,9 +44,9 @@ built:
 	if [ "$(PROGRAM)" = crates/audit_cli/out/audit_cli ]; then ./audit_cli back 0 </dev/null >/dev/null; fi
 	if [ "$(ORDER)" = crates/audit_order/out/audit_order ] && [ -x "$(ORDER)" ]; then ./audit_order </dev/null >/dev/null; fi
 
-# The built page is kept, so that only whoever changes it needs scdoc.
+# The built pages are kept, so that only whoever changes them needs scdoc.
 man:
-	scdoc < companion/autrail.1.scd > companion/man/autrail.1
+	for page in autrail audit_cli audit_order; do scdoc < companion/$$page.1.scd > companion/man/$$page.1 || exit 1; done
 
 test:
 	python3 companion/tests/run.py

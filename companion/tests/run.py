@@ -3,8 +3,8 @@
 
     companion/tests/run.py [--program WORDS] [--kills N] [NAME..]
 
-WORDS is the program (what ./audit_cli at the top has built, which is run first for it). Checks that need graphviz, tmux, auditctl, unshare or
-scdoc are skipped on a machine without them, and say so; so are those of --order if audit_order isn't built.
+WORDS is the program (what ./audit_cli at the top has built, which is run first for it). Checks that need graphviz, tmux, auditctl, unshare,
+scdoc, zsh or systemd-analyze are skipped on a machine without them, and say so; so are those of --order if audit_order isn't built.
 """
 from __future__ import annotations
 
@@ -54,7 +54,7 @@ RAW = re.compile(rb'[\x00-\x09\x0b-\x1f\x7f]|\xc2[\x80-\x9f]')
 # The package, for its functions on words alone.
 sys.dont_write_bytecode = True
 sys.path.insert(0, str(PACKAGE))
-from autrail import basics, logs as autrail_logs, main as autrail_main, times, whole  # noqa: E402 pylint: disable=wrong-import-position
+from autrail import basics, lines, logs as autrail_logs, main as autrail_main, prompt, signs, times, whole  # noqa: E402 pylint: disable=wrong-import-position
 
 
 def environment(**more: str) -> dict[str, str]:
@@ -174,6 +174,9 @@ class Answers(unittest.TestCase):
             for form in ((), ('--tree',)):
                 lines = run('-q', '-m', mode, '-if', EXAMPLE, 'back', '/tmp/x.sh', *form).stdout.decode().splitlines()
                 self.assertEqual('only sources are listed, since the mode is source' in lines, mode == 'source')
+        for mode, want in (('plain', 0), ('continuous', 0), ('full', 1), ('source', 1)):
+            text = run('-q', '-m', mode, '-if', EXAMPLE, 'show', '/tmp/x.sh').stdout.decode()
+            self.assertEqual((text.count(f'  first and last not kept in mode {mode}\n'), text.count('first taken in')), (want, 1 - want))
         done = run('-q', '-m', 'source', '-if', EXAMPLE, 'fore', '/tmp/x.sh')
         self.assertEqual((done.returncode, done.stderr), (2, b"autrail: mode source doesn't answer this; ask in the mode plain or continuous\n"))
 
@@ -252,6 +255,37 @@ class Names(Scratch):
         self.assertEqual(done.returncode, 2)
         self.assertIn(b'may mean 3 objects', done.stderr)
         self.assertEqual(done.stdout, b'')
+
+    def test_of_many_objects_of_one_name_the_last_is_listed(self) -> None:
+        """Each process gives the file a new life: the objects are #0 (process), #1 (file), #2, #3 and so on."""
+        log = self.log(''.join(opened_and(1, '"/tmp/x"', 7, 10 * it, 'CREATE', pid=100 + it) for it in range(1, 11)), 'ten.log')
+        done = run('-q', '-if', log, 'back', '/tmp/x')
+        first = ', '.join(f'#{2 * it - 1} /tmp/x (file 08:01 7 {it})' for it in range(1, 8))
+        self.assertEqual(done.stderr.decode(), f'autrail: /tmp/x is the name of 10 objects: {first}, .., #19 /tmp/x (file 08:01 7 10); the last is taken, --each takes all\n')
+        self.assertTrue(done.stdout.startswith(b'/tmp/x  #19  can have come from:'))
+
+    def test_why_says_which_of_several_objects_it_takes(self) -> None:
+        """Process 300 read the file before it was made anew, and process 400 read it after that."""
+        text = opened_and(1, '"/tmp/x"', 7, 10, 'CREATE') + opened_and(0, '"/tmp/x"', 7, 13, pid=300)
+        text += opened_and(1, '"/tmp/x"', 7, 20, 'CREATE', pid=200) + opened_and(0, '"/tmp/x"', 7, 30, pid=400)
+        log = self.log(text, 'two.log')
+        objects = 'autrail: /tmp/x is the name of 2 objects: #1 /tmp/x (file 08:01 7 1), #4 /tmp/x (file 08:01 7 2)\n'
+        for reader, number, taken in ((300, 1, '#1 /tmp/x (file 08:01 7 1) and #2 p[300] (process 300 0) is taken, since 1 pair of later ones has no path'),
+                                      (400, 4, '#4 /tmp/x (file 08:01 7 2) and #5 p[400] (process 400 0) is taken, the last ones')):
+            done = run('-q', '-if', log, 'why', '/tmp/x', f'pid:{reader}', '--json')
+            self.assertEqual((done.returncode, [json.loads(it)['from'] for it in done.stdout.splitlines()]), (0, [number]))
+            self.assertEqual(done.stderr.decode(), f'{objects}autrail: of 2 pairs of objects that of {taken}\n')
+        done = run('-q', '-if', log, 'why', '/tmp/x', 'pid:200')
+        self.assertEqual((done.returncode, done.stdout), (1, b''))
+        self.assertIn(objects + 'autrail: no path in this log from each of #1 /tmp/x (file 08:01 7 1), #4 /tmp/x (file 08:01 7 2) to #3 p[200] (process 200 0)\n', done.stderr.decode())
+
+    def test_completion_offers_names_that_the_prompt_takes(self) -> None:
+        names = ['/tmp/a b', '/tmp/back\\slash', "/tmp/it's", '/tmp/plain', '/tmp/\x1b[31m', '/tmp/\u202etxt', '/tmp/\udcff', 'find me']
+        for text, want in (('/tmp/a', ["'/tmp/a b'"]), ("'/tmp/a", ["'/tmp/a b'"]), ('/tmp/b', ["'/tmp/back\\slash'"]), ('/tmp/i', ['\'/tmp/it\'"\'"\'s\'']),
+                           ('/tmp/p', ['/tmp/plain']), ('/tmp/\x1b', []), ('/tmp/\u202e', []), ('/tmp/\udcff', []), ('fi', ['find', "'find me'"]), ('nosuch', [])):
+            offered = prompt.Completion(names + names)
+            self.assertEqual([offered(text, it) for it in range(len(want) + 1)], [*want, None], text)
+        self.assertEqual([shlex.split(it) for it in offered.words('/')], [[it] for it in names[:4]])
 
     def test_what_was_written_is_never_common(self) -> None:
         text = opened_and(1, '"/usr/lib/libc.so"', 7, 10) + call(15, 3, exit=0) + opened_and(0, '"/usr/lib/libc.so"', 7, 20, pid=200) + opened_and(0, '"/usr/lib/libm.so"', 8, 30, pid=200)
@@ -389,6 +423,39 @@ class Fitness(Scratch):
                 self.assertTrue(done.stderr.startswith(b'autrail: warning: '))
         self.assertEqual(json.loads(run('-if', self.log(good, 'good.log'), 'stat', '--json').stdout)['warnings'], [])
 
+    def test_the_time_of_each_record_counts(self) -> None:
+        """Also of records that aren't calls. The span that stat tells is still that of the calls."""
+        good = opened_and(0, '"/a"', 7, 1) + opened_and(1, '"/b"', 8, 3, 'CREATE') + call(5, 57, exit=101) + call(6, 59, exit=0)
+        for kind, rest in (('PATH', 'item=0 name="/far" inode=9 dev=08:01 nametype=NORMAL'), ('CWD', 'cwd="/"'), ('SOCKADDR', 'saddr=02001F907F000001'), ('EOE', ''),
+                           ('USER_LOGIN', 'pid=1 uid=0')):
+            far = f'node=web1 type={kind} msg=audit(33000000000.000:9): {rest}\n'
+            for text, want in ((far + good, "the log goes back in time, from 3015-09-24 10:40:00.000 to 2026-06-09 08:00:01.000: if the first is a wrong time, later events may be torn, or have it in the answers"),
+                               (good + far, "the log has the time 3015-09-24 10:40:00.000, more than a day ahead of this machine's clock")):
+                told = json.loads(run('-if', self.log(text), 'stat', '--json').stdout)
+                self.assertIn(want, told['warnings'], kind)
+                self.assertEqual((told['least'], told['greatest']), (1780992001000, 1780992006000))
+
+    def test_torn_events_are_told(self) -> None:
+        """The event of serial 1 is released by that of serial 4, which is three seconds later, and its PATH comes after that."""
+        end = 'type=EOE msg=audit(1780992004.000:4): \n'
+        whole_log = self.log(call(1, 257) + path(1, '"/a"', 7) + call(4, 0) + end, 'whole.log')
+        torn = self.log(call(1, 257) + call(4, 0) + end + path(1, '"/a"', 7), 'torn.log')
+        store = self.folder / 'torn.store'
+        reduced(torn, store)
+        line = '           1  of them torn off others: records that came after their event was released, and are lost to it\n'
+        for words, told in ((['-if', torn], 1), (['-if', whole_log], 0), (['--store', store], None), (['--store', store, '-if', torn], 1), (['--store', store, '-if', EXAMPLE], None)):
+            counts = json.loads(run('-q', *words, 'stat', '--json').stdout)
+            self.assertEqual((counts['events'], counts['torn']), (2 if told == 0 else 3, told))
+            self.assertEqual(run('-q', *words, 'stat').stdout.decode().count(line), told or 0)
+
+    def test_late_events_are_counted_and_told_above_two_percent(self) -> None:
+        ended = lambda serial, at: call(serial, 0, at=at) + f'type=EOE msg=audit({at}.000:{serial}): \n'
+        for late in (2, 3):
+            text = ''.join(ended(it, 1780992000 + it) for it in range(1, 101 - late)) + ''.join(ended(200 + it, 1780992000) for it in range(late))
+            lines_of_stat = run('-if', self.log(text), 'stat').stdout.decode().splitlines()
+            self.assertIn(f'           {late}  of them late', lines_of_stat)
+            self.assertEqual(f'warning: {late} of 100 events came late, so a path over them may be missing or have a later time' in lines_of_stat, late == 3)
+
     def test_a_few_malformed_lines_are_no_warning(self) -> None:
         good = opened_and(0, '"/a"', 7, 1) + opened_and(1, '"/b"', 8, 3, 'CREATE') + call(5, 57, exit=101) + call(6, 59, exit=0)
         told = json.loads(run('-if', self.log(good + 'garbage\n'), 'stat', '--json').stdout)
@@ -403,6 +470,71 @@ class Fitness(Scratch):
         first = said[0]['read_from_log']
         self.assertEqual((first['arguments'], first['auid'], first['uid'], first['session'], first['terminal']), ('p abcd x', '1000 (alice)', '1001 (bob)', '7', 'pts0'))
         self.assertNotIn('arguments', said[1]['read_from_log'])
+
+
+def ran(serial: int, pid: int, argument: str, more: str = '') -> str:
+    """A process runs a program with this argument."""
+    return call(serial, 59, pid, exit=0, a0='0', more=more) + f'type=EXECVE msg=audit({1780992000 + serial}.000:{serial}): argc=1 a0="{argument}"\n'
+
+
+class Lives(Scratch):
+    """Lives of one process number. A process that a signal ended has no exit_group."""
+
+    def said(self, text: str) -> list[tuple[str, str | None, str | None, str | None]]:
+        shown = [json.loads(it) for it in asked(self.log(text), 'show pid:500 --each --json').splitlines()]
+        return [(it['key'], *map(it.get('read_from_log', {}).get, ('arguments', 'last_call', 'note'))) for it in shown]
+
+    def test_a_fork_ends_the_life_before_it(self) -> None:
+        want = [('process 500 0', 'first', '2026-06-09 08:00:03.000', None), ('process 500 1', 'second', '2026-06-09 08:00:12.000', None)]
+        for number, flags in ((57, '0'), (58, '0'), (56, '1200011'), (435, '7ffd0')):
+            forks = [call(serial, number, exit=500, a0=flags) for serial in (1, 10)]
+            self.assertEqual(self.said(forks[0] + ran(2, 500, 'first') + call(3, 0, 500) + forks[1] + ran(11, 500, 'second') + call(12, 0, 500)), want, number)
+
+    def test_what_begins_no_life_of_the_number_ends_none(self) -> None:
+        """A thread, a call that failed, one of another machine, a fork of another number, and a fork by the process itself."""
+        begun = call(1, 57, exit=500) + ran(2, 500, 'first') + call(3, 0, 500)
+        later = ran(11, 500, 'second') + call(12, 0, 500)
+        for between in (call(10, 56, exit=500, a0='3d0f00'), call(10, 57, exit=500).replace('success=yes', 'success=no'), call(10, 57, exit=500, arch='40000003'),
+                        call(10, 57, exit=501), call(10, 57, pid=500, exit=500)):
+            reading = lines.Reading()
+            reading.take((begun + between + later).encode())
+            self.assertEqual((len(reading.lives[500]), reading.lives[500][0].several), (1, False), between)
+            self.assertEqual(reading.arguments_of(reading.lives[500][0]), [['first'], ['second']])
+
+    def test_a_life_that_the_program_takes_for_one_has_a_note(self) -> None:
+        """Process 500 was there before the log, so the fork by its parent is taken for its own, although its lines are from before that."""
+        text = ran(1, 500, 'first') + opened_and(1, '"/tmp/o"', 9, 2, 'CREATE', pid=500) + call(10, 57, pid=1, exit=500) + ran(11, 500, 'second')
+        self.assertEqual(self.said(text), [('process 500 0', 'first ; then second', '2026-06-09 08:00:11.000', 'lines of several lives of this number')])
+
+    def test_lines_before_that_of_their_vfork_are_told_apart_or_have_a_note(self) -> None:
+        """The line of a vfork comes after the first lines of its child, or even after all of them."""
+        first, second, note = call(1, 57, exit=500) + ran(2, 500, 'first'), ran(11, 500, 'second'), 'lines of several lives of this number'
+        vfork, end, later = call(10, 58, exit=500), call(12, 231, 500), call(20, 57, exit=500) + ran(21, 500, 'third')
+        mixed = ('process 500 0', 'first ; then second', '2026-06-09 08:00:11.000', note)
+        self.assertEqual(self.said(first + second + vfork), [mixed, ('process 500 1', *mixed[1:])])
+        mixed = (*mixed[:2], '2026-06-09 08:00:12.000', note)
+        third = ('third', '2026-06-09 08:00:21.000', None)
+        self.assertEqual(self.said(first + second + end + vfork + later), [mixed, ('process 500 1', None, None, None), ('process 500 2', *third)])
+        self.assertEqual(self.said(first + call(3, 231, 500) + second + end + vfork + later),
+                         [('process 500 0', 'first', '2026-06-09 08:00:03.000', None), ('process 500 1', 'second', '2026-06-09 08:00:12.000', None), ('process 500 2', *third)])
+
+    def test_lives_are_those_of_the_plain_reading(self) -> None:
+        """Of a log with many ends and starts bench/plain_reading.py tells the greatest number of a life that each process has."""
+        log = self.log(subprocess.run([sys.executable, TOP / 'bench' / 'make_log.py', '1', '2000'], capture_output=True, check=True).stdout)
+        script = ('import sys; sys.path.insert(0, "bench"); import plain_reading as it; engine = it.Engine("plain", it.MAPPED["all"]); '
+                  'engine.feed(open(sys.argv[1], "rb").read()); engine.settle(); print(*[f"{key[1]}:{key[2]}" for key in engine.host.ids if key[0] == "process"])')
+        told = subprocess.run([sys.executable, '-B', '-c', script, log], capture_output=True, text=True, cwd=TOP, check=True).stdout.split()
+        last: dict[int, int] = {}
+        for pid, number in (map(int, it.split(':')) for it in told):
+            last[pid] = max(last.get(pid, 0), number)
+        reading = lines.Reading()
+        reading.take(log.read_bytes())
+        self.assertGreater(sum(last.values()), 10)
+        self.assertEqual({it: len(reading.lives[it]) - 1 for it in last}, last)
+
+    def test_a_life_without_calls_has_no_lines(self) -> None:
+        text = call(1, 57, exit=500) + call(5, 57, exit=500) + ran(6, 500, 'second')
+        self.assertEqual(self.said(text), [('process 500 0', None, None, None), ('process 500 1', 'second', '2026-06-09 08:00:06.000', None)])
 
 
 def reduced(log: Path, store: Path, mode: str = 'plain', *words: str) -> None:
@@ -479,6 +611,20 @@ class Stores(Scratch):
         self.assertEqual((status, answer), (1, ''))
         self.assertIn('no path in this store from #47', said)
         self.assertIn("the store has 524 events of 284,340 bytes of logs; it can't show what came before or after", said)
+
+    def test_progress_over_the_lines_beside_a_store_is_shown_at_a_terminal_alone(self) -> None:
+        reduced(EXAMPLE, self.store)
+        log = self.log(repeated(3 << 20))
+        for more, want in (((), True), (('-q',), False)):
+            ours, theirs = os.openpty()
+            with open(ours, 'rb') as terminal:
+                done = subprocess.run([AUTRAIL, '--store', self.store, '-if', log, *more, 'find', '/customers.csv'], stdout=subprocess.PIPE, stderr=theirs, env=environment(), check=False)
+                os.write(theirs, b'end')
+                os.close(theirs)
+                said = os.read(terminal.fileno(), 100000)
+            self.assertEqual((done.returncode, b'\r2 MB of the log read' in said, said.count(b'\r\x1b[K')), (0, want, want))
+            self.assertNotIn(b'\r', done.stdout)
+        self.assertNotIn(b'MB of the log', run('--store', self.store, '-if', log, 'find', '/customers.csv').stderr)
 
     def test_what_is_no_store_is_refused(self) -> None:
         reduced(EXAMPLE, self.store)
@@ -844,6 +990,78 @@ class Keeps(Scratch):
         self.assertEqual([it.split(':')[0] for it in warnings], ['files of the log are missing'] * 2 + ['the log has no writes and no opens and no starts of processes and no starts of programs, so paths over them are missing'])
         self.assertIn('4 events of', run('--store', self.store, 'stat').stdout.decode().splitlines()[0].replace('8 events', '4 events'))
 
+    def warnings(self, *told: str) -> None:
+        """These, and no others, are the warnings of keep and of stat over the store."""
+        self.assertEqual(self.kept()['warnings'], list(told))
+        self.assertEqual(json.loads(run('--store', self.store, 'stat', '--json').stdout)['warnings'], list(told))
+
+    def test_hosts_machines_and_times_are_noted(self) -> None:
+        """Over two portions, of which each has lines of another host and another machine. The far time is that of a record that is no call."""
+        first = opened_and(0, '"/a"', 7, 1) + opened_and(1, '"/b"', 8, 3, 'CREATE') + call(5, 57, exit=101) + call(6, 59, exit=0)
+        second = call(9, 63, arch='c00000b7', node='node=web1 ') + 'type=CWD msg=audit(33000000000.000:10): cwd="/"\n'
+        third = call(21, 63, arch='c00000b7', node='node=web\x9b ') + call(22, 3, arch='40000003')
+        self.put('audit.log', first.encode('latin1'))
+        self.warnings()
+        self.put('audit.log', (first + second).encode('latin1'))
+        hosts = 'the log has lines of {} hosts, and their process and file numbers are mixed up: ask about each host\'s log apart ({})'
+        self.warnings("1 call of AArch64 isn't followed", "the log has the time 3015-09-24 10:40:00.000, more than a day ahead of this machine's clock",
+                      hosts.format(2, 'no name, web1'))
+        self.put('audit.log', (first + second + third).encode('latin1'))
+        self.assertEqual([it for it in self.kept()['warnings'] if 'came late' not in it],
+                         ["1 call of the 32-bit gate (i386) isn't followed", "2 calls of AArch64 aren't followed",
+                          'the log goes back in time, from 3015-09-24 10:40:00.000 to 2026-06-09 08:00:21.000: if the first is a wrong time, later events may be torn, or have it in the answers',
+                          hosts.format(3, 'no name, web1, web\\udc9b')])
+        # Lines beside the store say the same, once.
+        beside = json.loads(run('--store', self.store, '-if', self.logs, 'stat', '--json').stdout)['warnings']
+        self.assertEqual(sorted(beside), sorted(self.kept()['warnings']))
+
+    def test_signs_are_those_of_each_line(self) -> None:
+        """Whatever stands in the text of a line. The bytes of a portion come after what was read before."""
+        for text, want in (('type=EOE msg=audit(9.000:1): \n', signs.Signs(('a',), {'x': 2}, 9000)), ('', signs.Signs(('a',), {'x': 2}, 5000)),
+                           ('type=CWD msg=audit(6.000:1): msg=audit(7.000:1): \ntype=CWD msg=audit(7.000:1): cwd="/"\n', signs.Signs(('a',), {'x': 2}, 7000)),
+                           ('x type=CWD msg=audit(6.000:1): \n\ngarbage\n', signs.Signs(('a',), {'x': 2}, 5000)),
+                           (call(1, 0, at=6, arch='x', node='node=b ') + call(1, 0, at=6) + call(1, 0, at=6), signs.Signs(('', 'a', 'b'), {'c000003e': 2, 'x': 3}, 6000)),
+                           ('type=SECCOMP msg=audit(6.000:1): arch=y syscall=1\n', signs.Signs(('a',), {'x': 2}, 6000)),
+                           (call(1, 0, at=9000, arch='x') + call(2, 0, at=5400, arch='x'), signs.Signs(('', 'a'), {'x': 4}, 9000000)),
+                           (call(1, 0, at=9000, arch='x') + call(2, 0, at=5399, arch='x') + call(3, 0, at=9, arch='x'), signs.Signs(('', 'a'), {'x': 5}, 9000000, (9000000, 9000)))):
+            self.assertEqual(signs.signs_of(str(self.log(text)), signs.Signs(('a',), {'x': 2}, 5000)), want, text)
+
+    def test_rules_are_asked_for_unless_only_other_machines_were_seen(self) -> None:
+        load = 'the log has no reads and no writes and no opens and no starts of processes and no starts of programs, so paths over them are missing: load the rules that "autrail rules" prints'
+        self.put('audit.log', lines_of((1000, 'USER_LOGIN')))
+        self.warnings(load)
+        self.put('audit.log', lines_of((1000, 'USER_LOGIN')) + (call(1, 63, arch='c00000b7') + call(2, 64, arch='c00000b7')).encode())
+        self.warnings("2 calls of AArch64 aren't followed")
+        self.put('audit.log', lines_of((1000, 'USER_LOGIN')) + (call(1, 63, arch='c00000b7') + call(2, 64, arch='c00000b7') + call(3, 3)).encode())
+        self.warnings(load, "2 calls of AArch64 aren't followed")
+
+    def test_a_state_of_an_earlier_version_is_read(self) -> None:
+        self.put('audit.log', call(1, 63, arch='c00000b7').encode())
+        self.kept()
+        state = self.folder / 'host.store.state'
+        said = json.loads(state.read_text())
+        del said['taken']['signs']
+        state.write_text(json.dumps(said))
+        self.put('audit.log', (call(1, 63, arch='c00000b7') + call(2, 63, arch='c00000b7')).encode())
+        self.assertEqual(self.kept()['warnings'][-1], "1 call of AArch64 isn't followed")
+
+    def test_a_run_waits_for_another_one(self) -> None:
+        self.put('audit.log', repeated(1000))
+        self.keep()
+        before = (self.folder / 'host.store.state').read_bytes()
+        self.put('audit.log', repeated(400000))
+        with open(self.folder / 'host.store.lock', 'rb') as lock:
+            fcntl.flock(lock, fcntl.LOCK_EX)
+            child = subprocess.Popen([AUTRAIL, 'keep', self.store, '-if', self.logs, '--wait', '--json'], stdout=subprocess.PIPE, stderr=subprocess.PIPE, env=environment())
+            for _ in range(100):
+                if re.search(rf'-> FLOCK .* {child.pid} ', Path('/proc/locks').read_text()):
+                    break
+                time.sleep(0.05)
+            self.assertIsNone(child.poll())
+            self.assertEqual((self.folder / 'host.store.state').read_bytes(), before)
+        out, err = child.communicate(timeout=60)
+        self.assertEqual((child.returncode, err, json.loads(out)['bytes']), (0, b'', len(repeated(400000))))
+
     def test_a_portion_is_taken_although_its_files_are_gone(self) -> None:
         """The program is stopped at each of its calls; what it was to take stands beside the store."""
         text = repeated(300000)
@@ -853,7 +1071,8 @@ class Keeps(Scratch):
         os.unlink(self.logs / 'audit.log')
         self.put('audit.log', lines_of((4000000000000, 'SYSCALL EOE')))
         self.assertEqual(self.keep()[0], 4)
-        self.assertEqual(json.loads((self.folder / 'host.store.state').read_text())['taken']['bytes'], len(text))
+        taken = json.loads((self.folder / 'host.store.state').read_text())['taken']
+        self.assertEqual((taken['bytes'], taken['signs']['machines']), (len(text), {'c000003e': text.count(b'type=SYSCALL ')}))
         self.must_have(text)
 
     def with_small_portions(self) -> Path:
@@ -907,6 +1126,17 @@ class Keeps(Scratch):
         self.put('audit.log', third)
         self.assertEqual(run('keep', self.folder / 'last.store', '-if', self.logs, '--after', self.folder / 'host.store').returncode, 4)
         self.assertEqual(run('keep', self.folder / 'last.store', '-if', self.logs, '--after', EXAMPLE).returncode, 2)
+
+    def test_a_store_is_begun_although_nothing_is_new(self) -> None:
+        """What comes later belongs to it, also if the other store goes on."""
+        first, second = (call(serial, 0).encode() + call(serial + 1, 3).encode() for serial in (1, 11))
+        self.put('audit.log', first)
+        self.keep()
+        words = ('keep', self.folder / 'next.store', '-if', self.logs, '--json')
+        self.assertEqual(json.loads(run(*words, '--after', self.store).stdout)['taken'], 0)
+        self.put('audit.log', first + second)
+        self.assertEqual(self.kept()['bytes'], len(first + second))
+        self.assertEqual(json.loads(run(*words, '--after', self.store).stdout)['taken'], len(second))
 
     def test_what_it_writes_follows_no_link(self) -> None:
         self.put('audit.log', EXAMPLE.read_bytes())
@@ -989,7 +1219,7 @@ class Ordered(Scratch):
                 self.assertEqual(ordered(EXAMPLE, *words.split()), (0, asked(sorted_log, words)))
         counts = json.loads(ordered(EXAMPLE, 'stat', '--json')[1])
         by_hand = subprocess.run([*shlex.split(PROGRAM), 'watch', 'plain', sorted_log], input=b'take 1000000\nsettle\nstat\nend\n', stdout=subprocess.PIPE, check=True)
-        self.assertEqual(json.loads(by_hand.stdout.splitlines()[2]), {it: counts[it] for it in counts if it not in ('order', 'warnings', 'least', 'greatest', 'files')})
+        self.assertEqual(json.loads(by_hand.stdout.splitlines()[2]), {it: counts[it] for it in counts if it not in ('order', 'torn', 'warnings', 'least', 'greatest', 'files')})
         self.assertEqual(counts['order'], 'effects')
 
     def test_a_read_that_waited_is_fed_by_the_write(self) -> None:
@@ -1188,6 +1418,17 @@ class Words(Scratch):
         self.assertEqual(times.spelled(1001), '1.001')
         self.assertEqual(times.spelled(1780992064400), '1780992064.400')
 
+    def test_each_word_for_a_time_is_told(self) -> None:
+        told = [(HERE.parent / it).read_text().replace('\\-', '-') for it in ('autrail.1.scd', 'autrail.bash', '_autrail')] + [run('--help', COLUMNS='1000').stdout.decode()]
+        for word in ('now', 'recent', 'this-hour', 'boot', 'today', 'yesterday', 'this-week', 'week-ago', 'this-month', 'this-year'):
+            self.assertGreater(times.moment(word), 0)
+            for text in told:
+                self.assertRegex(text, rf'[ (*\'\\]{word}\b')
+
+    def test_the_start_of_the_machine_is_a_time(self) -> None:
+        with unittest.mock.patch.object(Path, 'read_text', return_value='cpu 1 2\nctxt 5\nbtime 1780900001\nprocesses 7\n'):
+            self.assertEqual(times.moment('boot'), 1780900001000)
+
     def test_days_are_on_the_clock_and_spans_are_not(self) -> None:
         if not Path('/usr/share/zoneinfo/Europe/Berlin').exists():
             self.skipTest('no time zones (tzdata) on this machine')
@@ -1248,6 +1489,26 @@ for line in sys.stdin:
         self.assertEqual((done.returncode, done.stdout, done.stderr),
                          (2, b'', b"autrail: this program doesn't answer 'find'; autrail " + basics.VERSION.encode() + b" needs a later one\n"))
 
+    def test_replies_that_are_none_end_in_one_line(self) -> None:
+        """Status 1 would say that the log was asked."""
+        for reply, want in (('garbage', 'JSONDecodeError'), ('{}', 'KeyError'), ('[]', 'AttributeError'), ('{"take":"x\\u001b"}', 'KeyError')):
+            program = self.log(f'#!/bin/sh\nwhile read -r line; do printf "%s\\n" {shlex.quote(reply)}; done\n', 'garbage')
+            program.chmod(0o755)
+            for command, stdin in (('stat', ''), ('ask', 'stat\n')):
+                done = run('-q', '-if', EXAMPLE, command, stdin=stdin, AUDIT_CLI=shlex.quote(str(program)))
+                self.assertEqual((done.returncode, done.stdout, done.stderr.count(b'\n')), (4, b'', 1), done.stderr)
+                self.assertTrue(done.stderr.startswith(b"autrail: autrail can't go on; "), done.stderr)
+                self.assertIn(want.encode(), done.stderr)
+
+    def test_a_reply_that_is_none_ends_the_prompt(self) -> None:
+        counts = {it: 0 for it in ('lines', 'bytes', 'events', 'late', 'excess', 'known')}
+        replies = '{"take":0} {"settle":0} ' + json.dumps(counts, separators=(',', ':')) + ' garbage garbage'
+        program = self.log(f'#!/bin/sh\nfor reply in {" ".join(map(shlex.quote, replies.split()))}; do read -r line; printf "%s\\n" "$reply"; done\n', 'garbage')
+        program.chmod(0o755)
+        done = run('-q', '-if', EXAMPLE, 'ask', stdin="find /a\nfind /b\n", AUDIT_CLI=shlex.quote(str(program)))
+        self.assertEqual((done.returncode, done.stdout, done.stderr.count(b'\n')), (4, b'', 1), done.stderr)
+        self.assertEqual(run('-q', '-if', EXAMPLE, 'ask', stdin="find 'a\nfind /customers.csv\n").stderr, b'autrail: No closing quotation\n')
+
     def test_lines_in_words(self) -> None:
         ausearch = self.log("#!/bin/sh\nsed 's/^/in words: /; 1i----'\n", 'ausearch')
         ausearch.chmod(0o755)
@@ -1270,7 +1531,7 @@ for line in sys.stdin:
 
     def test_help_and_version(self) -> None:
         self.assertEqual(run('--version').stdout, f'autrail {basics.VERSION}\n'.encode())
-        for command in ([], ['back'], ['fore'], ['why'], ['find'], ['show'], ['stat'], ['ask'], ['rules']):
+        for command in ([], ['back'], ['fore'], ['why'], ['find'], ['show'], ['stat'], ['ask'], ['keep'], ['rules']):
             self.assertEqual(run(*command, '--help').returncode, 0)
 
     def test_a_full_device_and_a_closed_pipe(self) -> None:
@@ -1378,6 +1639,16 @@ class Terminal(Scratch):
         self.keys('C-d')
         self.wait_for('status 0')
 
+    def test_a_completed_name_with_a_blank_is_found(self) -> None:
+        self.start('-q', '-if', self.log(opened_and(0, HOSTILE['blank'].hex(), 7, 1)), 'ask')
+        self.wait_for('autrail>')
+        self.keys('find /tmp/a', 'Tab')
+        self.wait_for("autrail> find '/tmp/a b'")
+        self.keys('Enter')
+        self.wait_for('#0 +file +/tmp/a b +file 08:01 7 0')
+        self.keys('C-d')
+        self.wait_for('status 0')
+
     def test_a_store_at_a_terminal(self) -> None:
         store = self.folder / 'host.store'
         reduced(EXAMPLE, store)
@@ -1452,15 +1723,21 @@ class Rules(unittest.TestCase):
         if not auditctl or subprocess.run([*alone, 'true'], capture_output=True, check=False).returncode:
             self.skipTest('auditctl (package auditd) or unshare is not on this machine')
 
-        def said(rule: str) -> str:
-            return subprocess.run([*alone, auditctl, *shlex.split(rule)], capture_output=True, text=True, check=False).stderr.strip()
+        def said(rule: str) -> list[str]:
+            lines_said = subprocess.run([*alone, auditctl, *shlex.split(rule)], capture_output=True, text=True, check=False).stderr.splitlines()
+            # What a kernel doesn't have is no fault of the rule. Some lines come twice.
+            return sorted({it for it in lines_said if it != 'Field option not supported by kernel: exe'})
 
-        said_of_a_good_rule = said('-a always,exit -F arch=b64 -S read -k x')
-        self.assertIn('unknown', said('-a always,exit -F arch=b64 -S nosuchcall -k x'))
-        rules = [it for it in run('rules').stdout.decode().splitlines() if it.startswith('-a ')]
-        self.assertGreater(len(rules), 15)
+        good = {'-a': '-a always,exit -F arch=b64 -S read -k x', '-b': '-b 1', '--backlog_wait_time': '--backlog_wait_time 1'}
+        said_of_good = {it: said(rule) for it, rule in good.items()}
+        for wrong in ('-a always,exit -F arch=b64 -S nosuchcall -k x', '-a always,exit -F arch=b64 -F nosuch=1', '-b x', '--backlog_wait_time x', '--nosuch 1'):
+            self.assertRegex('\n'.join(said(wrong)), 'unknown|must be a numeric|is invalid')
+        # Those that stand as a choice too.
+        rules = [it.removeprefix('#') for it in run('rules').stdout.decode().splitlines() if it and not it.startswith('#') or it.startswith('#-a')]
+        self.assertEqual((len(rules), {it.split()[0] for it in rules}), (22, set(good)))
+        self.assertEqual(sum('-a never' in it for it in rules), 2)
         for rule in rules:
-            self.assertEqual(said(rule), said_of_a_good_rule, rule)
+            self.assertEqual(said(rule), said_of_good[rule.split()[0]], rule)
 
 
 RT = """#!/bin/sh
@@ -1580,6 +1857,75 @@ class Gate(Scratch):
         self.assertRegex(lines[20], r'^ +\d+ s  ingest NOT PROVED$')
 
 
+# zsh with the folder's completion, in which some words and a tab are typed, and then a key that shows the line.
+ZSH = r'''
+zmodload zsh/zpty
+zpty shell 'TERM=dumb zsh -f -i'
+zpty -w shell "PROMPT='> '; fpath=(${(q)1} \$fpath); autoload -U compinit; compinit -u -D; bindkey '^I' complete-word"
+zpty -w shell 'show() { print -r -- "LINE[$BUFFER]"; BUFFER=; zle accept-line }; zle -N show; bindkey "^X" show; print "READ""Y"'
+zpty -r -m shell said '*READY*'
+zpty -n -w shell "$2"$'\t\x18'
+zpty -r -m shell said '*LINE\[*\]*'
+print -r -- "$said"
+'''
+
+
+class Unit(Scratch):
+    """The line that the service runs, as systemd hands it to the shell, with a month in place of that of the clock."""
+
+    def setUp(self) -> None:
+        super().setUp()
+        self.tools, self.stores, self.logs = (self.folder / it for it in ('tools', 'stores', 'audit logs'))
+        for folder in (self.tools, self.stores, self.logs):
+            folder.mkdir()
+        self.tool('date', 'echo "$MONTH"')
+        self.tool('autrail', f'exec {shlex.quote(str(AUTRAIL))} -if {shlex.quote(str(self.logs))} "$@"')
+        service = (HERE.parent / 'autrail-keep.service').read_text().replace('@PREFIX@/bin', str(self.tools)).replace('\\\n', ' ')
+        self.line = re.search(r'^ExecStart=(.*)$', service, re.M)[1]
+        self.parts = [call(serial, 0).encode() + call(serial + 1, 3).encode() for serial in (1, 11, 21, 31)]
+
+    def tool(self, name: str, text: str) -> None:
+        (self.tools / name).write_text(f'#!/bin/sh\n{text}\n')
+        (self.tools / name).chmod(0o755)
+
+    def keep(self, month: str, parts: int, **more: str) -> int:
+        """The unit is started in a month, when so many parts of the log are there."""
+        log = self.logs / 'audit.log'
+        log.write_bytes(b''.join(self.parts[:parts]))
+        os.utime(log, times=(time.time() - 60,) * 2)
+        words = [it.replace('$$', '$').replace('%%', '%') for it in shlex.split(self.line)]
+        self.assertEqual((words[:2], len(words)), (['/bin/sh', '-c'], 3))
+        return subprocess.run(words, stdout=subprocess.DEVNULL, stderr=subprocess.DEVNULL, cwd=self.stores, check=False,
+                              env=environment(PATH=f'{self.tools}:{os.environ["PATH"]}', MONTH=month, **more)).returncode
+
+    def taken(self) -> dict[str, int]:
+        """How many parts of the log each store has."""
+        size = len(self.parts[1])
+        self.assertEqual({len(it) for it in self.parts[1:]}, {size})
+        return {it.name.removesuffix('.state'): round(json.loads(it.read_text())['taken']['bytes'] / size) for it in sorted(self.stores.glob('*.state'))}
+
+    def test_each_month_has_a_store(self) -> None:
+        self.assertEqual((self.keep('2026-06', 1), self.taken()), (0, {'host.2026-06.store': 1}))
+        self.assertEqual((self.keep('2026-06', 1), self.taken()), (0, {'host.2026-06.store': 1}))
+        self.assertEqual((self.keep('2026-07', 2), self.taken()), (0, {'host.2026-06.store': 2, 'host.2026-07.store': 0}))
+        self.assertEqual((self.keep('2026-07', 3), self.taken()), (0, {'host.2026-06.store': 2, 'host.2026-07.store': 1}))
+        # A month in which the host didn't run has none.
+        self.assertEqual((self.keep('2026-11', 4), self.taken()), (0, {'host.2026-06.store': 2, 'host.2026-07.store': 2, 'host.2026-11.store': 0}))
+
+    def test_it_goes_on_from_the_one_store_of_earlier_versions(self) -> None:
+        (self.logs / 'audit.log').write_bytes(self.parts[0])
+        run('keep', self.stores / 'host.store', '-if', self.logs, '-m', 'continuous')
+        self.assertEqual((self.keep('2026-06', 2), self.keep('2026-06', 3)), (0, 0))
+        self.assertEqual(self.taken(), {'host.2026-06.store': 1, 'host.store': 2})
+
+    def test_a_run_that_was_stopped_at_the_end_of_a_month_is_ended_first(self) -> None:
+        self.assertEqual(self.keep('2026-06', 1, AUDIT_CLI="sh -c 'exit 6'"), 6)
+        self.assertEqual(self.keep('2026-07', 2, AUDIT_CLI="sh -c 'exit 6'"), 6)
+        self.assertEqual(self.taken(), {'host.2026-06.store': 0})
+        self.assertEqual((self.keep('2026-07', 2), self.keep('2026-07', 3)), (0, 0))
+        self.assertEqual(self.taken(), {'host.2026-06.store': 2, 'host.2026-07.store': 1})
+
+
 class Installed(Scratch):
     def test_make_install(self) -> None:
         if not shutil.which('make'):
@@ -1589,10 +1935,10 @@ class Installed(Scratch):
         order = self.log('#!/bin/sh\nexit 8\n', 'order')
         order.chmod(0o755)
         of_both = {'bin/audit_cli', 'bin/autrail', 'lib/kitrevasu/audit_cli', 'lib/kitrevasu/audit_cli.words', 'lib/systemd/system/autrail-keep.service', 'lib/systemd/system/autrail-keep.timer', 'share/autrail/kitrevasu.rules', 'share/bash-completion/completions/autrail',
-                   'share/man/man1/autrail.1', 'share/zsh/site-functions/_autrail'}
+                   'share/man/man1/autrail.1', 'share/man/man1/audit_cli.1', 'share/zsh/site-functions/_autrail'}
         of_both |= {f'lib/kitrevasu/autrail/{it.name}' for it in (PACKAGE / 'autrail').glob('*.py')}
         of_both |= {'share/autrail/fleet/' + it for it in ('Snakefile', 'host.py', 'slurm/config.yaml', 'slurm/job_state')}
-        for second, more in ((self.folder / 'none', set()), (order, {'bin/audit_order', 'lib/kitrevasu/audit_order', 'lib/kitrevasu/audit_order.words'})):
+        for second, more in ((self.folder / 'none', set()), (order, {'bin/audit_order', 'lib/kitrevasu/audit_order', 'lib/kitrevasu/audit_order.words', 'share/man/man1/audit_order.1'})):
             done = subprocess.run(['make', '-s', 'install', f'PREFIX={self.folder}/usr', f'PROGRAM={program}', f'ORDER={second}'], cwd=TOP, capture_output=True, check=False)
             self.assertEqual(done.returncode, 0, done.stderr)
             self.assertEqual(b'./audit_order </dev/null builds it' in done.stdout, not more)
@@ -1604,7 +1950,8 @@ class Installed(Scratch):
         told = subprocess.run([self.folder / 'usr' / 'bin' / 'audit_cli', '--help'], capture_output=True, check=False)
         self.assertEqual((told.returncode, told.stdout, told.stderr), (2, b'', (HERE.parent / 'words' / 'audit_cli').read_bytes()))
         service = (self.folder / 'usr' / 'lib' / 'systemd' / 'system' / 'autrail-keep.service').read_text()
-        self.assertIn(f'ExecStart={self.folder}/usr/bin/autrail keep ', service)
+        self.assertEqual(service.count(f'"{self.folder}/usr/bin/autrail" keep '), 3)
+        self.assertEqual((self.folder / 'usr' / 'share' / 'man' / 'man1' / 'audit_cli.1').read_bytes(), (HERE.parent / 'man' / 'audit_cli.1').read_bytes())
         # The companion finds the second program beside itself.
         done = subprocess.run([installed, '--order', '-if', EXAMPLE, 'stat'], capture_output=True, env=environment(AUDIT_ORDER=''), check=False)
         self.assertEqual((done.returncode, done.stdout), (8, b''))
@@ -1617,7 +1964,7 @@ class Installed(Scratch):
         program.chmod(0o755)
         subprocess.run(['make', '-s', 'install', f'DESTDIR={self.folder}/package', 'PREFIX=/usr', f'PROGRAM={program}', f'ORDER={program}'], cwd=TOP, stdout=subprocess.DEVNULL, check=True)
         service = (self.folder / 'package' / 'usr' / 'lib' / 'systemd' / 'system' / 'autrail-keep.service').read_text()
-        self.assertIn('ExecStart=/usr/bin/autrail keep ', service)
+        self.assertEqual((service.count('"/usr/bin/autrail" keep '), service.count('@PREFIX@')), (3, 0))
         self.assertEqual([it.name for it in (self.folder / 'package').iterdir()], ['usr'])
 
     def test_systemd_takes_the_units(self) -> None:
@@ -1631,10 +1978,20 @@ class Installed(Scratch):
     def test_the_man_page_is_built_of_its_source(self) -> None:
         if not shutil.which('scdoc'):
             self.skipTest('scdoc is not on this machine')
-        source = (HERE.parent / 'autrail.1.scd').read_bytes()
         strip = lambda text: [it for it in text.decode().splitlines() if not it.startswith(('.\\"', '.TH'))]
-        built = subprocess.run(['scdoc'], input=source, capture_output=True, check=True).stdout
-        self.assertEqual(strip(built), strip((HERE.parent / 'man' / 'autrail.1').read_bytes()))
+        for name in ('autrail', 'audit_cli', 'audit_order'):
+            built = subprocess.run(['scdoc'], input=(HERE.parent / f'{name}.1.scd').read_bytes(), capture_output=True, check=True).stdout
+            self.assertEqual(strip(built), strip((HERE.parent / 'man' / f'{name}.1').read_bytes()), name)
+
+    def test_the_pages_of_the_programs_name_each_form_of_words_and_each_status(self) -> None:
+        readme = (TOP / 'README.md').read_text()
+        statuses = {int(it) for row in re.findall(r'^\| ([\d, ]+) \|', readme[readme.index('| Status of'):], re.M) for it in row.split(', ')}
+        for name, ends in (('audit_cli', statuses), ('audit_order', {0, 2, 3, 4, 5})):
+            page = (HERE.parent / f'{name}.1.scd').read_text()
+            self.assertEqual({int(it) for it in re.findall(r'^\*(\d+)\*$', page, re.M)}, ends)
+            synopsis = page[page.index('# SYNOPSIS'):page.index('# DESCRIPTION')]
+            for form in re.findall(rf'^    ({name}.*?)(?:   .*)?$', (HERE.parent / 'words' / name).read_text(), re.M):
+                self.assertTrue(set(re.findall('[a-z_]+|[A-Z]+', form)) <= set(re.findall('[a-z]+(?:_[a-z]+)*|[A-Z]+', synopsis)), form)
 
     def test_the_man_page_and_completions_name_each_command_and_option(self) -> None:
         helps = ''.join(run(*it, '--help').stdout.decode() for it in ([], ['back'], ['fore'], ['why'], ['keep']))
@@ -1643,6 +2000,17 @@ class Installed(Scratch):
             text = (HERE.parent / name).read_text().replace('\\-', '-')
             for word in sorted(options) + ['back', 'fore', 'why', 'find', 'show', 'stat', 'ask', 'keep', 'rules']:
                 self.assertIn(word, text, name)
+
+    def test_zsh_completes(self) -> None:
+        """At a terminal of zsh's own. The key ^X shows what stands on its line."""
+        if not shutil.which('zsh'):
+            self.skipTest('zsh is not on this machine')
+        script = self.log(ZSH, 'completes.zsh')
+        self.assertEqual(subprocess.run(['zsh', '-n', HERE.parent / '_autrail'], capture_output=True, check=False).stderr, b'')
+        for words, want in (('ba', 'back '), ('keep x --ov', 'keep x --over-gap '), ('-m con', '-m continuous '), ('back x --tr', 'back x --tree '), ('back x --at yes', 'back x --at yesterday '),
+                            ('why x y --int', 'why x y --interpret '), ('--ord', '--order '), ('keep x --af', 'keep x --after '), ('fore x --si', 'fore x --since '), ('stat --js', 'stat --json ')):
+            done = subprocess.run(['zsh', '-f', script, HERE.parent, f'autrail {words}'], capture_output=True, text=True, timeout=60, check=False)
+            self.assertIn(f'LINE[autrail {want}]', done.stdout, done.stderr)
 
     def test_bash_completes(self) -> None:
         if not shutil.which('bash'):

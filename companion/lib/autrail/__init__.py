@@ -12,6 +12,7 @@ The modules, lowest first; none imports one that stands below it here:
     times       the words that spell times, and times as they are shown
     stores      whether a file is a store, and of which mode
     logs        the files of a log, in order, and their bytes in pieces
+    signs       what tells that a log is less fit for answers: hosts, machines and times
     lines       what autrail reads from the log's own lines
     programs    the programs that autrail starts
     kept        what `keep` notes beside a store

@@ -20,6 +20,7 @@ from .lines import NEEDED_CALLS
 from .logs import DEFAULT_LOG, Logs, bad_log
 from .portions import PORTION, Part, copied
 from .programs import StoreProgram, ended_with, handing_on, program_words, started, stop
+from .signs import Signs, signs_of
 from .stores import head_of, mode_of_store
 from .trust import counted_warnings, noted_warnings, unfit_for_answers
 from .whole import WINDOW, whole_of
@@ -40,6 +41,7 @@ class Keeper:
         self.store, self.lock = options.store_kept, lock
         self.words = program_words(options.program)
         self.over_gap = options.over_gap
+        self.is_noted = os.path.exists(self.store + '.state')
         self.kept = self.read(options.mode, options.after)
 
     def read(self, mode: str | None, after: str | None) -> Kept:
@@ -64,7 +66,7 @@ class Keeper:
 
     def save(self, kept: Kept) -> None:
         kept.write(self.store)
-        self.kept = kept
+        self.kept, self.is_noted = kept, True
 
     def take_all(self, files: Sequence[Held], progress: bool) -> int:
         """Takes what is new of the files, and gives how many bytes wait until they are whole."""
@@ -100,7 +102,8 @@ class Keeper:
             self.save(Kept(self.kept.mode, taken, coming))
             return size - cut, more
         os.unlink(self.store + '.portion')
-        if coming != taken:
+        # A new store begins at its place, also if there is nothing new yet.
+        if coming != taken or not self.is_noted:
             self.save(Kept(self.kept.mode, coming))
         return size, more
 
@@ -115,7 +118,7 @@ class Keeper:
         portion.seek(max(0, cut - WINDOW))
         last = record_text(portion.read(WINDOW), -1)
         return Taken(taken.bytes + cut, taken.size, place, taken.first or first, last or taken.last, still_unseen(portion, cut, taken.unseen),
-                     taken.gaps + tuple(gaps), taken.counts)
+                     taken.gaps + tuple(gaps), taken.counts, taken.signs)
 
     def bytes_unchanged(self) -> int:
         """The same, without the program if the store is as long as it was: it takes a while until it has opened a large store."""
@@ -131,16 +134,18 @@ class Keeper:
         portion = self.store + '.portion'
         if not os.path.exists(portion) or os.path.getsize(portion) != coming.bytes - taken.bytes:
             bad_log(portion, f'this isn\'t the portion of {many(coming.bytes - taken.bytes, "byte")} that the store was to take')
-        counts = self.reduce(portion, ['--resume'] if there > taken.bytes else [])
-        self.save(Kept(self.kept.mode, replace(coming, size=os.path.getsize(self.store), counts=counts)))
+        counts, signs = self.reduce(portion, ['--resume'] if there > taken.bytes else [])
+        self.save(Kept(self.kept.mode, replace(coming, size=os.path.getsize(self.store), counts=counts, signs=signs)))
         os.unlink(portion)
 
-    def reduce(self, portion: str, resume: list[str]) -> dict:
-        """The counts of the store when the program has taken the portion."""
+    def reduce(self, portion: str, resume: list[str]) -> tuple[dict, Signs]:
+        """The counts of the store when the program has taken the portion, and the signs in all that was taken."""
         words = [*self.words, 'reduce', self.kept.mode, *resume, '--', portion, self.store]
         process = started(words, 'name the program by --program or in AUDIT_CLI', stdin=subprocess.DEVNULL, stdout=subprocess.PIPE, pass_fds=[self.lock])
         try:
             hand_on = handing_on(process, 'the program')
+            # The lines are read while the program is at work. If this run is killed, the next one has the portion too.
+            signs = signs_of(portion, self.kept.taken.signs)
             answer = process.stdout.read()
             status = process.wait()
             hand_on.join(2)
@@ -151,7 +156,7 @@ class Keeper:
         counts = json.loads(answer)
         if counts['bytes'] != self.kept.coming.bytes:
             raise Refused(BAD_STORE, f'{shown(self.store)} has {counts["bytes"]:,} bytes of logs instead of {self.kept.coming.bytes:,}; keep another store')
-        return counts
+        return counts, signs
 
 
 def begun_after(store: str | None, mode: str | None) -> Kept:

@@ -11,6 +11,7 @@ from typing import BinaryIO, Iterator
 
 from .basics import NO_ANSWER, READ_FAULT, Refused, shown
 from .lines import NEEDED_CALLS
+from .signs import Signs
 from .times import clock
 
 
@@ -26,7 +27,8 @@ class Place:
 
 @dataclass(frozen=True)
 class Taken:
-    """What a store has of a log: up to which place, from which record to which, which kinds of calls never came, and between which records files were missing.
+    """What a store has of a log: up to which place, from which record to which, which kinds of calls never came, between which records files were missing,
+    and what its lines tell of hosts, machines and times.
 
     `size` is how long the store is then. A store only grows, so one of this size has nothing else. `counts` is the program's reply to `stat`.
     """
@@ -38,13 +40,16 @@ class Taken:
     unseen: tuple[str, ...] = tuple(NEEDED_CALLS)
     gaps: tuple[tuple[str, str], ...] = ()
     counts: dict | None = None
+    signs: Signs = Signs()
 
     @classmethod
     def of(cls, said: dict | None) -> Taken | None:
         if said is None:
             return None
         place = said['place'] and Place(**said['place'])
-        return cls(**{**said, 'place': place, 'unseen': tuple(said['unseen']), 'gaps': tuple(map(tuple, said['gaps']))})
+        # What an earlier version wrote has no signs.
+        signs = Signs.of(said['signs']) if 'signs' in said else Signs()
+        return cls(**{**said, 'place': place, 'unseen': tuple(said['unseen']), 'gaps': tuple(map(tuple, said['gaps'])), 'signs': signs})
 
 
 @dataclass(frozen=True)

@@ -6,7 +6,8 @@ from collections import Counter, defaultdict
 from dataclasses import dataclass, field
 from typing import NamedTuple
 
-X86_64 = b'c000003e'
+from .signs import HEAD, NEAR, NO_STAMP, Times, X86_64, stamp_of, time_of
+
 # Calls without which the answers mean little: by x86-64 number.
 NEEDED_CALLS = {
     'reads': {b'0', b'17', b'19', b'295', b'327'},
@@ -17,11 +18,17 @@ NEEDED_CALLS = {
 }
 EXECS = (b'59', b'322')
 EXIT_GROUP = b'231'
+# Starts of processes, whose result is the number of the new one. A clone with this flag starts a thread.
+FORKS = frozenset((b'56', b'57', b'58', b'435'))
+CLONE, THREAD = b'56', 0x10000
 UNSET = '4294967295'
+OUR_MACHINE = X86_64.encode()
+AFTER_TYPE = len('type=SYSCALL')
 READ_LINES = (b'type=SYSCALL ', b'type=EXECVE ', b'node=')
 CALL = re.compile(
     rb'(?:node=(\S+) )?type=SYSCALL msg=audit\((\d{1,15})\.(\d{3}):(\d{1,10})\): arch=(\w{1,8}) syscall=(\d{1,10})'
     rb'(?: per=\w+)?(?: success=(\w+))?[^\x1d]*? ppid=\d{1,10} pid=(\d{1,10})')
+STARTED = re.compile(rb' exit=(\d{1,10}) a0=([0-9A-Fa-f]{1,16}) ')
 # What is read of a call's line only if its process is shown.
 CALLER = re.compile(
     rb' ppid=(\d{1,10}) pid=\d{1,10}(?: auid=(\d{1,10}) uid=(\d{1,10}))?'
@@ -46,11 +53,17 @@ class Caller(NamedTuple):
 
 @dataclass
 class Life:
-    """What the lines with one process number say, up to its end: the line of the last call, the times, and the events of the execs."""
+    """What the lines with one process number say, up to its end: the line of the last call, the times, and the events of the execs.
+
+    A life that a fork began has no line before its first call. One that its own call began awaits its parent, as the program has it: a fork by that
+    one begins no other life. If the process before had ended all the same, or its lines can't be told apart, the life has lines of `several`.
+    """
     line: bytes
     first: int
     last: int
+    awaited: int | None = None
     ended: bool = False
+    several: bool = False
     execs: list[bytes] = field(default_factory=list)
 
     @property
@@ -80,7 +93,8 @@ class Reading:
         self.arguments: dict[bytes, bytes] = defaultdict(bytes)
         self.least: int | None = None
         self.greatest = 0
-        self.back_jump: tuple[int, int] | None = None
+        self.times = Times()
+        self.stamp = NO_STAMP
 
     def take(self, lines: bytes) -> None:
         self.start = self.start or lines[:4096]
@@ -89,44 +103,82 @@ class Reading:
             if line.startswith(READ_LINES):
                 if found := CALL.match(line):
                     self.take_call(line, *found.groups())
-                elif found := ARGUMENTS.match(line):
+                    self.stamp = line[AFTER_TYPE:line.find(b':', AFTER_TYPE) + 1]
+                    continue
+                if found := ARGUMENTS.match(line):
                     self.arguments[found[1]] += b' ' + found[2]
+            if line.find(self.stamp, 0, NEAR) < 0 and (head := HEAD.match(line)):
+                self.stamp = stamp_of(head)
+                self.times.take(time_of(head))
 
     def take_call(self, line: bytes, host: bytes | None, seconds: bytes, part: bytes, serial: bytes, arch: bytes, number: bytes,
                   success: bytes | None, pid: bytes) -> None:
         at = int(seconds + part)
         self.calls[host or b'', arch, number] += 1
-        if self.least is None or at < self.greatest:
-            self.take_earlier(at)
-        else:
+        self.times.take(at)
+        if self.least is None or at < self.least:
+            self.least = at
+        if at > self.greatest:
             self.greatest = at
         lives = self.lives[int(pid)]
         if not lives or lives[-1].ended:
-            lives.append(Life(line, at, at))
+            lives.append(Life(line, at, at, int(CALLER.search(line)[1])))
         life = lives[-1]
-        life.line, life.first, life.last = line, min(life.first, at), max(life.last, at)
-        if number in EXECS and arch == X86_64 and success == b'yes':
+        if not life.line or at < life.first:
+            life.first = at
+        if not life.line or at > life.last:
+            life.last = at
+        life.line = line
+        if arch != OUR_MACHINE:
+            return
+        if number in EXECS and success == b'yes':
             life.execs.append(seconds + b'.' + part + b':' + serial)
-        elif number == EXIT_GROUP and arch == X86_64:
+        elif number == EXIT_GROUP:
             life.ended = True
+        elif number in FORKS and success == b'yes':
+            self.take_fork(line, number, int(pid), at)
+
+    def take_fork(self, line: bytes, number: bytes, parent: int, at: int) -> None:
+        """Begins a life of the process that was forked. A process that a signal ended has no record of that: its lines are from before the fork."""
+        started = STARTED.search(line)
+        if not started or int(started[1]) == parent or number == CLONE and int(started[2], 16) & THREAD:
+            return
+        lives = self.lives[int(started[1])]
+        life = lives[-1] if lives else None
+        # The child's first lines may stand before that of the fork, as they do after a vfork.
+        mixed = life is not None and life.last >= at
+        if life and life.first >= at:
+            life.awaited = None
+        elif life and not life.ended and (mixed or life.awaited == parent):
+            life.awaited, life.several = None, True
+        else:
+            if life:
+                life.ended, life.several = True, life.several or mixed
+            lives.append(Life(b'', at, at, ended=mixed))
 
     @property
-    def hosts(self) -> set[bytes]:
-        return {host for host, _, _ in self.calls}
+    def calls_read(self) -> int:
+        return sum(self.calls.values())
 
-    def take_earlier(self, at: int) -> None:
-        """Keeps the widest step back in time: after a time far ahead all later lines seem to be from before it."""
-        if self.greatest - at > 3600_000 and (self.back_jump is None or self.greatest - at > self.back_jump[0] - self.back_jump[1]):
-            self.back_jump = (self.greatest, at)
-        self.least = at if self.least is None else min(self.least, at)
-        self.greatest = max(self.greatest, at)
+    @property
+    def hosts(self) -> set[str]:
+        return {host.decode('utf-8', 'surrogateescape') for host, _, _ in self.calls}
+
+    @property
+    def machines(self) -> Counter[str]:
+        """How many calls each machine has."""
+        counts: Counter[str] = Counter()
+        for (_, arch, _), count in self.calls.items():
+            counts[arch.decode()] += count
+        return counts
 
     def life_of(self, pid: int, number: int) -> tuple[Life | None, bool]:
         """The lines of a life of a process, and whether they can be distinguished from the lines of its other lives."""
         lives = self.lives.get(pid, [])
-        if number < len(lives):
-            return lives[number], True
-        return (lives[-1], False) if lives else (None, False)
+        if not lives:
+            return None, False
+        life = lives[min(number, len(lives) - 1)]
+        return (life if life.line else None), number < len(lives) and not life.several
 
     def arguments_of(self, life: Life) -> list[list[str]]:
         return [argument_words(self.arguments[it]) for it in life.execs if it in self.arguments]

@@ -30,6 +30,8 @@ def show(session: Session, options: argparse.Namespace) -> int:
             print(f'  name           {shown(name)}')
         for key, at in times.items():
             print(f'  {key:14} {clock(at) if at else f"never in this {session.holder}"}')
+        if not times:
+            print(f'  {"first and last":14} not kept in mode {session.mode}')
         said = reading_of(session, thing)
         if said:
             print('  read from the log\'s lines:')

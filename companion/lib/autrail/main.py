@@ -76,3 +76,7 @@ def main() -> int:
         os.dup2(os.open(os.devnull, os.O_WRONLY), sys.stdout.fileno())
         say(f'{shown(str(fault.filename))}: {fault.strerror}' if fault.filename else f'the answer can\'t be written ({fault.strerror})')
         return READ_FAULT if fault.filename else WRITE_FAULT
+    except Exception as fault:  # pylint: disable=broad-except
+        # Python would end with status 1, which says that the log was asked.
+        say(f'autrail can\'t go on; the program may have answered what it doesn\'t understand ({type(fault).__name__}: {shown(str(fault))})')
+        return READ_FAULT

@@ -7,10 +7,13 @@ import ipaddress
 import os
 import re
 from dataclasses import dataclass
+from typing import Sequence
 
 from .basics import NO_ANSWER, Refused, bad_words, many, say, shown
 from .session import Session
 from .things import Thing
+
+MOST_LISTED = 8
 
 
 @dataclass
@@ -24,6 +27,10 @@ class Match:
         """The processes that ran the program of this name, which are meant only if nothing else has the name."""
         files = [it for it in self.things if it.kind != 'process']
         return [it for it in self.things if it.kind == 'process'] if files and self.one_name else []
+
+    @property
+    def meant(self) -> list[Thing]:
+        return [it for it in self.things if it not in self.ran_it]
 
 
 def candidates(session: Session, what: str) -> Match:
@@ -84,6 +91,12 @@ def describe(thing: Thing) -> str:
     return f'#{thing.number} {thing.label} ({shown(thing.key)})'
 
 
+def listed(things: Sequence[Thing]) -> str:
+    """Some of the objects, and always the last one, which may be taken."""
+    texts = [describe(it) for it in things]
+    return ', '.join(texts if len(texts) <= MOST_LISTED else texts[:MOST_LISTED - 1] + ['..', texts[-1]])
+
+
 def matching(session: Session, what: str) -> Match:
     match = candidates(session, what)
     if not match.things:
@@ -99,11 +112,14 @@ def resolve(session: Session, what: str, each: bool) -> list[Thing]:
     match = matching(session, what)
     if match.ran_it:
         say(f'{many(len(match.ran_it), "process", "processes")} ran {shown(what)}: exe:{shown(what)} asks about them')
-    things = [it for it in match.things if it not in match.ran_it]
+    things = match.meant
     if each or len(things) == 1:
         return things
-    listed = ', '.join(map(describe, things[:8])) + (', ..' if len(things) > 8 else '')
     if not match.one_name:
-        bad_words(f'{shown(what)} may mean {many(len(things), "object")}: {listed}; name one, or ask for all by --each')
-    say(f'{shown(what)} is the name of {many(len(things), "object")}: {listed}; the last is taken, --each takes all')
+        bad_words(f'{shown(what)} may mean {many(len(things), "object")}: {listed(things)}; name one, or ask for all by --each')
+    say(f'{several_of(what, things)}; the last is taken, --each takes all')
     return things[-1:]
+
+
+def several_of(what: str, things: Sequence[Thing]) -> str:
+    return f'{shown(what)} is the name of {many(len(things), "object")}: {listed(things)}'

@@ -31,7 +31,8 @@ def parser() -> argparse.ArgumentParser:
     top = Parser(prog='autrail', parents=[shared], allow_abbrev=False,
                  description='Where a file came from and what it reached, asked of audit logs in names.',
                  epilog='WHAT is a path, a base name, a pattern, IP:PORT, IP, :PORT, pid:N, exe:PATH, inode:MAJ:MIN:N, name:TEXT or #N. '
-                        'TIME is in ausearch\'s words, "yesterday 14:00", "10 min ago", ISO 8601 or seconds since 1970.')
+                        'TIME is now, recent, this-hour, boot, today, yesterday, this-week, week-ago, this-month, this-year, "yesterday 14:00", '
+                        '"10 min ago", ISO 8601 or seconds since 1970.')
     top.add_argument('--version', action='version', version=f'autrail {VERSION}')
     commands = top.add_subparsers(dest='command', required=True, metavar='COMMAND', parser_class=Parser)
     add_reach(commands, shared, 'back', '--at', 'from what WHAT can have come')

@@ -3,10 +3,10 @@ from __future__ import annotations
 
 import argparse
 
-from .basics import ANSWER, NO_ANSWER, Refused, bad_words, shown
+from .basics import ANSWER, NO_ANSWER, Refused, bad_words, many, say, shown
 from .evidence import evidence, in_words
 from .json_lines import step_json
-from .naming import describe, matching, resolve
+from .naming import describe, listed, matching, resolve, several_of
 from .processes import tell_processes
 from .session import Session
 from .stores import NO_LINES
@@ -17,28 +17,39 @@ from .trust import blind_spots
 
 
 def why(session: Session, options: argparse.Namespace) -> int:
-    """One path between two objects. If a name belongs to several objects, all pairs of them are tried."""
+    """One path between two objects. If a name belongs to several objects, the pair of the last ones is taken that has a path."""
     if options.lines and not session.has_lines:
         bad_words(f'--lines shows the log\'s lines, and {NO_LINES}')
     bound = bound_of(options.time, 'flows up to')
-    sources, targets = pairs_of(session, options)
-    for source in sources:
-        for target in targets:
-            path = session.path(source.number, target.number, bound)
-            if path is not None:
-                show_path(session, options, source, path)
-                return ANSWER
-    listed = ' to '.join(' or '.join(map(describe, it)) for it in (sources, targets))
-    raise Refused(NO_ANSWER, f'no path in this {session.holder} from {listed}\n{blind_spots(session)}')
+    sources, targets = (objects_of(session, it, options.each) for it in (options.source, options.target))
+    pairs = [(source, target) for target in reversed(targets) for source in reversed(sources)]
+    for place, (source, target) in enumerate(pairs):
+        path = session.path(source.number, target.number, bound)
+        if path is not None:
+            if len(pairs) > 1:
+                say(pair_taken(source, target, place, len(pairs)))
+            show_path(session, options, source, path)
+            return ANSWER
+    raise Refused(NO_ANSWER, f'no path in this {session.holder} from {either(sources)} to {either(targets)}\n{blind_spots(session)}')
 
 
-def pairs_of(session: Session, options: argparse.Namespace) -> list[list[Thing]]:
-    found = []
-    for what in (options.source, options.target):
-        match = matching(session, what)
-        things = [it for it in match.things if it not in match.ran_it]
-        found.append(things if match.one_name else resolve(session, what, options.each))
-    return found
+def objects_of(session: Session, what: str, each: bool) -> list[Thing]:
+    """The objects that a name means, of which a note tells if they are several."""
+    match = matching(session, what)
+    if not match.one_name:
+        return resolve(session, what, each)
+    if len(match.meant) > 1:
+        say(several_of(what, match.meant))
+    return match.meant
+
+
+def pair_taken(source: Thing, target: Thing, place: int, count: int) -> str:
+    passed = f', since {many(place, "pair")} of later ones {"has" if place == 1 else "have"} no path' if place else ''
+    return f'of {many(count, "pair")} of objects that of {describe(source)} and {describe(target)} is taken{passed or ", the last ones"}'
+
+
+def either(things: list[Thing]) -> str:
+    return describe(things[0]) if len(things) == 1 else f'each of {listed(things)}'
 
 
 def show_path(session: Session, options: argparse.Namespace, source: Thing, path: list[Step]) -> None:

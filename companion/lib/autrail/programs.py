@@ -87,6 +87,22 @@ def wide_pipe() -> tuple[int, int]:
     return ends
 
 
+class Progress:
+    """How much of a log was read, on one line of a terminal."""
+
+    def __init__(self, wanted: bool) -> None:
+        self.wanted, self.told = wanted and sys.stderr.isatty(), False
+
+    def tell(self, count: int) -> None:
+        if self.wanted:
+            print(f'\r{count >> 20} MB of the log read', end='', file=sys.stderr, flush=True)
+            self.told = True
+
+    def end(self) -> None:
+        if self.told:
+            print('\r\x1b[K', end='', file=sys.stderr, flush=True)
+
+
 class Order:
     """The program audit_order: what is written into it comes out as a log in the order of effects."""
 
@@ -199,14 +215,12 @@ class LogProgram(Program):
             self.fault = Refused(READ_FAULT, f'the log could not be read to its end ({fault})')
 
     def take_all(self, progress: bool) -> None:
-        progress = progress and sys.stderr.isatty()
+        shown_so_far = Progress(progress)
         taken = TAKE
         while taken == TAKE:
             taken = self.ask(f'take {TAKE}')['take']
-            if progress:
-                print(f'\r{self.fed >> 20} MB of the log read', end='', file=sys.stderr, flush=True)
-        if progress:
-            print('\r\x1b[K', end='', file=sys.stderr, flush=True)
+            shown_so_far.tell(self.fed)
+        shown_so_far.end()
         # A damaged file ends the pipe too, so its fault is waited for before anything is answered.
         self.feeding.join()
         if self.fault:
@@ -219,12 +233,15 @@ class LogProgram(Program):
 class StoreProgram(Program):
     """The program over a store. Logs that are named beside it are read for their lines alone."""
 
-    def __init__(self, words: list[str], store: str, logs: Logs) -> None:
+    def __init__(self, words: list[str], store: str, logs: Logs, progress: bool = False) -> None:
         super().__init__([*words, 'query', '--', store], store, logs)
         try:
+            shown_so_far = Progress(progress)
             for file in logs.files:
                 for piece in pieces(file):
                     self.reading.take(piece)
+                    shown_so_far.tell(self.reading.bytes)
+            shown_so_far.end()
         except BaseException:
             self.stop()
             raise

@@ -39,7 +39,7 @@ class Session:
             if options.store is not None:
                 mode = mode_of_store(options.store)
                 logs = logs_of(options.input, ends) if options.input else Logs([])
-                program: Program = StoreProgram(program_words(options.program), options.store, logs)
+                program: Program = StoreProgram(program_words(options.program), options.store, logs, not options.quiet)
             else:
                 mode = options.mode or 'plain'
                 logs = logs_of(options.input, ends)
@@ -57,10 +57,15 @@ class Session:
     def has_lines(self) -> bool:
         return bool(self.program.logs.files)
 
+    @property
+    def has_all_lines(self) -> bool:
+        """Whether the lines of all that is asked about are there. A store may have taken more than the logs that are named beside it."""
+        return self.has_lines and (self.store is None or self.reading.bytes == self.counts['bytes'])
+
     def life_of(self, thing: Thing) -> tuple[Life | None, bool]:
         """The log's lines of a process, and whether they are surely its own. A store may have lives from logs that aren't named beside it."""
         life, sure = self.reading.life_of(thing.pid, thing.life)
-        return life, sure and (self.store is None or self.reading.bytes == self.counts['bytes'])
+        return life, sure and self.has_all_lines
 
     @property
     def known(self) -> int:

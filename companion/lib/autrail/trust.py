@@ -2,17 +2,17 @@
 from __future__ import annotations
 
 import re
-from collections import Counter
 from datetime import datetime
-from typing import Sequence
+from typing import Collection, Mapping, Sequence
 
 from .basics import many, shown
 from .kept import Taken, gap_text, time_text
-from .lines import NEEDED_CALLS, Reading, X86_64
+from .lines import NEEDED_CALLS, OUR_MACHINE, Reading
 from .session import Session
+from .signs import X86_64
 from .times import DAY, clock, zone
 
-OTHER_MACHINES = {b'40000003': 'the 32-bit gate (i386)', b'c00000b7': 'AArch64', b'40000028': 'ARM', b'c00000f3': 'RISC-V'}
+OTHER_MACHINES = {'40000003': 'the 32-bit gate (i386)', 'c00000b7': 'AArch64', '40000028': 'ARM', 'c00000f3': 'RISC-V'}
 
 
 def warnings_of(session: Session) -> list[str]:
@@ -25,16 +25,14 @@ def warnings_of(session: Session) -> list[str]:
     if session.noted:
         found += noted_warnings(session.noted)
     if session.has_lines:
-        found += missing_calls(reading) + other_machines(reading) + wrong_times(session)
+        found += (missing_calls(reading) + other_machines(reading.machines) + wrong_times(reading.times.greatest, reading.times.back, session.ordered)
+                  + several_hosts(reading.hosts))
     found += counted_warnings(counts)
-    if len(reading.hosts) > 1:
-        found.append(f'the log has lines of {many(len(reading.hosts), "host")}, and their process and file numbers are mixed up: '
-                     'ask about each host\'s log apart ('
-                     + ', '.join(shown(it.decode('utf-8', 'replace')) or 'no name' for it in sorted(reading.hosts)[:5]) + ')')
     if session.ordered:
         found.append('in the order of effects a read of a regular file may count too late, so a path may be shown that can\'t be: '
                      'look at it by "why A B --lines", and without --order')
-    return found
+    # Lines beside a store may say the same as what keep noted of it.
+    return list(dict.fromkeys(found))
 
 
 def unfit_for_answers(counts: dict, holder: str, start: bytes) -> list[str]:
@@ -59,7 +57,10 @@ def counted_warnings(counts: dict) -> list[str]:
 
 def noted_warnings(noted: Taken) -> list[str]:
     """What keep noted of a store."""
-    return list(map(gap_text, noted.gaps)) + missing_kinds(noted.unseen)
+    signs = noted.signs
+    missing = [] if signs.machines and X86_64 not in signs.machines else missing_kinds(noted.unseen)
+    return (list(map(gap_text, noted.gaps)) + missing + other_machines(signs.machines) + wrong_times(signs.greatest, signs.back)
+            + several_hosts(signs.hosts))
 
 
 def not_a_log(start: bytes) -> str:
@@ -76,7 +77,7 @@ def not_a_log(start: bytes) -> str:
 
 
 def missing_calls(reading: Reading) -> list[str]:
-    numbers = {call for _, arch, call in reading.calls if arch == X86_64}
+    numbers = {call for _, arch, call in reading.calls if arch == OUR_MACHINE}
     missing = [name for name, calls in NEEDED_CALLS.items() if not calls & numbers]
     return [] if not numbers and reading.calls else missing_kinds(missing)
 
@@ -87,23 +88,26 @@ def missing_kinds(missing: Sequence[str]) -> list[str]:
     return [f'the log has no {" and no ".join(missing)}, so paths over them are missing: load the rules that "autrail rules" prints']
 
 
-def other_machines(reading: Reading) -> list[str]:
-    counts: Counter[bytes] = Counter()
-    for (_, arch, _), count in reading.calls.items():
-        counts[arch] += count
-    return [f'{many(count, "call")} of {OTHER_MACHINES.get(arch, "arch " + arch.decode())} {"isn" if count == 1 else "aren"}\'t followed'
+def other_machines(counts: Mapping[str, int]) -> list[str]:
+    return [f'{many(count, "call")} of {OTHER_MACHINES.get(arch, "arch " + arch)} {"isn" if count == 1 else "aren"}\'t followed'
             for arch, count in sorted(counts.items()) if arch != X86_64]
 
 
-def wrong_times(session: Session) -> list[str]:
-    found, reading = [], session.reading
-    if reading.back_jump:
+def several_hosts(hosts: Collection[str]) -> list[str]:
+    if len(hosts) < 2:
+        return []
+    named = ', '.join(shown(it) or 'no name' for it in sorted(hosts)[:5])
+    return [f'the log has lines of {many(len(hosts), "host")}, and their process and file numbers are mixed up: ask about each host\'s log apart ({named})']
+
+
+def wrong_times(greatest: int, back: tuple[int, int] | None, ordered: bool = False) -> list[str]:
+    found = []
+    if back:
         what_follows = ('later reads may count at the end of the log, so paths may be shown that can\'t be: ask again without its lines'
-                        if session.ordered else 'all later events have it in the answers')
-        found.append(f'the log goes back in time, from {clock(reading.back_jump[0])} to {clock(reading.back_jump[1])}: if the first is a wrong time, '
-                     + what_follows)
-    elif reading.greatest > (datetime.now().timestamp() + DAY) * 1000:
-        found.append(f'the log has the time {clock(reading.greatest)}, more than a day ahead of this machine\'s clock')
+                        if ordered else 'later events may be torn, or have it in the answers')
+        found.append(f'the log goes back in time, from {clock(back[0])} to {clock(back[1])}: if the first is a wrong time, ' + what_follows)
+    if greatest > (datetime.now().timestamp() + DAY) * 1000 and not (back and back[0] == greatest):
+        found.append(f'the log has the time {clock(greatest)}, more than a day ahead of this machine\'s clock')
     return found
 
 
