@@ -4,7 +4,7 @@ use Rattle.flow_base.specs.declared.limits.Full.{Full}
 use Rattle.flow_base.specs.declared.limits.Limit.{Limit}
 use Rattle.flow_base.specs.declared.limits.Limit.TheVariants as limit
 use Rattle.reach_model.specs.declared.modes.Mode.{Mode}
-use Rattle.store_runs.specs.Statuses.{mode_name}
+use Rattle.reach_model.specs.declared.modes.Mode.TheVariants as mode
 use Rattle.dialogue.specs.declared.halt.Halt.{Halt}
 use Rattle.dialogue.specs.declared.halt.Halt.TheVariants as halt
 use Rattle.dialogue.specs.declared.halt.StoreHalt.{StoreHalt}

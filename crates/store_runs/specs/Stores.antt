@@ -30,6 +30,7 @@ use Rattle.dialogue.specs.Dialogue.{Moment, QuestionsStop, StopsAfter, asks, lin
 use Rattle.dialogue.specs.Course.{At, EndCourse, kind_of}
 use Rattle.dialogue.specs.Listening.{AreHeardOut, KeepsWithin}
 use Rattle.dialogue.specs.Saves.{AddsAtMost, Begun, IsOf, IsPutAway, IsReached, PassesStore, since}
+use Rattle.dialogue.specs.Runs.{HasTaken, LacksIn, MayLeave, WroteFront, WroteStat, begun_of, first_of, steps_of, whole_of}
 use Rattle.dialogue.specs.StoreHalts.{IsRunDue, NamesNoBatch}
 use Rattle.store_runs.specs.Statuses.{store_status}
 use Rattle.store_runs.specs.declared.extending.Taking.{Taking}
