@@ -20,7 +20,7 @@ use Rattle.dialogue.specs.declared.halt.Halt.TheVariants as halt
 use Rattle.audit_cli.specs.Jobs.{LastCourse}
 use Rattle.report_json.specs.declared.ask.Ask.{Ask}
 use Rattle.audit_cli.specs.Headline.{back_questions, unsaid, IsLast, IsLastFront}
-use Rattle.dialogue.proofs.MomentLemmas.{Stay, take_all}
+use Rattle.dialogue.proofs.MomentLemmas.{Stay, count_bytes, take_all}
 use Rattle.dialogue.proofs.TalkLemmas.{stops_now}
 
 -- the most that one question takes

@@ -19,6 +19,7 @@ use Rattle.ingest.specs.StandsFor.{StandsFor}
 use Rattle.ingest.specs.Stops.{Fits, Stops}
 use Rattle.dialogue.specs.declared.halt.Halt.{Halt}
 use Rattle.dialogue.specs.declared.halt.Halt.TheVariants as halt
+use Rattle.store_runs.specs.Statuses.{mode_name}
 use Rattle.audit_cli.specs.declared.trial_line.Totals.{Totals}
 
 -- all of a log, and then a settle
