@@ -4,7 +4,7 @@ use Rattle.log_tests.proofs.tables.newest_first.Given as goal
 
 -- each act is turned once
 abbrev pub invariant-loop-act : goal.invariant-loop-act
-invariant-loop-act g l = ⊤
+invariant-loop-act l = ⊤
 
 abbrev pub decreases-loop-act : goal.decreases-loop-act
-decreases-loop-act g l = length l.acts
+decreases-loop-act l = length l.acts
