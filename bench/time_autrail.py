@@ -87,7 +87,7 @@ def main():
             questions = f'take 999999999\nsettle\nfind {name}\nback {number}\nend\n'.encode()
             alone, out = timed([program, 'watch', 'plain', log], questions, options.runs)
             objects = len(json.loads(out.splitlines()[3])['ids'])
-            whole, tree = timed([sys.executable, AUTRAIL, '-q', '--program', program, '-if', log, 'back', f'#{number}', '--tree'], b'', options.runs)
+            whole, tree = timed([sys.executable, AUTRAIL, '-q', '--program', program, '-if', log, 'back', name, '--tree'], b'', options.runs)
             lines = tree.split(b'processes (')[0].count(b'\n')
             print(f'{os.path.getsize(log) / 1e6:.1f} MB, {name}: the program alone {alone}, {objects:,} objects; autrail {whole} '
                   f'with the program, a tree of {lines:,} lines', flush=True)
