@@ -89,7 +89,7 @@ def opened_and(move: int, name: str, inode: int, serial: int, kind: str = 'NORMA
 
 
 def repeated(size: int) -> bytes:
-    """The example again and again, with later times and serial numbers each time, until it has so many bytes."""
+    """The example again and again, with later times and serial numbers each time, until it has this many bytes."""
     return subprocess.run([sys.executable, TOP / 'bench' / 'repeat_log.py', EXAMPLE, str(size)], capture_output=True, check=True).stdout
 
 
@@ -1783,7 +1783,7 @@ class Scripts(Scratch):
         status, out, err = self.ended(self.start('audit_cli', 'back', '2'))
         self.assertEqual((status, out), (3, 'audit_cli: back 2\n'))
         self.assertIn('proving and building the program', err[0])
-        self.assertRegex(err[1], r'^audit_cli: a_crate is done after \d+ seconds$')
+        self.assertRegex(err[2], r'^audit_cli: a_crate is done after \d+ seconds$')
         self.assertEqual(self.asked(), ['top: all check --jobs N', 'audit_cli: run -- back 0'])
         self.assertEqual(self.ended(self.start('audit_cli', 'x y')), (3, 'audit_cli: x y\n', []))
         self.assertEqual(len(self.asked()), 2)
@@ -1889,7 +1889,7 @@ class Unit(Scratch):
         (self.tools / name).chmod(0o755)
 
     def keep(self, month: str, parts: int, **more: str) -> int:
-        """The unit is started in a month, when so many parts of the log are there."""
+        """The unit is started in a month, when this many parts of the log are there."""
         log = self.logs / 'audit.log'
         log.write_bytes(b''.join(self.parts[:parts]))
         os.utime(log, times=(time.time() - 60,) * 2)
