@@ -5,7 +5,7 @@
 
 The logs are the real ones of examples/ and three generated ones, the last of them longer than a batch. In each mode a log is taken into a store by one
 `reduce`, by one of each of several parts, and by one that goes on with `--resume` as the log grows, cut at ends of lines and within lines. Then each
-question is asked of the store, and of `watch` over the whole log with a `settle` wherever a part ends: the counts, all objects of a small log or so many
+question is asked of the store, and of `watch` over the whole log with a `settle` wherever a part ends: the counts, all objects of a small log or some
 random ones of a large one, backward and forward, also at times, paths of random pairs, names, and questions outside the grammar. The replies must be
 the same byte for byte. And the commands that docs/QUESTIONS.md names for a log that grows and is rotated are run in their order, in each mode, over a log
 that does so. Prints the first difference, and ends with status 1 if there is one.

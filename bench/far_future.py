@@ -3,7 +3,7 @@
 
     bench/far_future.py [--program ./crates/audit_cli/out/audit_cli] [--pairs 50]
 
-Pairs of events whose lines stand mixed are taken into a store, then a log that begins with an event of the year 9999, then a third one. Behind that event
+Pairs of events whose lines stand mixed are taken into a store, then a log that begins with an event of the year 9999, then a third one. After that event
 each record is an event of its own and late, in the third log too, and each step has the far time; the numbers that are wanted are counted here. A copy of
 the logs without the lines of that time, taken into a new store, must give the counts and the replies of the logs without the event. Prints what is wrong,
 and ends with status 1 if something is.
@@ -67,7 +67,7 @@ def faults_of(program, folder, mode, pairs):
     store, _ = stored(program, folder, mode, [FAR_LINES, write])
     hop = json.loads(run(['query', store], b'why 0 1\n', program).out)['path'][0]
     if (hop['at'], hop['serial']) != (f'{FAR}.000', 9):
-        yield f'the step behind the event is {hop}'
+        yield f'the step after the event is {hop}'
 
 
 def main():

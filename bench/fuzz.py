@@ -12,7 +12,7 @@ bound on time and on memory. What is checked of each round:
 - `take` gives the bytes that were left of the log, and `stat` counts each line that has ended in exactly one class, as a count apart from the program does.
 
 That is one round of four. In two others such a log is taken into a store (bench/fuzz_stores.py): in parts, or as it grows with `--resume`; and by a
-run that stops behind a batch that ends within the log, and then goes on. `query` must answer as `watch` does with a `settle` wherever a part ends. The
+run that stops after a batch that ends within the log, and then goes on. `query` must answer as `watch` does with a `settle` wherever a part ends. The
 fourth is one of hostile stores: real ones whose bytes, lengths, numbers, rows or batches were changed, moved, cut or doubled, and random bytes. `query` and
 `reduce`, with and without `--resume`, over the same log, a longer, a shorter and another one, are run over them:
 

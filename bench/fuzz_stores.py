@@ -243,7 +243,7 @@ def fault_against_watch(here, rng, mode, store, log, taken):
 
 
 def fault_of_restored(here, rng, log):
-    """What is wrong with a store whose run stopped behind a batch that ends within this log, and with the one that then went on, or None."""
+    """What is wrong with a store whose run stopped after a batch that ends within this log, and with the one that then went on, or None."""
     mode = rng.choice(MODES)
     log, disk, text = here.stopped_store(rng, mode, log)
     if disk is None:

@@ -60,7 +60,7 @@ def faults_of(program, log):
             yield f'{line[:200]!r} between two lines: {back}, {stat}'
     _, back, stat = replies_of(program, log, LATEST + FORK + WRITE, b'take 1000\nback 2\nstat\n')
     if back != {'back': 2, 'ids': [0, 1, 2]} or stat['late'] != 0:
-        yield f'behind an end of the greatest time: {back}, {stat}'
+        yield f'after an end of the greatest time: {back}, {stat}'
 
 
 def main():

@@ -26,7 +26,7 @@ MODES = ('plain', 'continuous', 'full', 'source')
 TAKEN = 1_000_000
 # How far above its figure a count may be.
 SLACK = 1.1
-# So many events of make_log.py have more than TAKEN bytes.
+# This many events of make_log.py have more than TAKEN bytes.
 EVENTS = 3000
 FIGURE = re.compile(r'(\w+) +(\w+) +([\d,]+) instructions.*, +([\d.]+) allocations a line')
 

@@ -113,7 +113,7 @@ def one_change(here):
             here.expect(7, f'bad store at {place}', 'reduce', 'full', log, path, keeps=[path])
     path = here.file('longer.store', one + b'\x00')
     if here.expect(0, '', 'query', path, questions=b'stat\n', keeps=[path]).out != counts:
-        here.faults.append('a store with a byte behind its end has other counts')
+        here.faults.append('a store with a byte after its end has other counts')
 
 
 def empty_files(here):

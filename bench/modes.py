@@ -37,7 +37,7 @@ def questions_for(program, log, count, seed):
 
 
 def fits(mode, question, said, plain):
-    """Whether a mode may say this where plain mode says that."""
+    """Whether a mode may say this if plain mode says that."""
     if said == plain:
         return mode != 'source' or not question.startswith('back') or 'ids' not in said
     if mode == 'continuous':

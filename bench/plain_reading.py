@@ -480,7 +480,7 @@ def sources(flows):
 
 
 def bringing(flows):
-    """A flow is kept where it brings its target a source."""
+    """A flow is kept if it brings its target a source."""
     return sum(not dropped for dropped, _ in sources(flows))
 
 

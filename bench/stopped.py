@@ -37,7 +37,7 @@ def overwritten(rng, disk, synced, last):
 
 
 def closed_again(rng, disk, synced, last):
-    """The disk with its last batch closed, if it has one, and random bytes in place of some of what stands behind."""
+    """The disk with its last batch closed, if it has one, and random bytes in place of some of what stands after it."""
     if last is None:
         return overwritten(rng, disk, synced, last)
     kept = rng.randrange(last + 1, len(disk) + 1)

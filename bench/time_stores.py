@@ -67,7 +67,7 @@ def bytes_by_kind(store):
 
 
 def halves(folder, seed, size, further):
-    """A log of so many megabytes, and the one that goes on from it."""
+    """A log of this many megabytes, and the one that goes on from it."""
     events = [megabytes * 1_000_000 // BYTES_OF_AN_EVENT for megabytes in (size, size + further)]
     log, both, rest = folder / 'log', folder / 'both', folder / 'further'
     made_log(log, seed, events[0])

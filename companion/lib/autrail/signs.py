@@ -10,7 +10,7 @@ X86_64 = 'c000003e'
 NO_STEP = 3600_000
 # The head of a line: the node, the type, the time, and of a call the machine.
 HEAD = re.compile(rb'(?:node=(\S+) )?type=([A-Z0-9_\[\]]+) msg=audit\((\d{1,15}\.\d{3}):\d{1,10}\) ?:(?: arch=(\w{1,8}) )?')
-# In so many first bytes of a line there is no room for a second stamp, which a user may have written.
+# In this many first bytes of a line there is no room for a second stamp, which a user may have written.
 NEAR = 40
 # What no line has, since a line ends at its line feed.
 NO_STAMP = b'\n\n'

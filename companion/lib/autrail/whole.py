@@ -24,7 +24,7 @@ class Ends(NamedTuple):
 
 
 def ends_of(lines: bytes) -> Ends:
-    """The program joins records into events by the same rule. So where none waits, it stands as if the log went on without a break."""
+    """The program joins records into events by the same rule. So when none waits, it stands as if the log went on without a break."""
     waiting: dict[tuple[int, int], int] = {}
     first, latest, looked = None, 0, 0
     place = none_waits = 0

@@ -1,4 +1,4 @@
--- How often a file number was born, and the key of a file. Every list of acts has the newest first.
+-- How often a file number was born, and the key of a file. Every list of acts is ordered newest first.
 use Rattle.std.specs.Prelude.{◌==◌, ◌&&◌, ℕ, ◌+◌, Bool, false, List, [], ◌∷◌, if◌then◌else◌, Option, None, Some}
 use Rattle.flow_base.specs.declared.types.FileId.{FileId}
 use Rattle.flow_base.specs.declared.types.Key.{Key}

@@ -1,4 +1,4 @@
--- The flows that acts make. Acts stand with the newest first, objects and flows with the oldest first.
+-- The flows that acts make. Acts stand newest first, objects and flows oldest first.
 use Rattle.std.specs.Prelude.{⊤, ◌≤◌, ◌&&◌, ◌||◌, ◌++◌, ℕ, Bool, true, false, not, List, [], ◌∷◌, length, map, if◌then◌else◌, Option, None, Some}
 use Rattle.std.specs.List.{position_or_len}
 use Rattle.flow_base.specs.declared.types.Key.{Key}
@@ -13,7 +13,7 @@ use Rattle.acts.specs.declared.act.Act.TheVariants.{See, Fork, Move}
 use Rattle.acts.specs.Lives.{begins_by_see, has_parent, begins, is_child, linked}
 use Rattle.acts.specs.Keys.{process_key, thing_key, put_new}
 
--- a fork by another pid makes a flow where it begins a life of the child, or claims one that was not linked
+-- a fork by another pid makes a flow if it begins a life of the child, or claims one that was not linked
 abbrev pub fork_links : List Act → ℕ → ℕ → Bool
 fork_links before pid child = begins before (Fork pid child) child || (is_child pid child child && not (linked before child))
 
@@ -35,7 +35,7 @@ link_of before (Fork pid child) =
 link_of before (Move pid inward how what) = Some (between inward (thing_key before pid what) (process_key before pid) how)
 link_of before other = None
 
--- the ends of a link go last where they are new, the source before the target
+-- the ends of a link are appended if they are new, the source before the target
 abbrev pub with_ends : List Key → Option Link → List Key
 with_ends seen None = seen
 with_ends seen (Some link) = put_new ghosts.eq (put_new ghosts.eq seen link.from) link.to
@@ -64,7 +64,7 @@ flow_at seen taken place link =
       serial = taken.serial;
     }
 
--- that flow, where there is a link
+-- that flow, if there is a link
 abbrev pub flow_if : List Key → Taken → ℕ → Option Link → List Flow
 flow_if seen taken place None = []
 flow_if seen taken place (Some link) = flow_at seen taken place link ∷ []

@@ -1,4 +1,4 @@
--- What a descriptor holds, and which address a socket has, by looking back through the acts. Every list of acts has the newest first.
+-- What a descriptor holds, and which address a socket has, by looking back through the acts. Every list of acts is ordered newest first.
 use Rattle.std.specs.Prelude.{◌==◌, ◌&&◌, ◌||◌, ℕ, Bool, false, List, [], ◌∷◌, length, if◌then◌else◌, Option, None, Some, is_some}
 use Rattle.flow_base.specs.declared.types.Key.{Key}
 use Rattle.flow_base.specs.declared.types.Key.TheVariants.{Lost}
@@ -40,7 +40,7 @@ abbrev pub marked : Bool → Option Held → Option Held
 marked cloexec None = None
 marked cloexec (Some held) = Some (record { object = held.object; cloexec = cloexec })
 
--- the act that names the socket, where the object is one
+-- the act that names the socket, if the object is one
 abbrev pub socket_of : Object → Option ℕ
 socket_of (Sock act) = Some act
 socket_of other = None
@@ -73,7 +73,7 @@ holds (See pid ppid exe ∷ before) p n =
     if begins_by_see before pid p then (if has_parent before pid ppid then holds before ppid n else None) else holds before p n
 holds (other ∷ before) p n = holds before p n
 
--- a socket, or else the one that is named by this act
+-- a socket, or else the socket that is named by this act
 abbrev pub named_or : ℕ → Option ℕ → ℕ
 named_or act None = act
 named_or act (Some socket) = socket
@@ -82,7 +82,7 @@ named_or act (Some socket) = socket
 abbrev pub addressed : List Act → ℕ → ℕ → ℕ
 addressed before pid fd = named_or (act_number before) (socket_held (holds before pid fd))
 
--- the address of the socket named by act s: the one that the last act gave which gave it one; a set gives the stated one, else its listener's
+-- the address of the socket named by act s: what the last act gave which gave it an address; a set gives the stated one, else its listener's
 abbrev pub address_of : List Act → ℕ → Option (List ℕ)
 address_of [] s = None
 address_of (Set pid fd (ASocket (Some address) listener) cloexec ∷ before) s = if s == act_number before then Some address else address_of before s

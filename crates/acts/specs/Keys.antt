@@ -1,4 +1,4 @@
--- The key of a thing, and the names that acts give to keys. Every list of acts has the newest first.
+-- The key of a thing, and the names that acts give to keys. Every list of acts is ordered newest first.
 use Rattle.std.specs.Prelude.{◌++◌, ℕ, Bool, List, [], ◌∷◌, length, if◌then◌else◌, Option, None, Some, filter, fold, map, nat_eq, nat_le, ◌||◌}
 use Rattle.std.specs.List.{list_any}
 use Rattle.flow_base.specs.declared.types.Key.{Key}
@@ -21,7 +21,7 @@ use Rattle.acts.specs.Holding.{holds, address_of}
 abbrev pub process_key : List Act → ℕ → Key
 process_key acts pid = Process pid (life_of acts pid)
 
--- a socket is its address, and the act that made it where it has none
+-- a socket is its address, and the act that made it if it has none
 abbrev pub socket_key : ℕ → Option (List ℕ) → Key
 socket_key act None = Made act
 socket_key act (Some address) = Address address
@@ -43,7 +43,7 @@ thing_key acts pid (ThingFd fd) = held_key acts (Lost pid (life_of acts pid) fd)
 thing_key acts pid (ThingFile file) = file_key acts file
 thing_key acts pid (ThingAddress address) = Address address
 
--- a name that is given only where there is one
+-- a name that is given only if there is one
 abbrev pub name_if : Key → Option (List ℕ) → List (Key × List ℕ)
 name_if key None = []
 name_if key (Some text) = (key, text) ∷ []
@@ -61,12 +61,12 @@ module _ (address_text : List ℕ → List ℕ) where
   given before (AnAddress pid fd address) = (Address address, address_text address) ∷ []
   given before other = []
 
-  -- all that was given, the oldest first
+  -- all that was given, oldest first
   abbrev pub all_given : List Act → List (Key × List ℕ)
   all_given [] = []
   all_given (act ∷ before) = all_given before ++ given before act
 
--- x goes last where it is new
+-- x is appended if it is new
 module _ {X : Type 0} (eq : X → X → Bool) where
   abbrev pub put_new : List X → X → List X
   put_new seen x = if list_any (eq x) seen then seen else seen ++ x ∷ []
@@ -75,7 +75,7 @@ module _ {X : Type 0} (eq : X → X → Bool) where
 abbrev pub MOST_NAMES : ℕ
 MOST_NAMES = 16
 
--- a text goes last where it is new and there are fewer than 16
+-- a text is appended if it is new and there are fewer than 16
 abbrev pub with_name : List (List ℕ) → List ℕ → List (List ℕ)
 with_name names text = if list_any (pointwise nat_eq text) names || nat_le MOST_NAMES (length names) then names else names ++ text ∷ []
 

@@ -1,4 +1,4 @@
--- The words of the plain program, which holds its acts with the oldest first.
+-- The words of the plain program, which holds its acts oldest first.
 use Rattle.std.specs.Prelude.{◌≡◌, ◌≤◌, ◌||◌, ℕ, ◌+◌, Bool, true, false, List, [], ◌∷◌, length, reverse, if◌then◌else◌, Option, None, Some, nat_lt}
 use Rattle.flow_base.specs.declared.types.Key.{Key}
 use Rattle.flow_base.specs.declared.types.Flow.{Flow}
@@ -10,7 +10,7 @@ use Rattle.acts.specs.declared.act.Taken.{Taken}
 use Rattle.acts.specs.declared.link.Link.{Link}
 use Rattle.acts.specs.Flows.{acts_of, objects, flows, with_ends}
 
--- the acts that were taken, turned to the newest first
+-- the acts that were taken, reversed, newest first
 abbrev pub so_far : List Taken → List Act
 so_far taken = acts_of (reverse taken)
 
@@ -27,12 +27,12 @@ abbrev pub any_opens : List Act → Bool
 any_opens [] = false
 any_opens (act ∷ before) = opens act || any_opens before
 
--- one where it is so, else none
+-- one if it is so, else none
 abbrev pub as_number : Bool → ℕ
 as_number true = 1
 as_number false = 0
 
--- the limit that so many objects and flows pass; where they pass both, that of objects
+-- the limit that this many objects and flows pass; if they pass both, that of objects
 abbrev pub full_by : ℕ → ℕ → ℕ → ℕ → Option Full
 full_by most_objects most_flows objects flows =
     if nat_lt most_objects objects then Some (record { limit = limit.Entities; number = most_objects }) else
@@ -53,13 +53,13 @@ pub record Graphed : Type 0 where
 abbrev pub full_with : Graphed → Link → Option Full
 full_with graph link = full_by graph.most_objects graph.most_flows (length (with_ends graph.objects (Some link))) (length graph.flows + 1)
 
--- the acts that were taken, the newest first, and how many objects and flows there may be
+-- the acts that were taken, newest first, and how many objects and flows there may be
 pub record Course : Type 0 where
   pub taken : List Taken
   pub most_objects : ℕ
   pub most_flows : ℕ
 
--- the graph is that of the acts, with the oldest first, and none of them put anything at a descriptor
+-- the graph is that of the acts, oldest first, and none of them put anything at a descriptor
 pub record IsGraphOf (taken : List Taken) (graph : Graphed) : Type 0 where
   pub none_opened : any_opens (so_far taken) ≡ false
   pub objects_are : graph.objects ≡ objects (so_far taken)

@@ -1,4 +1,4 @@
--- Worked lists of acts, and what the definitions make of them. Acts stand with the newest first.
+-- Worked lists of acts, and what the definitions make of them. Acts stand newest first.
 use Rattle.std.specs.Prelude.{◌≡◌, ℕ, ◌+◌, true, false, List, [], ◌∷◌, None, Some, refl, codes}
 use Rattle.flow_base.specs.declared.types.Key.{Key}
 use Rattle.flow_base.specs.declared.types.Key.TheVariants.{Process, Inode, Lost, Address}
@@ -16,7 +16,7 @@ use Rattle.acts.specs.Lives.{life_of, awaited}
 use Rattle.acts.specs.Keys.{all_given, names_of}
 use Rattle.acts.specs.Flows.{flows, objects, acts_of}
 
--- an act of the event with this serial, which happened so many milliseconds after the first second
+-- an act of the event with this serial, which happened this many milliseconds after the first second
 abbrev at : ℕ → Act → Taken
 at serial act = record { act = act; ms = 999 + serial; serial = serial }
 
@@ -28,7 +28,7 @@ see pid ppid = See pid ppid (Some (codes "/p"))
 abbrev arrow : ℕ → ℕ → How → ℕ → ℕ → Flow
 arrow from to how serial place = record { from = record { 0 = from }; to = record { 0 = to }; how = how; at = record { ms = 999 + serial; place = place }; serial = serial }
 
--- what was given to a key, where an address is its own text
+-- what was given to a key, if an address is its own text
 abbrev names : Key → List Taken → List (List ℕ)
 names key taken = names_of key (all_given (λ bytes. bytes) (acts_of taken))
 

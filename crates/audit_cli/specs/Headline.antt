@@ -30,7 +30,7 @@ questions_of limits (job.Reduce kept name store resume) log asked = []
 questions_of limits (job.WatchStore kept name store) log asked = []
 questions_of limits (job.Query store) log asked = []
 
--- the source of the questions tells them, where the job has questions
+-- the source of the questions is observable, if the job has questions
 abbrev pub Tells : Job → Option (List ℕ) → List ℕ → Type 0
 Tells (job.Back of) left asked = ⊤
 Tells (job.Watch mode name) left asked = left ≡ Some asked
@@ -39,7 +39,7 @@ Tells (job.Reduce kept name store resume) left asked = ⊤
 Tells (job.WatchStore kept name store) left asked = ⊤
 Tells (job.Query store) left asked = ⊤
 
--- The source of the log tells it, where the job has a log. A job over a store has claims of its own
+-- The source of the log is observable, if the job has a log. A job over a store has claims of its own
 abbrev pub TellsLog : Job → Option (List ℕ) → List ℕ → Type 0
 TellsLog (job.Back of) left log = left ≡ Some log
 TellsLog (job.Watch mode name) left log = left ≡ Some log
@@ -61,7 +61,7 @@ pub record AreAll (limits : Limits) (from : Moment) (questions : List (Option As
   pub dialogue : Dialogue limits from questions said to
   pub bytes_are : bytes ≡ texts said
 
--- the bytes are a front of the last reply's text
+-- the bytes are a prefix of the last reply's text
 pub record IsLastFront (limits : Limits) (from : Moment) (questions : List (Option Ask)) (bytes : List ℕ) : Type 0 where
   pub to : Moment
   pub more : List ℕ
@@ -82,7 +82,7 @@ Writes limits (job.Reduce kept name store resume) log asked bytes to = ⊥
 Writes limits (job.WatchStore kept name store) log asked bytes to = ⊥
 Writes limits (job.Query store) log asked bytes to = ⊥
 
--- the bytes are a front of what the job would write
+-- the bytes are a prefix of what the job would write
 abbrev pub WritesFront : Limits → Job → (log asked bytes : List ℕ) → Type 0
 WritesFront limits (job.Back of) log asked bytes = (bytes ≡ []) ⊎ IsLastFront limits (begin Plain log) (questions_of limits (job.Back of) log asked) bytes
 WritesFront limits (job.Watch mode name) log asked bytes = IsFront limits (begin mode log) (questions_of limits (job.Watch mode name) log asked) bytes
@@ -131,7 +131,7 @@ PassesLimit limits done log asked full =
 abbrev pub PassesNone : Limits → Job → (log asked : List ℕ) → Type 0
 PassesNone limits done log asked = (full : Full) → ¬ PassesLimit limits done log asked full
 
--- the history is within the limits, and the log, where the job has one, is left as the dialogue left it
+-- the history is within the limits, and the log, if the job has one, is left as the dialogue left it
 pub record Ends (limits : Limits) (done : Job) (left : Option (List ℕ)) (to : Moment) : Type 0 where
   pub within : Fits limits to.history
   pub told : TellsLog done left to.log
@@ -144,7 +144,7 @@ pub record Finished (limits : Limits) (job : Job) (log asked : List ℕ) (left o
   pub writes : Writes limits job log asked bytes to
   pub ends : Ends limits job left to
 
--- the bytes that were written are a front of what the job would write
+-- the bytes that were written are a prefix of what the job would write
 pub record Written (limits : Limits) (job : Job) (log asked : List ℕ) (old new : Option (List ℕ)) : Type 0 where
   pub bytes : List ℕ
   pub wrote : Appends old new bytes

@@ -33,7 +33,7 @@ pub record LastTalked {K : Type 0} (kind : Kind K) (limits : Limits) (engine : E
   pub course : LastCourse limits result from questions bytes to
   pub at : OnOk result (At kind limits engine left to)
 
--- the questions kept within their limit, where the job has questions
+-- the questions kept within their limit, if the job has questions
 abbrev pub KeepsLimit : Limits → Job → (log asked : List ℕ) → Type 0
 KeepsLimit limits (job.Back of) log asked = ⊤
 KeepsLimit limits (job.Watch mode name) log asked = KeepsWithin limits (begin mode log) asked

@@ -65,7 +65,7 @@ size_of _ = 0
 abbrev pub back_from : ℕ → Ask
 back_from of = ask.Question (question.Back (record { 0 = of }) None)
 
--- The last of so many known objects can have come from so many objects or sources. Where none is known the number is 0
+-- From how many objects or sources the last of this many known objects can have come. If none is known the number is 0
 abbrev pub CountsBack : Mode → Limits → History → (known back : ℕ) → Type 0
 CountsBack kind limits h zero back = back ≡ 0
 CountsBack kind limits h (suc last) back =

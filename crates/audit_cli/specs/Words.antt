@@ -15,7 +15,7 @@ use Rattle.audit_cli.specs.declared.words.WordsFault.{WordsFault}
 use Rattle.audit_cli.specs.declared.words.WordsFault.TheVariants as fault
 use Rattle.audit_cli.specs.CommandLine.{command, is_resumed, own_name, words_in}
 
--- one or more decimal digits with a value of at most so many bits
+-- one or more decimal digits with a value of at most this many bits
 abbrev pub number_of : (bits : ℕ) → List ℕ → Option ℕ
 number_of bits text =
     if list_all is_ascii_digit text && (nat_lt 0 (length text) && nat_lt (digits_value 10 text) (2 ^ bits))
@@ -141,7 +141,7 @@ row_by (fault ∷ more) rows = None
 abbrev pub job_of : List (List ℕ) → Option Job
 job_of words = row_by (fault_of command (own_name ∷ words)) (matches_of command (own_name ∷ words))
 
--- bad words name no job. Where memory ran out nothing is known of the words
+-- bad words name no job. If memory ran out nothing is known of the words
 abbrev pub RefusesWords : Option Job → WordsFault → Type 0
 RefusesWords found fault.BadWords = found ≡ None
 RefusesWords found fault.NoMemory = ⊤

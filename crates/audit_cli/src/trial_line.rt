@@ -13,7 +13,7 @@ use serde_json::{Value, json};
 use std::alloc::{AllocError, Global};
 use store_runs::name_of_mode;
 
-/// What a trial tells of the counts over a history.
+/// What a trial reports of the counts over a history.
 #[derive(Clone, Copy, Debug, PartialEq, Eq)]
 pub struct Totals {
     /// Flows.

@@ -11,7 +11,7 @@ use Rattle.audit_gen.specs.declared.deeds.Deed.TheVariants as deed
 abbrev pub generator_of : ℕ → Lcg
 generator_of seed = started 64 multiplier_64 seed (increment_of 64 1)
 
--- the word that a generator gives after so many others
+-- the word that a generator gives after this many others
 abbrev pub word_after : ℕ → Lcg → ℕ
 word_after count generator = (pcg32 (advance 64 multiplier_64 count generator)).0
 
@@ -38,7 +38,7 @@ lines_of stamp pid (deed.Fork child) = call_line stamp 57 pid child ++ end_line 
 abbrev pub event_text : ℕ → ℕ → List ℕ
 event_text number word = lines_of (stamp_text (1000000 + number) (number + 1)) (pid_of word) (deed_of word)
 
--- the log of so many events by a 64-bit seed, a word of its generator for each event
+-- the log of this many events by a 64-bit seed, a word of its generator for each event
 abbrev pub generated : ℕ → ℕ → List ℕ
 generated seed events =
     flat_map (λ number. event_text number (word_after number (generator_of seed))) (range_with_len 0 events)

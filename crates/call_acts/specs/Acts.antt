@@ -48,7 +48,7 @@ row_acts limit records call row.Rename = renames limit records call
 row_acts limit records call row.Remove = removes limit records call
 row_acts limit records call row.MakePath = makes limit records call
 
--- the acts of a call by its row, where it has one
+-- the acts of a call by its row, if it has one
 abbrev pub acts_by : ℕ → List Record → Syscall → Option Call → List Act
 acts_by limit records call None = []
 acts_by limit records call (Some row) = row_acts limit records call row
@@ -62,7 +62,7 @@ abbrev pub acts_from : ℕ → List Record → Option Syscall → List Act
 acts_from limit records None = []
 acts_from limit records (Some call) = See call.pid call.ppid call.exe ∷ acts_by limit records call (row_of call)
 
--- the acts of an event with these records, whose joined paths have at most so many bytes; without a call it has none
+-- the acts of an event with these records, whose joined paths have at most this many bytes; without a call it has none
 abbrev pub event_acts : ℕ → List Record → List Act
 event_acts limit records = acts_from limit records (call records)
 

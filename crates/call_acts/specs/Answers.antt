@@ -46,12 +46,12 @@ fd argument = argument % 2 ^ 32
 abbrev pub has : ℕ → ℕ → Bool
 has argument flag = not (bit_and argument flag == 0)
 
--- these where it is so, else none
+-- these if it is so, else none
 abbrev pub when : {A : Type 0} → Bool → List A → List A
 when true items = items
 when false items = []
 
--- what a number gives, where there is one
+-- what a number gives, if there is one
 abbrev pub for_number : {A : Type 0} → Option ℕ → (ℕ → List A) → List A
 for_number None gives = []
 for_number (Some n) gives = gives n

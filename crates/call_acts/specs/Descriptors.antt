@@ -37,12 +37,12 @@ open_flags call =
 abbrev pub sets_file : Syscall → ℕ → FileRef → Act
 sets_file call n file = Set call.pid n (opens.File file) (has (open_flags call) CLOEXEC)
 
--- a file that was created is born and made; one that was there is altered where the open truncates it
+-- a file that was created is born and made; one that was there is altered if the open truncates it
 abbrev pub opens_file : Syscall → ℕ → Bool → FileRef → List Act
 opens_file call n true file = Birth file ∷ outward call how.Make (thing.File file) ∷ sets_file call n file ∷ []
 opens_file call n false file = when (has (open_flags call) TRUNCATE) (outward call how.Alter (thing.File file) ∷ []) ++ sets_file call n file ∷ []
 
--- an open opens its target; where the event has none, nothing is known of the descriptor any more
+-- an open opens its target; if the event has none, nothing is known of the descriptor any more
 abbrev pub opens_target : ℕ → List Record → Syscall → Option PathItem → ℕ → List Act
 opens_target limit records call None n = Close call.pid n ∷ []
 opens_target limit records call (Some item) n = opens_file call n (same_kind item.kind named.Create) (file_of limit records item)
@@ -61,7 +61,7 @@ closes call = when (is_ok call) (Close call.pid (fd call.a0) ∷ [])
 abbrev pub copies_to : Syscall → Bool → ℕ → List Act
 copies_to call cloexec n = Copy call.pid (fd call.a0) n cloexec ∷ []
 
--- a dup copies to the descriptor that it answered, also where that is the same one
+-- a dup copies to the descriptor that it answered, also if that is the same one
 abbrev pub dups : Syscall → List Act
 dups call = for_number (answered call) (copies_to call false)
 
@@ -108,7 +108,7 @@ sets_socket call n = Set call.pid n (opens.Socket None None) (has call.a1 CLOEXE
 abbrev pub opens_socket : Syscall → List Act
 opens_socket call = for_number (answered call) (sets_socket call)
 
--- the descriptor of the first argument gets the address, where there is one
+-- the descriptor of the first argument gets the address, if there is one
 abbrev pub gets_address : Syscall → Option (List ℕ) → List Act
 gets_address call None = []
 gets_address call (Some bytes) = Address call.pid (fd call.a0) bytes ∷ []

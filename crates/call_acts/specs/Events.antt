@@ -1,4 +1,4 @@
--- The shape of the acts of one event. Acts stand in their order, the oldest first.
+-- The shape of the acts of one event. Acts stand in their order, oldest first.
 use Rattle.std.specs.Prelude.{◌≡◌, ◌++◌, ℕ, ⊤, List, [], ◌∷◌, All}
 use Rattle.acts.specs.declared.act.Act.{Act}
 use Rattle.acts.specs.declared.act.Act.TheVariants.{See, Fork, End, Exec, Set, SetBoth, Copy, Close, Mark, Address, Birth, Move}

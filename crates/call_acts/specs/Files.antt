@@ -18,7 +18,7 @@ use Rattle.call_acts.specs.Transfers.{outward}
 abbrev pub alters_file : ℕ → List Record → Syscall → PathItem → List Act
 alters_file limit records call item = outward call how.Alter (thing.File (file_of limit records item)) ∷ []
 
--- the target is altered, where there is one
+-- the target is altered, if there is one
 abbrev pub alters_target : ℕ → List Record → Syscall → Option PathItem → List Act
 alters_target limit records call None = []
 alters_target limit records call (Some item) = alters_file limit records call item

@@ -25,7 +25,7 @@ runs_file limit records call item = inward call how.Exec (thing.File (file_of li
 abbrev pub execs : ℕ → List Record → Syscall → List Act
 execs limit records call = when (is_ok call) (flat_map (runs_file limit records call) (paths named.Normal records) ++ Exec call.pid ∷ [])
 
--- the child that was answered, where it is one: neither 0 nor the caller itself
+-- the child that was answered, if it is one: neither 0 nor the caller itself
 abbrev pub makes_child : Syscall → ℕ → List Act
 makes_child call child = if child == 0 || child == call.pid then [] else Fork call.pid child ∷ []
 

@@ -49,16 +49,16 @@ mapped_in other = None
 abbrev pub call : List Record → Option Syscall
 call records = first_of call_in records
 
--- a text that may be absent, where it may not be there
+-- a text that may be absent, if it may not be there
 abbrev pub text_or_none : Option (Option (List ℕ)) → Option (List ℕ)
 text_or_none None = None
 text_or_none (Some text) = text
 
--- the working directory of an event; where its first record has none, there is none
+-- the working directory of an event; if its first record has none, there is none
 abbrev pub cwd : List Record → Option (List ℕ)
 cwd records = text_or_none (first_of cwd_in records)
 
--- the address key of an event, where its first record of an address holds one
+-- the address key of an event, if its first record of an address holds one
 abbrev pub address : List Record → Option (List ℕ)
 address records = option_and_then key_of (first_of sockaddr_in records)
 
@@ -72,7 +72,7 @@ mapped records = first_of mapped_in records
 
 -- ---- the paths
 
--- a path names a file where it has a file number or a name
+-- a path names a file if it has a file number or a name
 abbrev pub names_file : PathItem → Bool
 names_file item = is_some item.file || is_some item.name
 
@@ -85,7 +85,7 @@ same_kind named.Create named.Create = true
 same_kind named.Unknown named.Unknown = true
 same_kind a b = false
 
--- the path of a body, where it has this kind and names a file
+-- the path of a body, if it has this kind and names a file
 abbrev pub path_in : NameKind → Body → List PathItem
 path_in kind (body.Path item) = if same_kind item.kind kind && names_file item then item ∷ [] else []
 path_in kind other = []
@@ -99,7 +99,7 @@ abbrev pub target : List Record → Option PathItem
 target records =
     last_or (last_or (last_or None (paths named.Unknown records)) (paths named.Normal records)) (paths named.Create records)
 
--- the file of a path in a working directory: its number, and its name joined with the directory, absent where the name is
+-- the file of a path in a working directory: its number, and its name joined with the directory, absent if the name is
 abbrev pub file_in : ℕ → Option (List ℕ) → PathItem → FileRef
 file_in limit cwd item = record { file = item.file; path = option_map (λ name. joined cwd name limit) item.name }
 

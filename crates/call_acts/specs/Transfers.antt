@@ -19,7 +19,7 @@ inward call how what = Move call.pid true how what
 abbrev pub outward : Syscall → How → Thing → Act
 outward call how what = Move call.pid false how what
 
--- the peer of a message: its address, where there is one, else the descriptor that the first argument is
+-- the peer of a message: its address, if there is one, else the descriptor that the first argument is
 abbrev pub peer : Syscall → Option (List ℕ) → Thing
 peer call None = thing.Fd (fd call.a0)
 peer call (Some bytes) = thing.Address bytes

@@ -7,7 +7,7 @@ use audit_record::Syscall;
 // The answer of a connect that goes on by itself.
 const IN_PROGRESS: i64 = -115;
 
-/// Whether the call succeeded. One whose record says nothing of it didn't.
+/// Whether the call succeeded. If its record doesn't say, it didn't.
 pub fn is_ok(call: &Syscall) -> bool
     ensures { result ≡ is_ok call.now }
 {

@@ -1,7 +1,7 @@
 //! The table of calls.
 //!
-//! Calls that do alike share a row, whose name is the `Call`. Where they differ, by which argument has their flags,
-//! the number of the call tells.
+//! Calls that do the same share a row, whose name is the `Call`. If they differ in which argument has
+//! their flags, the number of the call decides.
 ghost use Rattle.std.specs.Prelude.{◌≡◌, map};
 ghost use Rattle.call_acts.specs.Calls.{call_of, row_with};
 

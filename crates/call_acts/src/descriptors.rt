@@ -45,7 +45,7 @@ pub fn dup(call: &Syscall, done: &mut List<Act>) -> Result<(), NoMemory>
     }
 }
 
-/// A dup2 copies to another descriptor, and does nothing where that is the same one.
+/// A dup2 copies to another descriptor, and does nothing if both are the same.
 pub fn dup2(call: &Syscall, done: &mut List<Act>) -> Result<(), NoMemory>
     ensures { OnOk result (done.new ≡ done.old ++ dups_to call.now) }
 {

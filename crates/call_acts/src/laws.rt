@@ -59,7 +59,7 @@ pub fn acts_are_few()
     ensures { (limit : ℕ) (records : List Record) → length (event_acts limit records) ≤ 4 + 2 * length records }
 {}
 
-/// Where the call of an event is none that makes, copies or names descriptors, no act of the event puts anything at one.
+/// If the call of an event doesn't make, copy or name descriptors, no act of the event puts anything at one.
 pub fn other_calls_open_nothing()
     ensures { (limit : ℕ) (records : List Record) → ((row : Row) → event_call records ≡ Some row → opens_descriptors row ≡ false) → OpenNothing (event_acts limit records) }
 {}

@@ -16,7 +16,7 @@ use std::alloc::Global;
 // The flag of an open that empties the file.
 const TRUNCATE: u64 = 0x200;
 
-/// An open opens the path that it was about. Where the event has none, nothing is known of the descriptor any more.
+/// An open opens the path that its event names. If the event has none, nothing is known of the descriptor any more.
 pub fn open(
     alloc: Global,
     limit: usize,
@@ -54,7 +54,7 @@ fn open_target(
     }
 }
 
-// A file that was created is born and made; one that was there is altered where the open empties it.
+// A file that was created is born and made; an existing file is altered if the open empties it.
 fn open_file(
     call: &Syscall,
     fd: u32,

@@ -86,7 +86,7 @@ pub fn mapped(records: &[Record]) -> Option<u32>
     None
 }
 
-/// The path of a record, where it has this kind and names a file.
+/// The path of a record, if it has this kind and names a file.
 pub fn path_of(one: &Record, kind: NameKind) -> Option<&PathItem>
     ensures { option_to_list (option_map (λ p. p.now) result) ≡ path_in kind one.now.body }
 {

@@ -11,7 +11,7 @@ use audit_record::{Record, Syscall};
 use flow_base::{How, List, NoMemory};
 use std::alloc::Global;
 
-// The flag of a mapping that lies in no file, and the one of a mapping that others share.
+// The flag of a mapping that lies in no file, and the flag of a mapping that others share.
 const ANONYMOUS: u64 = 0x20;
 
 const SHARED: u64 = 1;
@@ -94,7 +94,7 @@ pub fn send(
     Ok(())
 }
 
-// The address of the peer, where the event has one, else the descriptor of the first argument.
+// The address of the peer, if the event has one, else the descriptor of the first argument.
 fn peer(alloc: Global, records: &[Record], call: &Syscall) -> Result<Thing, NoMemory>
     ensures { IfOk result (λ thing. thing ≡ peer call.now (address records.now)) }
 {

@@ -64,24 +64,24 @@ pub record Kind (K : Type 0) : Type 1 where
 abbrev pub kind_of : {K : Type 0} → Mode → Bool → (Engine K → Moment → Type 0) → Kind K
 kind_of mode takes holds = record { mode = mode; takes = takes; holds = holds }
 
--- the engine and the log, which tells its bytes, are at this moment
+-- the engine and the log, which is observable, are at this moment
 pub record StandsAt {K : Type 0} (limits : Limits) (engine : Engine K) (left : Option (List ℕ)) (m : Moment) : Type 0 where
   pub stands : StandsFor limits engine m.history
   pub told : left ≡ Some m.log
 
--- the engine of a run and the log, which tells its bytes, are at this moment of such a run
+-- the engine of a run and the log, which is observable, are at this moment of such a run
 pub record At {K : Type 0} (kind : Kind K) (limits : Limits) (engine : Engine K) (left : Option (List ℕ)) (m : Moment) : Type 0 where
   pub in_mode : m.mode ≡ kind.mode
   pub may_take : m.takes ≡ kind.takes
   pub stands_at : StandsAt limits engine left m
   pub holds : kind.holds engine m
 
--- at most what is left, and nothing only where nothing is left
+-- at most what is left, and nothing only if nothing is left
 pub record IsPart (n : ℕ) (left : List ℕ) : Type 0 where
   pub within : n ≤ length left
   pub ended : n ≡ 0 → left ≡ []
 
--- so many further bytes are counted, if the count has room for them
+-- this many further bytes are counted, if the count has room for them
 abbrev pub CountsOn : (before now count : ℕ) → Type 0
 CountsOn before now count = before + count ≤ 2 ^ 64 - 1 → now ≡ before + count
 
@@ -115,7 +115,7 @@ pub record Talked {K : Type 0} (kind : Kind K) (limits : Limits) (beyond : Beyon
   pub course : Course limits beyond result from questions bytes to
   pub at : OnOk result (At kind limits engine left to)
 
--- these bytes are what was answered to these questions, or a front of it where the run halted
+-- these bytes are what was answered to these questions, or a prefix of it if the run halted
 abbrev pub EndCourse : Limits → Beyond → Result Unit Halt → Moment → List (Option Ask) → List ℕ → Moment → Type 0
 EndCourse limits beyond (Ok done) from questions bytes to = (said : List Reply) × (bytes ≡ texts said) × Dialogue limits from questions said to
 EndCourse limits beyond (Err why) from questions bytes to = Halted limits beyond from questions bytes why

@@ -28,7 +28,7 @@ pub record Moment : Type 0 where
 abbrev pub begin : Mode → List ℕ → Moment
 begin mode log = record { mode = mode; takes = true; history = []; log = log }
 
--- so many further bytes of the log are taken
+-- this many further bytes of the log are taken
 abbrev pub taken_on : ℕ → Moment → Moment
 taken_on count m = record m { history = with_bytes m.history (take count m.log); log = drop count m.log }
 
@@ -36,7 +36,7 @@ taken_on count m = record m { history = with_bytes m.history (take count m.log);
 abbrev pub settled_on : Moment → Moment
 settled_on m = record m { history = m.history ++ Settle ∷ [] }
 
--- The moment after a question. Only `take` and `settle` change it, where the run takes a log, and no question changes the kind of
+-- The moment after a question. Only `take` and `settle` change it, if the run takes a log, and no question changes the kind of
 -- the run
 abbrev pub after : Option Ask → Moment → Moment
 after None m = m
@@ -44,7 +44,7 @@ after (Some (ask.Take count)) m = if m.takes then taken_on count m else m
 after (Some ask.Settle) m = if m.takes then settled_on m else m
 after (Some _) m = m
 
--- The reply answers the question at this moment, as the mode of the run does. Where the run takes no log, `take` and `settle` are
+-- The reply answers the question at this moment, as the mode of the run does. If the run takes no log, `take` and `settle` are
 -- bad questions
 abbrev pub Answers : Limits → Option Ask → Moment → Reply → Type 0
 Answers limits None m r = r ≡ reply.BadQuestion
@@ -59,7 +59,7 @@ abbrev pub turn_of : Option Ask → Turn
 turn_of (Some ask.End) = turn.Ended
 turn_of _ = turn.More
 
--- the first where the dialogue has ended, else the second
+-- the first if the dialogue has ended, else the second
 abbrev pub AfterTurn : Turn → Type 0 → Type 0 → Type 0
 AfterTurn turn.Ended closed later = closed
 AfterTurn turn.More closed later = later
@@ -98,7 +98,7 @@ Leads limits from front said to = (questions : List (Option Ask)) (replies : Lis
 abbrev pub Closes : Limits → Moment → List (Option Ask) → List Reply → Moment → Type 0
 Closes limits from front said to = (questions : List (Option Ask)) → Dialogue limits from (front ++ questions) said to
 
--- the bytes are a front of what is answered to a front of the questions
+-- the bytes are a prefix of what is answered to a prefix of the questions
 pub record IsFront (limits : Limits) (from : Moment) (questions : List (Option Ask)) (bytes : List ℕ) : Type 0 where
   pub front : List (Option Ask)
   pub rest : List (Option Ask)

@@ -21,7 +21,7 @@ WhenMore (Ok turn.More) claim = claim
 WhenMore (Ok turn.Ended) claim = ⊤
 WhenMore (Err why) claim = ⊤
 
--- of the lines that end in a piece some were answered, and all where the dialogue goes on
+-- of the lines that end in a piece some were answered, and all if the dialogue goes on
 pub record Heard {K : Type 0} (kind : Kind K) (limits : Limits) (beyond : Beyond) (cut : Cutter) (engine : Engine K) (left old new : Option (List ℕ)) (result : Result Turn Halt) (from : Moment) (history : History) (piece : List ℕ) : Type 0 where
   pub answered : List (List ℕ)
   pub unheard : List (List ℕ)
@@ -30,7 +30,7 @@ pub record Heard {K : Type 0} (kind : Kind K) (limits : Limits) (beyond : Beyond
   pub holds : WhenMore result (Holds limits cut (with_bytes history piece))
   pub whole : WhenMore result (unheard ≡ [])
 
--- the last line was answered, where the end of the questions ends one
+-- the last line was answered, if the end of the questions ends one
 pub record HeardLast {K : Type 0} (kind : Kind K) (limits : Limits) (beyond : Beyond) (engine : Engine K) (left old new : Option (List ℕ)) (result : Result Unit Halt) (from : Moment) (history : History) : Type 0 where
   pub last : List (List ℕ)
   pub lines : lines_of (history ++ Settle ∷ []) ≡ lines_of history ++ last
@@ -41,7 +41,7 @@ abbrev pub turn_in : Result (ℕ × Turn) Halt → Result Turn Halt
 turn_in (Ok given) = Ok given.1
 turn_in (Err why) = Err why
 
--- the bytes that were taken, and the whole piece where that isn't told
+-- the bytes that were taken, and the whole piece if that isn't known
 abbrev pub taken_in : Result (ℕ × Turn) Halt → List ℕ → List ℕ
 taken_in (Ok given) piece = take given.0 piece
 taken_in (Err why) piece = piece

@@ -19,7 +19,7 @@ turn_heeded (Ok heed.Ended) = Ok turn.Ended
 turn_heeded (Ok heed.Silence) = Ok turn.More
 turn_heeded (Err why) = Err why
 
--- the bytes that were heard, and all that are left where the dialogue doesn't go on
+-- the bytes that were heard, and all that are left if the dialogue doesn't go on
 abbrev pub heeded : Result Heed Halt → List ℕ → List ℕ
 heeded (Ok (heed.Piece n)) q = take n q
 heeded (Ok heed.Ended) q = q

@@ -15,7 +15,7 @@ use Rattle.dialogue.specs.declared.halt.Halt.TheVariants as halt
 use Rattle.dialogue.specs.Dialogue.{Moment, settled_on, taken_on}
 use Rattle.dialogue.specs.Saves.{Begun, LacksAtMost, since}
 
--- what a run over a log began from: at the log's first byte, or behind those of it that the store has taken
+-- what a run over a log began from: at the log's first byte, or after those of it that the store has taken
 abbrev pub begun_of : (resume : Bool) → History → (before : ℕ) → List ℕ → Begun
 begun_of resume h before log = record {
   history = h;
@@ -51,7 +51,7 @@ pub record WroteStat (limits : Limits) (mode : Mode) (h : History) (old new : Op
   pub answers : IsReply mode limits h ask.Stat stat
   pub wrote : Appends old new (text_of stat)
 
--- a front of that reply was written, or nothing
+-- a prefix of that reply was written, or nothing
 pub record WroteFront (limits : Limits) (mode : Mode) (h : History) (old new : Option (List ℕ)) : Type 0 where
   pub bytes : List ℕ
   pub wrote : Appends old new bytes
@@ -78,8 +78,8 @@ MayBeUnopened _ = ⊥
 abbrev pub MayLeave : Result Unit StoreHalt → DiskState → DiskState → (List ℕ → Type 0) → Type 0
 MayLeave outcome old new P = (MayBeUnopened outcome × OnlyLooks old new) ⊎ LeavesOnceSynced old new P
 
--- Whatever history a run that halted leaves on its disk, at most so many of the bytes are missing from it that it took of its log. The
--- run is over a disk that has a history so, and what it reads tells its bytes.
+-- Whatever history a run that halted leaves on its disk, at most this many of the bytes are missing from it that it took of its log. The
+-- run is over a disk that has a history so, and what it reads is observable.
 abbrev pub LacksIn : (resume : Bool) → (Tells : Type 0) → (Stood : History → ℕ → Type 0) → Limits → Mode → (after : DiskState) → (log left : Option (List ℕ)) → (most : ℕ) → Result Unit StoreHalt → Type 0
 LacksIn resume Tells Stood limits mode after log left most outcome = (h : History) (before : ℕ) (bytes : List ℕ) → Tells → Stood h before → log ≡ Some bytes
     → IfErr outcome (λ why. LacksAtMost limits mode (begun_of resume h before bytes) after left most)

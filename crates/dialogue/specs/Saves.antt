@@ -21,7 +21,7 @@ use Rattle.dialogue.specs.declared.halt.Halt.TheVariants as halt
 use Rattle.dialogue.specs.Dialogue.{Moment, settled_on, taken_on}
 use Rattle.dialogue.specs.Course.{CountsOn}
 
--- From what a run over a log began: the history that was on the disk, with so many bytes of its part of a log; how many bytes were
+-- From what a run over a log began: the history that was on the disk, with this many bytes of its part of a log; how many bytes were
 -- taken of this part, and what was left of its log
 pub record Begun : Type 0 where
   pub history : History
@@ -52,14 +52,14 @@ pub record IsOf (begun : Begun) (m : Moment) : Type 0 where
   pub goes_on : m.history ≡ begun.history ++ since begun m
   pub bytes : bytes_of (since begun m) ++ m.log ≡ begun.log
 
--- the bytes store a front of what came since the begin
+-- the bytes store a prefix of what came since the begin
 pub record StoresFront (limits : Limits) (mode : Mode) (begun : Begun) (steps : History) (bytes : List ℕ) : Type 0 where
   pub first : History
   pub more : History
   pub parts : steps ≡ first ++ more
   pub stores : StoresHistory limits mode bytes (begun.history ++ first) (begun.part + bytes_in first)
 
--- the bytes store what was on the disk at the begin, or a front of what came since
+-- the bytes store what was on the disk at the begin, or a prefix of what came since
 abbrev pub IsReached : Limits → Mode → Begun → (steps : History) → List ℕ → Type 0
 IsReached limits mode begun steps bytes =
     StoresHistory limits mode bytes begun.history begun.before ⊎ StoresFront limits mode begun steps bytes
@@ -79,7 +79,7 @@ pub record PassesStore (limits : Limits) (mode : Mode) (begun : Begun) (steps : 
   pub end : log.end ≡ limits.store
   pub passes : PassesWith mode log rows full
 
--- At this moment a first part of the history is saved, and a crash since the start has left nothing but what was there, or a front
+-- At this moment a first part of the history is saved, and a crash since the start has left nothing but what was there, or a prefix
 -- of what came since
 pub record IsPutAway {D : Type 0} (state : D → DiskState) (start : Start (OnDisk D)) (limits : Limits) (engine : Engine (OnDisk D)) (m : Moment) : Type 0 where
   pub moment : IsOf start.begun m
@@ -99,7 +99,7 @@ pub record IsAllPutAway {D : Type 0} (state : D → DiskState) (start : Start (O
   pub stores : StoresHistory limits m.mode (state rows.disk).reads m.history (start.begun.part + bytes_in (since start.begun m))
   pub durable : IsDurable (state rows.disk)
 
--- A run halted for this cause before this moment. A crash since the start has left nothing but what was there, or a front of what
+-- A run halted for this cause before this moment. A crash since the start has left nothing but what was there, or a prefix of what
 -- would have come up to it. If a limit on the store is named, a batch would have passed it
 pub record IsCutShort {D : Type 0} (state : D → DiskState) (start : Start (OnDisk D)) (limits : Limits) (rows : OnDisk D) (m : Moment) (why : Halt) : Type 0 where
   pub moment : IsOf start.begun m
@@ -108,24 +108,24 @@ pub record IsCutShort {D : Type 0} (state : D → DiskState) (start : Start (OnD
 
 -- What a run lacks on its disk
 
--- all but at most so many of these bytes are left, and no more than there were
+-- all but at most this many of these bytes are left, and no more than there were
 pub record LeavesAllBut (most : ℕ) (bytes : List ℕ) (left : Option (List ℕ)) : Type 0 where
   pub rest : List ℕ
   pub told : left ≡ Some rest
   pub few : length bytes ≤ length rest + most
   pub no_more : length rest ≤ length bytes
 
--- so many as a call says, or as many as it could have been
+-- as many as a call says, or as many as it could have been
 abbrev pub count_of : {E : Type 0} → Result ℕ E → (most : ℕ) → ℕ
 count_of (Ok n) most = n
 count_of (Err e) most = most
 
--- so many as came since the last save, or a batch of them if the run halted
+-- as many as came since the last save, or a batch of them if the run halted
 abbrev pub lack_of : {T E : Type 0} → Result T E → (unsaved batch : ℕ) → ℕ
 lack_of (Ok t) unsaved batch = unsaved
 lack_of (Err e) unsaved batch = batch
 
--- Whatever history a crash now would leave, at most so many of the bytes are missing from it that came before what is left of the log
+-- Whatever history a crash now would leave, at most this many of the bytes are missing from it that came before what is left of the log
 abbrev pub LacksAtMost : Limits → Mode → Begun → DiskState → (left : Option (List ℕ)) → (most : ℕ) → Type 0
 LacksAtMost limits mode begun disk left most = (bytes : List ℕ) (h : History) (part : ℕ) (rest : List ℕ)
     → disk.image bytes → StoresHistory limits mode bytes h part → left ≡ Some rest
@@ -151,7 +151,7 @@ pub record LacksLawfully {K : Type 0} (alike : K → K → Type 0) (lacks : Star
 
 -- What a run adds to its disk
 
--- whatever batches the first disk has, as it reads, the second one has them, and at most so many after them
+-- whatever batches the first disk has, as it reads, the second one has them, and at most this many after them
 abbrev pub AddsAtMost : Limits → (disk after : DiskState) → (most : ℕ) → Type 0
 AddsAtMost limits disk after most = (payloads : List (List ℕ)) → IsStore limits.payload payloads disk.reads
     → (more : List (List ℕ)) × IsStore limits.payload (payloads ++ more) after.reads × (length more ≤ most)
@@ -168,7 +168,7 @@ adds_nothing start limits rows most = ⊤
 abbrev pub AddsLawfully : {K : Type 0} → (alike : K → K → Type 0) → (adds : Start K → Limits → K → ℕ → Type 0) → Type 0
 AddsLawfully {K} alike adds = (start : Start K) (limits : Limits) (a b : K) (n : ℕ) → alike a b → adds start limits a n → adds start limits b n
 
--- Batches were added, and nothing else. They, at so many bytes a batch, with what isn't saved and what is left of the log are at most so many bytes
+-- Batches were added, and nothing else. They, at this many bytes a batch, with what isn't saved and what is left of the log are at most this many bytes
 pub record KeepsPace {K : Type 0} (adds : K → ℕ → Type 0) (batch : ℕ) (rows : K) (unsaved : ℕ) (left : Option (List ℕ)) (most : ℕ) : Type 0 where
   pub added : ℕ
   pub adds_so : adds rows added
@@ -225,7 +225,7 @@ nothing_put start limits rows m = ⊤
 abbrev pub nothing_cut : {K : Type 0} → Start K → Limits → K → Moment → Halt → Type 0
 nothing_cut start limits rows m why = ⊤
 
--- nothing uses a disk, and no count of faults rises, where there is none
+-- nothing uses a disk, and no count of faults rises, if there is none
 abbrev pub uses_none : {K : Type 0} → K → K → Type 0
 uses_none a b = ⊤
 

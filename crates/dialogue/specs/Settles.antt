@@ -13,7 +13,7 @@ abbrev pub settles_in_one : Option Ask → ℕ
 settles_in_one (Some ask.Settle) = 1
 settles_in_one _ = 0
 
--- none where the dialogue has ended
+-- none if the dialogue has ended
 abbrev pub unless_ended : Turn → ℕ → ℕ
 unless_ended turn.Ended n = 0
 unless_ended turn.More n = n

@@ -47,7 +47,7 @@ no_lengths taken had = ⊥
 abbrev pub is_shorter : ℕ → ℕ → Type 0
 is_shorter taken had = had < taken
 
--- one that has fewer, where a run goes on in its log, and none where it doesn't
+-- one that has fewer, if a run goes on in its log, and none if it doesn't
 abbrev pub shorter_in : (resume : Bool) → ℕ → ℕ → Type 0
 shorter_in true = is_shorter
 shorter_in false = no_lengths

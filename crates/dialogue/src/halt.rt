@@ -1,4 +1,4 @@
-//! Why a run stops before its end, and how far a dialogue has come.
+//! Why a run stops before its end, and how far a dialogue got.
 ghost use Rattle.std.specs.Prelude.{◌≡◌};
 ghost use Rattle.dialogue.specs.declared.halt.Halt.TheVariants as halt;
 ghost use Rattle.dialogue.specs.declared.halt.StoreHalt.TheVariants as over;

@@ -26,7 +26,7 @@ abbrev pub texts : Option Names → List (List ℕ)
 texts None = []
 texts (Some names) = names.texts.items
 
--- the names of a key, none where it has no list
+-- the names of a key, none if it has no list
 abbrev pub names_at : Known → Key → List (List ℕ)
 names_at table key = texts (lookup (ghosts.eq key) table.names)
 
@@ -34,7 +34,7 @@ abbrev pub saved_in : Option Names → ℕ
 saved_in None = 0
 saved_in (Some names) = names.saved
 
--- how many names a key had at the mark, none where it has no list
+-- how many names a key had at the mark, none if it has no list
 abbrev pub saved_at : Known → Key → ℕ
 saved_at table key = saved_in (lookup (ghosts.eq key) table.names)
 
@@ -50,7 +50,7 @@ capacity_at table key = places (lookup (ghosts.eq key) table.names)
 abbrev pub HasPlace : Known → Key → Type 0
 HasPlace table key = (length (names_at table key) < capacity_at table key) ⊎ (table.most_names ≤ length (names_at table key))
 
--- a text goes last where it is new and fewer than so many are there
+-- a text is appended if it is new and fewer than this many are there
 abbrev pub with_name_within : ℕ → List (List ℕ) → List ℕ → List (List ℕ)
 with_name_within most names text = if list_any (pointwise nat_eq text) names || nat_le most (length names) then names else names ++ text ∷ []
 

@@ -79,7 +79,7 @@ impl Entities {
         }
     }
 
-    /// The number of a key, where it is known.
+    /// The number of a key, if it is known.
     pub fn id(&self, key: &Key) -> Option<EntityId>
         ensures place { option_map (λ (id : EntityId). id.0) result ≡ position (ghosts.eq key.now) self.now.keys }
         ensures known { is_some result ≡ list_any (ghosts.eq key.now) self.now.keys }
@@ -90,7 +90,7 @@ impl Entities {
         }
     }
 
-    /// The number of a key, which is the next one where the key is new.
+    /// The number of a key: the next number, if the key is new.
     pub fn enter(&mut self, key: Key) -> Result<EntityId, EnterFault>
         ensures keys { OnOk result (self.new.keys ≡ put_new ghosts.eq self.old.keys key) }
         ensures id { IfOk result (λ (id : EntityId). position (ghosts.eq key) self.new.keys ≡ Some id.0) }
@@ -155,7 +155,7 @@ impl Entities {
         Ok(())
     }
 
-    /// Makes room for more names of a key, as many as are kept.
+    /// Makes room for more names of a key, up to the most that are kept.
     fn make_room(&mut self, key: &Key, more: usize) -> Result<(), NoMemory>
         ensures rest { self.new ≡ record self.old { names = self.new.names } }
         ensures names { (k : Key) → names_at self.new k ≡ names_at self.old k }
@@ -181,7 +181,7 @@ impl Entities {
         }
     }
 
-    /// The names of a key, where it has one.
+    /// The names of a key, if it has any.
     pub fn names(&self, key: &Key) -> Option<&[Bytes]>
         ensures names { option_map_or (λ (list : _). list.now) result [] ≡ names_at self.now key.now }
         ensures some { IfSome result (λ list. list.now ≢ []) }

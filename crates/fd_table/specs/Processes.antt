@@ -18,7 +18,7 @@ holding_of processes p = unwrap_or (lookup (nat_eq p) processes) nothing
 pub record AreHoldings (processes : List (ℕ × Holding)) (nodes : List Node) (top : ℕ) : Type 0 where
   pub each : (p : ℕ) → IsHolding nodes top (holding_of processes p)
 
--- so many nodes and objects, with such capacities and room for so many processes, leave room for
+-- this many nodes and objects, with such capacities and room for this many processes, leave room for
 -- this many changes: 16 nodes, one object and one process for each of them
 pub record HasRoom (changes nodes node_room objects object_room spare : ℕ) : Type 0 where
   pub nodes_fit : nodes + 16 * changes ≤ node_room
@@ -27,7 +27,7 @@ pub record HasRoom (changes nodes node_room objects object_room spare : ℕ) : T
   pub few_objects : objects + changes < 2 ^ 32
   pub processes_fit : changes ≤ spare
 
--- the holding of p is what `change p` makes of the one it was
+-- the holding of p is what `change p` makes of what it was
 abbrev pub AreChanged : List (ℕ × Holding) → List (ℕ × Holding) → (ℕ → Holding → Holding) → Type 0
 AreChanged old new change = (p : ℕ) → holding_of new p ≡ change p (holding_of old p)
 

@@ -125,7 +125,7 @@ fn push_leaf(
     Ok(())
 }
 
-/// What two numbers say, the second of which is in the tree of those that an exec closes.
+/// What two numbers say. The second is in the tree of the descriptors that an exec closes.
 fn copy_held(course: &Course<'_>, kept: u32, marked: u32) -> Result<Option<Held>, NoMemory>
     ensures { IfOk result (λ held.
         held ≡ chosen course.now.closed_alone (held_by course.now.objects.now kept marked)) }

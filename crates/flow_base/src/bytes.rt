@@ -81,7 +81,7 @@ impl Bytes {
         }
     }
 
-    /// Puts a piece after the bytes. Where no memory is found nothing has changed.
+    /// Puts a piece after the bytes. If allocation fails, nothing has changed.
     pub fn append(&mut self, piece: &[u8]) -> Result<(), NoMemory>
         ensures ok { OnOk result (self.new ≡ self.old ++ piece.now) }
         ensures err { OnErr result (self.new ≡ self.old) }

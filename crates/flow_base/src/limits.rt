@@ -1,6 +1,6 @@
 //! How much a run may take, and which limit was reached.
 //!
-//! A run stops with `Full` where a further byte, object, flow or batch would pass `input`, `entities`, `flows`,
+//! A run stops with `Full` if a further byte, object, flow or batch would pass `input`, `entities`, `flows`,
 //! `payload` or `store`. The other limits refuse nothing: they cut, count or release earlier.
 ghost use Rattle.std.specs.Prelude.{◌≡◌, ◌≤◌, ◌^◌};
 
@@ -9,7 +9,7 @@ ghost use Rattle.std.specs.Prelude.{◌≡◌, ◌≤◌, ◌^◌};
 pub struct Limits {
     /// Bytes of a line; a longer line is malformed.
     pub line: usize,
-    /// Groups of records that wait to be joined; above it the least one is released.
+    /// Groups of records that wait to be joined; above it the least group is released.
     pub groups: usize,
     /// Bytes of the lines of waiting records; above it the least group is released.
     pub text: usize,

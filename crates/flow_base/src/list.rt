@@ -31,7 +31,7 @@ impl<T> List<T> {
         }
     }
 
-    /// Puts an item last. Where no memory is found nothing has changed.
+    /// Appends an item. If allocation fails, nothing has changed.
     pub fn push(&mut self, item: T) -> Result<(), NoMemory>
     where
         T: Drop,

@@ -1,4 +1,4 @@
--- The process of an event, once it was seen. Every list of acts has the newest first.
+-- The process of an event, once it was seen. Every list of acts is ordered newest first.
 use Rattle.std.specs.Prelude.{◌≡◌, ◌==◌, ◌^◌, ℕ, ⊤, Bool, true, false, List, [], ◌∷◌, Option, None, Some}
 use Rattle.flow_base.specs.declared.types.Key.{Key}
 use Rattle.flow_base.specs.declared.types.Key.TheVariants.{Process}
@@ -31,7 +31,7 @@ pub record IsBorn (births fresh : Births) (before now : List Act) : Type 0 where
   pub births_few : BornBelow births (2 ^ 63)
   pub fresh_few : BornBelow fresh (2 ^ 63)
 
--- the name that is given, where one is
+-- the name that is given, if one is
 abbrev pub pair_if : Option Given → List (Key × List ℕ)
 pair_if None = []
 pair_if (Some given) = pair_of given ∷ []
@@ -40,7 +40,7 @@ pair_if (Some given) = pair_of given ∷ []
 abbrev pub DoesAs : Change → List Act → Act → Type 0
 DoesAs change acts act = (p n : ℕ) → holds (act ∷ acts) p n ≡ changed change (holds acts) p n
 
--- the address of a socket, where there is one
+-- the address of a socket, if there is one
 abbrev pub address_through : (ℕ → Option (List ℕ)) → Option ℕ → Option (List ℕ)
 address_through addresses None = None
 address_through addresses (Some socket) = addresses socket

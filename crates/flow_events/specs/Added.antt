@@ -9,7 +9,7 @@ use Rattle.entity_names.specs.Known.{full_at}
 use Rattle.flow_events.specs.Entering.{entered}
 use Rattle.reach_rows.specs.Kept.{GoOn, known_after}
 
--- the objects that are new, and the flows, the oldest first
+-- the objects that are new, and the flows, oldest first
 pub record Additions : Type 0 where
   pub keys : List Key
   pub flows : List Flow
@@ -29,7 +29,7 @@ flow_of seen ms serial place link =
       serial = serial;
     }
 
--- that flow, where there is a link
+-- that flow, if there is a link
 abbrev pub flows_if : List Key → ℕ → ℕ → ℕ → Option Link → List Flow
 flows_if seen ms serial place None = []
 flows_if seen ms serial place (Some link) = flow_of seen ms serial place link ∷ []

@@ -1,4 +1,4 @@
--- The table of births, and what it stands for. Every list of acts has the newest first.
+-- The table of births, and what it stands for. Every list of acts is ordered newest first.
 use Rattle.std.specs.Prelude.{◌≡◌, ◌<◌, ℕ, List, unwrap_or, if◌then◌else◌}
 use Rattle.std.specs.List.{sum_by}
 use Rattle.std.specs.Map.{lookup}
@@ -25,7 +25,7 @@ pub record BornAs (table : Table) (acts : List Act) : Type 0 where
 abbrev pub SetsBirths : Table → Table → FileId → ℕ → Type 0
 SetsBirths old new id count = (f : FileId) → born_at new f ≡ (if ghosts.eq f id then count else born_at old f)
 
--- no number has so many births
+-- no number has this many births
 abbrev pub BornBelow : Table → ℕ → Type 0
 BornBelow table most = (id : FileId) → born_at table id < most
 

@@ -6,7 +6,7 @@ use Rattle.acts.specs.Holding.{is_at, marked, unless_marked}
 use Rattle.flow_events.specs.declared.change.Change.{Change}
 use Rattle.flow_events.specs.declared.change.Change.TheVariants.{Nothing, Set, Pair, Close, Mark, Exec, Clear, Share}
 
--- what descriptor n of p holds after the change, where before it descriptors held what `held` says
+-- what descriptor n of p holds after the change, if before it descriptors held what `held` says
 abbrev pub changed : Change → (ℕ → ℕ → Option Held) → ℕ → ℕ → Option Held
 changed Nothing held p n = held p n
 changed (Set pid fd what) held p n = if is_at pid fd p n then Some what else held p n

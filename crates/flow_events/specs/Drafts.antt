@@ -1,4 +1,4 @@
--- What is worked out of an event so far. Every list of acts has the newest first, what is added the oldest.
+-- What is worked out of an event so far. Every list of acts is ordered newest first, what is added oldest first.
 use Rattle.std.specs.Prelude.{◌≡◌, ◌<◌, ◌+◌, ◌-◌, ◌^◌, ◌++◌, ℕ, List, length, map, reverse}
 use Rattle.name_text.specs.Addresses.{text_of}
 use Rattle.acts.specs.declared.act.Taken.{Taken}
@@ -24,13 +24,13 @@ pub record Drafted (births : Births) (entities : Known) (draft : Draft) (before 
   pub objects_are : objects (acts_of now ++ acts_of before) ≡ entities.keys ++ draft.added.keys
   pub flows_are : flows (now ++ before) ≡ flows before ++ draft.added.flows
 
--- an event is under way: its draft has these acts, and its process is as they tell
+-- an event is under way: its draft has these acts, and its process is as they say
 pub record UnderWay (ground : Ground) (acting : Acting) (draft : Draft) (before now : List Taken) : Type 0 where
   pub drafted : Drafted ground.births.now ground.entities.now draft before now
   pub acting_is : IsActing ground.procs.now ground.fds.now acting (acts_of now ++ acts_of before)
   pub base : ground.flows ≡ length (flows before)
 
--- the event is under way, and there are numbers for the lives and births of so many more acts of it
+-- the event is under way, and there are numbers for the lives and births of this many more acts of it
 pub record MayGoOn (ground : Ground) (acting : Acting) (draft : Draft) (before now : List Taken) (more : ℕ) : Type 0 where
   pub way : UnderWay ground acting draft before now
   pub lives_few : LivesBelow ground.procs.now (2 ^ 64 - 1)
@@ -41,6 +41,6 @@ pub record MayGoOn (ground : Ground) (acting : Acting) (draft : Draft) (before n
 abbrev pub IsNumbered : Ground → Draft → Type 0
 IsNumbered ground draft = AreNumbered ground.entities.now.keys ground.ms ground.flows draft.added
 
--- acts of one event, with the oldest first, as a log has them, with the newest first
+-- acts of one event, oldest first, as a log has them, newest first
 abbrev pub turned : ℕ → ℕ → List Act → List Taken
 turned ms serial acts = reverse (map (λ act. record { act = act; ms = ms; serial = serial }) acts)

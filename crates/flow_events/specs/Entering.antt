@@ -1,4 +1,4 @@
--- Keys and names that are entered one after the other. Both lists have the newest first.
+-- Keys and names that are entered one after the other. Both lists are ordered newest first.
 use Rattle.std.specs.Prelude.{◌≡◌, ◌≤◌, ◌+◌, ◌++◌, ℕ, true, List, [], ◌∷◌, length, map, min}
 use Rattle.std.specs.List.{list_any}
 use Rattle.flow_base.specs.declared.types.Key.{Key}
@@ -7,7 +7,7 @@ use Rattle.acts.specs.Keys.{put_new, names_of}
 use Rattle.entity_names.specs.Known.{Known, NamesAs, names_at, saved_at, capacity_at}
 use Rattle.flow_events.specs.declared.given.Given.{Given}
 
--- the objects after these keys, each of which goes last where it is new
+-- the objects after these keys, each of which is appended if it is new
 abbrev pub entered : List Key → List Key → List Key
 entered seen [] = seen
 entered seen (key ∷ before) = put_new ghosts.eq (entered seen before) key
@@ -16,7 +16,7 @@ entered seen (key ∷ before) = put_new ghosts.eq (entered seen before) key
 abbrev pub pair_of : Given → Key × List ℕ
 pair_of given = (given.key, given.text)
 
--- what was given, the oldest first
+-- what was given, oldest first
 abbrev pub pairs_of : List Given → List (Key × List ℕ)
 pairs_of [] = []
 pairs_of (given ∷ before) = pairs_of before ++ pair_of given ∷ []

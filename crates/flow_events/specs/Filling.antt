@@ -49,7 +49,7 @@ pub record SayTables (text : List ℕ → List ℕ) (most : ℕ) (rows : List St
 pub record HasBirths (table : Births) (rows : List StoreRow) : Type 0 where
   pub each : (f : FileId) → born_at table f ≡ unwrap_or (born_of f rows) 0
 
--- these keys, each of which goes last where it is new
+-- these keys, each of which is appended if it is new
 abbrev pub listed : List Key → List Key
 listed keys = fold (put_new ghosts.eq) [] keys
 

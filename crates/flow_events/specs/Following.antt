@@ -14,7 +14,7 @@ use Rattle.flow_events.specs.Standing.{AreSafe, StandsFor, HasLimits, IsPlanOf}
 use Rattle.flow_events.specs.Drafts.{turned}
 use Rattle.flow_events.specs.declared.plan.Plan.{Plan}
 
--- the tables stand for these acts, each of which but a see and a birth names a live pid, and so many more are few
+-- the tables stand for these acts, each of which but a see and a birth names a live pid, and this many more are few
 pub record MayFollow (tables : Tables) (before : List Taken) (more : ℕ) : Type 0 where
   pub stands : StandsFor text_of tables before
   pub admitted : Admitted (acts_of before)
@@ -33,11 +33,11 @@ pub record MayComeAfter (tables : Tables) (event : EventView) (limits : Limits) 
   pub limited : HasLimits limits tables
   pub follows : MayFollow tables before (length (event_acts limits.path event.records.now))
 
--- so many more acts can be counted
+-- this many more acts can be counted
 abbrev pub HasNumbersFor : Tables → ℕ → Type 0
 HasNumbersFor tables more = tables.acts + (more + 2) < 2 ^ 63 - 1
 
--- the acts of an event, the newest first
+-- the acts of an event, newest first
 abbrev pub turned_by : Limits → EventView → List Taken
 turned_by limits event = turned event.ms event.key.serial (event_acts limits.path event.records.now)
 

@@ -1,4 +1,4 @@
--- Tables that remember what changed since a mark. Every list of acts has the newest first.
+-- Tables that remember what changed since a mark. Every list of acts is ordered newest first.
 use Rattle.std.specs.Prelude.{◌≡◌, ◌≤◌, ◌++◌, ℕ, List, [], length, Option, Some, reverse}
 use Rattle.acts.specs.declared.act.Act.{Act}
 use Rattle.acts.specs.declared.act.Taken.{Taken}
@@ -25,7 +25,7 @@ pub record StandsSince (address_text : List ℕ → List ℕ) (tables : Tables) 
   pub since : Remembers tables.since (acts_of before) (acts_of now)
   pub saved : AreSavedNames address_text tables.entities before
 
--- Tables whose mark is at a number of acts are those of no fewer acts, and remember those that came after it. Where no mark was
+-- Tables whose mark is at a number of acts are those of no fewer acts, and remember those that came after it. If no mark was
 -- made this asks nothing.
 pub record StandsMarked (address_text : List ℕ → List ℕ) (tables : Tables) (taken : List Taken) : Type 0 where
   pub within : (m : ℕ) → tables.marked ≡ Some m → m ≤ length taken
@@ -66,7 +66,7 @@ BeginsAnew old new = (text : List ℕ → List ℕ) (before now : List Taken) �
 abbrev pub BeginsToRemember : Tables → Tables → Type 0
 BeginsToRemember old new = (text : List ℕ → List ℕ) (taken : List Taken) → StandsFor text old taken → StandsSince text new taken []
 
--- these acts, the oldest first, are remembered too, if they give one socket this address or none one
+-- these acts, oldest first, are remembered too, if they give one socket this address or none one
 abbrev pub NotesEvent : Option Memory → Option Memory → Procs → Fds → List Act → Option NewAddress → Type 0
 NotesEvent old new procs fds acts address =
     (before now fresh : List Act) → LivesAs procs (now ++ before) → HoldsAs fds (now ++ before) → AddressesAs fds (now ++ before) → fresh ≡ reverse acts

@@ -1,4 +1,4 @@
--- The table rows of a commit: what changed since the mark. Every list of acts has the newest first.
+-- The table rows of a commit: what changed since the mark. Every list of acts is ordered newest first.
 use Rattle.std.specs.Prelude.{◌≡◌, ◌==◌, ◌<◌, ◌++◌, ℕ, Bool, false, List, map, drop, length, Option, Some, None, is_some, if◌then◌else◌}
 use Rattle.std.specs.List.{Contains}
 use Rattle.std.specs.List.Sorted.{IsStrictlySortedBy}
@@ -44,7 +44,7 @@ pub record Parts : Type 0 where
   pub addresses : List (ℕ × List ℕ)
   pub births : List (FileId × ℕ)
 
--- the rows behind those of flows, in their order
+-- the rows after those of flows, in their order
 abbrev pub laid_behind : Parts → List StoreRow
 laid_behind parts = map name_row parts.names ++ (map life_row parts.lives ++ (map held_row parts.held ++ (map address_row parts.addresses ++ map born_row parts.births)))
 

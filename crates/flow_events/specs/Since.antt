@@ -1,4 +1,4 @@
--- What is remembered of the acts since a mark. Every list of acts has the newest first.
+-- What is remembered of the acts since a mark. Every list of acts is ordered newest first.
 use Rattle.std.specs.Prelude.{◌≡◌, ◌==◌, ◌≢◌, ◌≤◌, ◌+◌, ◌++◌, ℕ, Bool, true, false, not, ◌&&◌, ◌||◌, List, [], ◌∷◌, length, Option, Some, None, ⊤, unwrap_or, is_some, nat_eq, if◌then◌else◌}
 use Rattle.std.specs.Cmp.Lexicographic.{pointwise}
 use Rattle.std.specs.List.{list_any}
@@ -97,7 +97,7 @@ NotesPid old new procs named = (p : ℕ) → pid_in new p ≡ (if named p then S
 abbrev pub NotesFile : Memory → Memory → (FileId → Bool) → Type 0
 NotesFile old new born = (f : FileId) → has_file new f ≡ (born f || has_file old f)
 
--- two pids and a file number fit for each of so many acts
+-- two pids and a file number fit for each of this many acts
 pub record HasRoom (memory : Memory) (acts : ℕ) : Type 0 where
   pub pids : acts + acts ≤ memory.pid_spare
   pub files : acts ≤ memory.file_spare
@@ -142,12 +142,12 @@ abbrev pub is_address : Option (List ℕ) → List ℕ → Bool
 is_address None bytes = false
 is_address (Some address) bytes = pointwise nat_eq address bytes
 
--- socket s gets another address, where one socket has a new one
+-- socket s gets another address, if one socket has a new one
 abbrev pub changes_address : (ℕ → Option (List ℕ)) → Option NewAddress → ℕ → Bool
 changes_address addresses None s = false
 changes_address addresses (Some new) s = s == new.socket && not (is_address (addresses new.socket) new.bytes)
 
--- if anything is remembered, there is room for so many acts and for one address
+-- if anything is remembered, there is room for this many acts and for one address
 abbrev pub HasRoomFor : Option Memory → ℕ → Type 0
 HasRoomFor None acts = ⊤
 HasRoomFor (Some memory) acts = HasRoom memory acts × (1 ≤ memory.socket_spare)

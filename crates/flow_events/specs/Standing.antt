@@ -1,4 +1,4 @@
--- What the tables stand for, and what a plan does to them. Every list of acts has the newest first.
+-- What the tables stand for, and what a plan does to them. Every list of acts is ordered newest first.
 use Rattle.std.specs.Prelude.{◌≡◌, ◌==◌, ◌≤◌, ◌<◌, ◌+◌, ◌-◌, ◌++◌, ◌^◌, ℕ, List, length, reverse, if◌then◌else◌, Option, None, Some}
 use Rattle.acts.specs.declared.act.Taken.{Taken}
 use Rattle.acts.specs.Holding.{holds, address_of}
@@ -19,7 +19,7 @@ use Rattle.flow_events.specs.Since.{HasRoomFor, HasTouched, RemembersTheSame}
 use Rattle.flow_events.specs.Entering.{Covers, SameNames, SavedAlike, entered, pairs_of}
 use Rattle.reach_rows.specs.Kept.{GoOn, known_after}
 
--- the tables say what these acts say, where an address has this text
+-- the tables say what these acts say, if an address has this text
 pub record StandsFor (address_text : List ℕ → List ℕ) (tables : Tables) (taken : List Taken) : Type 0 where
   pub lives_are : LivesAs tables.procs (acts_of taken)
   pub held_are : HoldsAs tables.fds (acts_of taken)
@@ -38,7 +38,7 @@ pub record AreSafe (tables : Tables) : Type 0 where
   pub limit_is : tables.limits.entities ≡ tables.entities.limit
   pub objects_fit : length tables.entities.keys ≤ tables.entities.limit
 
--- the address of socket s, where one socket has a new one
+-- the address of socket s, if one socket has a new one
 abbrev pub readdressed : Option NewAddress → (ℕ → Option (List ℕ)) → ℕ → Option (List ℕ)
 readdressed None addresses s = addresses s
 readdressed (Some new) addresses s = if s == new.socket then Some new.bytes else addresses s
@@ -106,7 +106,7 @@ pub record PlanFlows (tables : Tables) (ms : ℕ) (plan : Plan) : Type 0 where
   pub known_are : known_after (length tables.entities.keys) plan.flows ≡ length (entered tables.entities.keys plan.keys)
   pub stand : StandFrom ms tables.flows plan.flows
 
--- the plan's acts, flows and keys are counted in, and the mark is where it was
+-- the plan's acts, flows and keys are counted in, and the mark is if it was
 pub record HasGrown (old new : Tables) (plan : Plan) : Type 0 where
   pub acts : new.acts ≡ old.acts + length plan.acts
   pub flows : new.flows ≡ old.flows + length plan.flows

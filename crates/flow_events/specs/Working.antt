@@ -1,4 +1,4 @@
--- What is worked out of a whole event. Every list of acts has the newest first.
+-- What is worked out of a whole event. Every list of acts is ordered newest first.
 use Rattle.std.specs.Prelude.{◌+◌, ◌≡◌, ◌<◌, ◌-◌, ◌++◌, ◌^◌, ℕ, Option, List, [], ◌∷◌, length}
 use Rattle.flow_base.specs.declared.limits.Full.{Full}
 use Rattle.acts.specs.declared.act.Act.TheVariants.{See}
@@ -53,14 +53,14 @@ taken_at ground act = record { act = act; ms = ground.ms; serial = ground.serial
 pub record IsRefused (ground : Ground) (full : Full) (before now : List Taken) : Type 0 where
   pub past : IsPast ground.most full (objects (acts_of now ++ acts_of before))
 
--- the event was begun by this act, after so many acts, and so many more are few
+-- the event was begun by this act, after this many acts, and this many more are few
 pub record IsBegun (ground : Ground) (begun : Begun) (before : List Taken) (first : Taken) (acts more : ℕ) : Type 0 where
   pub way : UnderWay ground begun.acting begun.draft before (first ∷ [])
   pub lives_few : LivesBelow ground.procs.now (2 ^ 64 - 1)
   pub acts_are : acts ≡ length before
   pub few : length before + (more + 2) < 2 ^ 63 - 1
 
--- after so many acts, so many more are few
+-- after this many acts, this many more are few
 pub record IsFew (ground : Ground) (before : List Taken) (acts more : ℕ) : Type 0 where
   pub grounded : Grounded ground before
   pub acts_are : acts ≡ length before

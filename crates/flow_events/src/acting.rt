@@ -1,7 +1,7 @@
 //! What an event that is under way asks the tables.
 //!
 //! An event sees its process, has births and moves, and then at most one act of another kind. So after its first act
-//! the process is in one life, and holds what one process holds in the tables: itself, or its parent where the see
+//! the process is in one life, and holds what one process holds in the tables: itself, or its parent if the see
 //! linked them.
 //!
 //! The numbers of lives and births that acts leave aren't at their end, but a store might say such ones. They stay there.
@@ -61,7 +61,7 @@ pub fn see_acting(procs: &Procs, pid: u32, ppid: u32) -> Acting
     }
 }
 
-/// The link of the see: from its parent, where it begins a life while another pid, the parent, is live.
+/// The link of the see: from its parent, if the see begins a life and the parent is another pid and live.
 pub fn see_link(procs: &Procs, pid: u32, ppid: u32) -> Option<Link>
     ensures link { LivesBelow procs.now (2 ^ 64 - 1) → (before : List Act) (exe : Option (List ℕ)) → StandsFor procs.now before → result ≡ link_of before (act.See pid ppid exe) }
     ensures ends { HasTwoEnds result }

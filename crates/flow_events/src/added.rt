@@ -45,7 +45,7 @@ impl Added {
     }
 
     #[tactic(auto, using(crate::proofs::Numbering::known_number, crate::proofs::Numbering::new_number, crate::proofs::Numbering::known_stays, crate::proofs::Numbering::new_comes, crate::proofs::Numbering::still_fits, crate::proofs::Numbering::still_new))]
-    // The number of a key, which is the next one where the key is new.
+    // The number of a key: the next number, if the key is new.
     fn number(&mut self, entities: &Entities, most: u32, key: Key) -> Result<EntityId, PrepareFault>
         requires limit { most ≡ entities.now.limit }
         requires fits { length (entities.now.keys ++ self.old.keys) ≤ most }
@@ -81,7 +81,7 @@ impl Added {
         self.flows.as_slice().len() as u64
     }
 
-    /// Adds the flow of a link, and its ends where they are new.
+    /// Adds the flow of a link, and those of its ends that are new.
     pub fn link(
         &mut self,
         entities: &Entities,
@@ -114,7 +114,7 @@ impl Added {
         Ok(())
     }
 
-    /// The objects, the newest first, and the flows.
+    /// The objects, newest first, and the flows.
     pub fn apart(self, alloc: Global) -> Result<(List<Key>, List<Flow>), NoMemory>
         ensures keys { IfOk result (λ parts. parts.0 ≡ reverse self.keys) }
         ensures flows { IfOk result (λ parts. parts.1 ≡ self.flows) }

@@ -120,7 +120,7 @@ pub fn births_in(acts: &[Act]) -> usize
     births
 }
 
-/// What an act does to births, with room where it is one. It takes no memory.
+/// What an act does to births. If it is a birth, there must be room for it. It takes no memory.
 pub fn bear(births: &mut Births, act: &Act)
     requires room { births_of act.now ≤ births.old.spare }
     ensures next { BornBelow births.old (2 ^ 64 - 1) → (acts : List Act) → BornAs births.old acts → BornAs births.new (act.now ∷ acts) }

@@ -32,7 +32,7 @@ use flow_base::{Bytes, List, NoMemory, Stamp};
 use proc_table::Procs;
 use std::alloc::Global;
 
-/// Puts a name last, where there is one.
+/// Appends a name, if there is one.
 pub fn put_name(given: &mut List<Given>, name: Option<Given>) -> Result<(), NoMemory>
     ensures { OnOk result (map pair_of given.new ≡ map pair_of given.old ++ pair_if name) }
 {
@@ -42,7 +42,7 @@ pub fn put_name(given: &mut List<Given>, name: Option<Given>) -> Result<(), NoMe
     Ok(())
 }
 
-/// Adds the flow of a link, where there is one.
+/// Adds the flow of a link, if there is one.
 pub fn add_link(
     added: &mut Added,
     entities: &Entities,
@@ -94,7 +94,7 @@ pub struct Ground<'a> {
 }
 
 impl Draft {
-    /// Nothing yet, with room for so many births.
+    /// Nothing yet, with room for this many births.
     pub fn start(alloc: Global, more: usize) -> Result<Draft, NoMemory>
         ensures births { IfOk result (λ draft. BornAs draft.births []) }
         ensures room { IfOk result (λ draft. more ≤ draft.births.spare) }

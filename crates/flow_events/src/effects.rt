@@ -128,7 +128,7 @@ fn socket_at(fds: &Fds, acting: &Acting, fd: u32) -> Option<u64>
     }
 }
 
-/// Where no socket is held, an address puts a new one there.
+/// If no socket is held at a descriptor, an address puts a new socket there.
 pub fn address_change(fds: &Fds, acting: &Acting, fd: u32, number: u64) -> Change
     ensures { (procs : Table) (acts : List Act) (bytes : List ℕ) → IsActing procs fds.now acting.now acts → number ≡ length acts → DoesAs result acts (act.Address acting.now.pid fd bytes) }
 {
@@ -207,7 +207,7 @@ fn stated<'a>(
     }
 }
 
-// The address of a listener, where it is a socket that has one.
+// The address of a listener, if it is a socket with an address.
 fn heard<'a>(fds: &'a Fds, acting: &Acting, listener: u32) -> Option<&'a Bytes>
     ensures { (procs : Table) (acts : List Act) → IsActing procs fds.now acting.now acts → option_copied result ≡ address_through (address_of acts) (socket_held (holds acts acting.now.pid listener)) }
 {
@@ -229,7 +229,7 @@ pub fn address_name(alloc: Global, bytes: &Bytes) -> Result<Given, NoMemory>
     })
 }
 
-/// A file is named by its path, where it has one.
+/// A file is named by its path, if it has one.
 pub fn file_name(
     alloc: Global,
     births: &Births,
@@ -247,7 +247,7 @@ pub fn file_name(
     }
 }
 
-/// A file that is born is named by its path, where it has one, and its birth counts.
+/// A file that is born is named by its path, if it has one, and its birth counts.
 pub fn birth_name(
     alloc: Global,
     births: &Births,
@@ -265,7 +265,7 @@ pub fn birth_name(
     }
 }
 
-/// A process is named by its program, where it is known.
+/// A process is named by its program, if that is known.
 pub fn see_name(acting: &Acting, exe: &Option<Bytes>) -> Result<Option<Given>, NoMemory>
     ensures { IfOk result (λ given. pair_if given ≡ name_if (key.Process acting.now.pid acting.now.life) exe.now) }
 {

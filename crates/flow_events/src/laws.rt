@@ -17,7 +17,7 @@ pub fn calm_acts_leave_the_process()
 {}
 
 #[tactic(auto, using(crate::proofs::CalmActs::seen_acting))]
-/// After a see the process is as the tables and the see tell.
+/// After a see the process is as the tables and the see say.
 pub fn a_see_starts_the_process()
     ensures { (procs : Lives) (fds : Descriptors) (acting : Acting) (acts : List Act) (ppid : ℕ) (exe : Option (List ℕ)) → StandsFor procs acts → HoldsAs fds acts → AddressesAs fds acts → life_of (act.See acting.pid ppid exe ∷ acts) acting.pid ≡ acting.life → ((n : ℕ) → holds (act.See acting.pid ppid exe ∷ acts) acting.pid n ≡ holds acts acting.holder n) → IsActing procs fds acting (act.See acting.pid ppid exe ∷ acts) }
 {}

@@ -14,7 +14,7 @@ use crate::given::Given;
 use entity_names::Entities;
 use flow_base::{Bytes, Key, NoMemory, equal_keys_are_one};
 
-/// The program of a process as its name, where it is known and the process doesn't have that name.
+/// The program of a process as its name, if it is known and the process doesn't have that name.
 pub fn new_exe(
     entities: &Entities,
     acting: &Acting,
@@ -28,7 +28,7 @@ pub fn new_exe(
     see_name(acting, exe)
 }
 
-/// A name, where its key doesn't have it.
+/// A name, if its key doesn't have it.
 pub fn if_new(entities: &Entities, name: Option<Given>) -> Option<Given>
     ensures { NameAlike entities.now (pair_if name) (pair_if result) }
 {

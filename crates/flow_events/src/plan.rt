@@ -30,9 +30,9 @@ pub struct Plan {
     /// What the last act does to descriptors.
     pub last: Change,
     pub address: Option<NewAddress>,
-    /// The names that the acts give to keys which don't have them yet, the newest first.
+    /// The names that the acts give to keys which don't have them yet, newest first.
     pub given: List<Given>,
-    /// The objects that are new, the newest first.
+    /// The objects that are new, newest first.
     pub keys: List<Key>,
     pub flows: List<Flow>,
     pub unmapped: bool,
@@ -94,7 +94,7 @@ impl Plan {
     }
 }
 
-/// Gives a socket its new address, where there is one. It takes no memory.
+/// Gives a socket its new address, if there is one. It takes no memory.
 pub fn readdress(fds: &mut Fds, address: Option<NewAddress>)
     requires room { addresses_in address ≤ fds.old.address_spare }
     ensures addresses { (s : ℕ) → address_at fds.new s ≡ readdressed address (address_at fds.old) s }

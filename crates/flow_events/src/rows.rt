@@ -26,14 +26,14 @@ use row_codec::StoreRow;
 use std::alloc::Global;
 use std::collections::BTreeMap;
 
-/// The rows of objects, which stand before the rows of flows in a batch, and the other rows, which stand behind them.
+/// The rows of objects, which stand before the rows of flows in a batch, and the other rows, which stand after them.
 #[derive(Drop)]
 pub struct TableRows {
     pub entities: List<StoreRow>,
     pub others: List<StoreRow>,
 }
 
-/// How many rows there is room for behind those of tables: what waits, and the State.
+/// How many rows there is room for after those of tables: what waits, and the State.
 const BEHIND: usize = 64;
 
 // No rows, and room for this many. A list that grows by and by is copied again and again.
@@ -218,7 +218,7 @@ fn put_lost(
     Ok(())
 }
 
-/// Those of these descriptors whose pid is live, with nothing.
+/// The descriptors among these whose pid is live, holding nothing.
 fn lost_of(
     alloc: Global,
     slots: &[(u32, u32)],

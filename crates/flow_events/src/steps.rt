@@ -1,4 +1,4 @@
-//! What an act of an event does, of whatever kind it is, but for the see that comes first.
+//! What an act of an event does, of whatever kind it is, except the see that comes first.
 ghost use Rattle.std.specs.Prelude.{◌≡◌, ◌++◌, ◌∷◌, ◌^◌, ◌-◌, ℕ, List, IfOk, length};
 ghost use Rattle.acts.specs.declared.act.Act.{Act};
 ghost use Rattle.acts.specs.Holding.{address_of};

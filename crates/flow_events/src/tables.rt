@@ -46,7 +46,7 @@ use row_codec::StoreRow;
 use std::alloc::Global;
 
 // Whether an event with these acts has a call that is not in the table. One that does has its see alone, so the call
-// is looked up only where there is no second act.
+// is looked up only if there is no second act.
 fn is_lone_unmapped(event: &EventView<'_>, acts: &[Act]) -> bool
     requires acts { (limit : ℕ) × (acts.now ≡ event_acts limit event.now.records.now) }
     ensures { result ≡ is_unmapped event.now.records.now }
@@ -319,7 +319,7 @@ impl Tables {
         Ok(())
     }
 
-    /// Does what was planned, and gives its flows. It takes no memory.
+    /// Does what was planned, and returns its flows. It takes no memory.
     pub fn apply(&mut self, plan: Plan) -> List<Flow>
         requires ready { IsReady self.old plan }
         requires safe { AreSafe self.old }

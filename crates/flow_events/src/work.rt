@@ -41,7 +41,7 @@ pub struct Begun {
     pub draft: Draft,
 }
 
-/// Begins an event by its see, with room for so many births.
+/// Begins an event by its see, with room for this many births.
 pub fn begin(
     ground: &Ground<'_>,
     pid: u32,
@@ -153,7 +153,7 @@ pub fn work_out(
     }
 }
 
-/// Works out an event by its acts, the oldest first, where so many acts came before it.
+/// Works out an event by its acts, oldest first, after this many earlier acts.
 pub fn work_event(ground: &Ground<'_>, number: u64, acts: &[Act]) -> Result<Worked, PrepareFault>
     requires few { number + (length acts.now + 2) < 2 ^ 64 }
     requires limit { ground.now.most ≡ ground.now.entities.now.limit }

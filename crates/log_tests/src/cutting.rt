@@ -4,7 +4,7 @@ use flow_base::{Bytes, List, NoMemory};
 use std::alloc::Global;
 use std::test::Fail;
 
-// Puts the lines of a piece behind those that were given.
+// Appends the lines of a piece to those that were given.
 fn take_piece(cut: &mut LineCut, piece: &[u8], lines: &mut List<Line>) -> Result<(), NoMemory> {
     let mut rest = piece;
     for _ in 0..piece.len() {

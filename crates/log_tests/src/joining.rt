@@ -62,7 +62,7 @@ fn told(event: Option<Event>) -> Option<(u64, u32, u64, bool, usize)> {
     }
 }
 
-/// The same of an event that is lent.
+/// The same of an event that is borrowed.
 fn lent(view: Option<EventView<'_>>) -> Option<(u64, u32, u64, bool, usize)> {
     match view {
         Some(view) => Some((
@@ -230,7 +230,7 @@ fn too_much_text_releases_the_least(rt: HostRuntime) -> Result<(), Fail> {
     give(&mut join, lined(alloc, 1, b"seven..".as_slice())?)?;
     give(&mut join, lined(alloc, 2, b"eight...".as_slice())?)?;
     give(&mut join, lined(alloc, 1, b"five.".as_slice())?)?;
-    // 20 bytes are as many as may wait.
+    // At most 20 bytes may wait.
     assert!(rt; !join.ripe());
     give(&mut join, lined(alloc, 2, b"!".as_slice())?)?;
     assert_eq!(rt; told(join.next()), Some((5000, 1, 5000, false, 2)));

@@ -152,7 +152,7 @@ fn texts_are_quoted_or_in_hex_or_absent(rt: HostRuntime) -> Result<(), Fail> {
         (b"cwd=\"/a\"b".as_slice(), bad),
         (b"cwd=\"/a\"\r".as_slice(), bad),
         (b"cwd=(null)x".as_slice(), bad),
-        // what stands behind the byte 0x1D isn't read, also within quotes
+        // what stands after the byte 0x1D isn't read, also within quotes
         (b"cwd=\"/a\"\x1dcwd=x".as_slice(), Verdict::Used),
         (b"cwd=\"/a\x1d\"".as_slice(), bad),
         (b"\x1dcwd=\"/a\"".as_slice(), missing),
@@ -424,7 +424,7 @@ fn the_readers_give_the_numbers_that_are_spelled(rt: HostRuntime) {
     assert_eq!(rt; quoted(b"\"/a b\"".as_slice()), Some(b"/a b".as_slice()));
 }
 
-// Counts a line that may have a hundred bytes, where three malformed ones are listed.
+// Counts a line, which may have a hundred bytes; three malformed lines are listed.
 fn count_line(tally: &mut Tally, number: u64, line: &[u8]) -> Result<(), NoMemory> {
     let most = tally
         .used
@@ -561,7 +561,7 @@ fn the_first_token_of_a_name_counts(rt: HostRuntime) {
             b"type=SYSCALL msg=audit(1.000:1): arch=1 syscall=1 a0=0 a1=0 a2=0 a3=0x0 ppid=1 pid=7".as_slice(),
             None,
         ),
-        // a node, and what a collector adds behind the mark
+        // a node, and what a collector adds after the mark
         (
             b"node=web1 type=SYSCALL msg=audit(1.000:1): arch=1 syscall=1 a0=0 a1=0 a2=0 a3=0 ppid=1 pid=7".as_slice(),
             Some(b"7".as_slice()),

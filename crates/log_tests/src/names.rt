@@ -39,7 +39,7 @@ fn names_are_joined_with_the_directory_of_their_call(rt: HostRuntime) -> Result<
 fn addresses_have_the_key_and_text_of_their_family(rt: HostRuntime) -> Result<(), Fail> {
     let alloc = rt.alloc();
     let rows = [
-        // Family 2: the first 8 bytes, or all where there are fewer.
+        // Family 2: the first 8 bytes, or all if there are fewer.
         (
             "020001BBC00002010000000000000000",
             "020001bbc0000201",
@@ -62,7 +62,7 @@ fn addresses_have_the_key_and_text_of_their_family(rt: HostRuntime) -> Result<()
         ("01002F72756E2F7800FF00", "01002f72756e2f78", "unix:/run/x"),
         ("01002F72756E", "01002f72756e", "unix:/run"),
         ("01000061620000", "01000061620000", "unix:@ab\0\0"),
-        // Other families, and what is too short to tell one.
+        // Other families, and what is too short to name a family.
         ("0000000000", "0000000000", "family:0000000000"),
         ("10000000AB", "10000000ab", "family:10000000ab"),
         ("0002AB", "0002ab", "family:0002ab"),

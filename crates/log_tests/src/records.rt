@@ -6,7 +6,7 @@ use flow_base::{Bytes, Device, FileId, NoMemory};
 use std::alloc::Global;
 use std::test::Fail;
 
-/// The record of a line, where it is a used one.
+/// The record of a line, if the line is a used one.
 fn record_of(alloc: Global, line: &[u8]) -> Result<Option<Record>, NoMemory> {
     match lex(line, 65_536) {
         Lexed::Used(used) => {
@@ -52,7 +52,7 @@ fn calls_are_read(rt: HostRuntime) -> Result<(), Fail> {
         pid: 100,
         exe: text(alloc, b"/bin/a b".as_slice())?,
     };
-    // The node isn't kept, nor what stands behind the byte 0x1D.
+    // The node isn't kept, nor what stands after the byte 0x1D.
     let line =
         b"node=web1 type=SYSCALL msg=audit(1364481363.243:24287): arch=c000003e syscall=57 success=yes exit=101 a0=0 a1=ff a2=7FFD a3=0 items=0 ppid=1 pid=100 exe=\"/bin/a b\" key=(null)\x1dARCH=x86_64 pid=9".as_slice();
     assert!(rt; spells(alloc, line, Body::Syscall(fork))?);
@@ -109,7 +109,7 @@ fn paths_are_read(rt: HostRuntime) -> Result<(), Fail> {
     let line =
         b"type=PATH msg=audit(1364481363.243:24287) : item=0 name=2F746D70 inode=409248 dev=fd:01 mode=0100600 nametype=CREATE objtype=NORMAL".as_slice();
     assert!(rt; spells(alloc, line, Body::Path(made))?);
-    // An inode without a device is no file; where `nametype` isn't there `objtype` counts.
+    // An inode without a device is no file; without `nametype`, `objtype` counts.
     let parent = PathItem {
         item: 1,
         name: None,

@@ -112,7 +112,7 @@ static CASES: [Case; 9] = [
         &[Process(100, 0), Inode(7, 1)],
         &[(0, 0, 1, Make), (2, 0, 1, Write), (4, 0, 1, Write)],
     ),
-    // A copy of a descriptor that nobody opened holds that one.
+    // A copy of a descriptor that nobody opened holds that descriptor.
     (
         &[
             (100, 1, 32, 6, [5, 0, 0], &[]),
@@ -133,7 +133,7 @@ static CASES: [Case; 9] = [
         &[Process(100, 0), Process(101, 0), Made(1)],
         &[(1, 0, 1, Fork), (2, 2, 1, Read), (3, 0, 2, Write)],
     ),
-    // A child that is seen after its parent has what that one holds.
+    // A child that is seen after its parent has what the parent holds.
     (
         &[
             (100, 1, 257, 3, [0, 0, 0], &[Path(Normal, 7, "/a")]),
@@ -274,7 +274,7 @@ impl Course {
         }
     }
 
-    // Prepares an event, and applies it where that is not refused.
+    // Prepares an event, and applies it if that isn't refused.
     fn take(&mut self, alloc: Global, event: &EventView<'_>) -> Result<List<Flow>, PrepareFault> {
         event_acts_are_admitted();
         acts_are_few();
@@ -733,7 +733,7 @@ fn life_of(number: u64) -> Life {
     }
 }
 
-// A row of each kind that says something of the tables, but for Entity rows.
+// A row of each kind that says something of the tables, except Entity rows.
 #[test]
 fn tables_are_made_again_of_rows(rt: HostRuntime) -> Result<(), Fail> {
     let alloc = rt.alloc();

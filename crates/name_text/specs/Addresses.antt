@@ -13,13 +13,13 @@ is_zero byte = byte == 0
 abbrev pub family_of : ℕ → Family
 family_of number = if number == 1 then family.Unix else if number == 2 then family.Internet else if number == 10 then family.Internet6 else family.Other
 
--- the family that the first two bytes tell, the low byte first; fewer bytes tell none
+-- the family that the first two bytes name, low byte first; fewer bytes name none
 abbrev pub family_in : List ℕ → Family
 family_in [] = family.Other
 family_in (low ∷ []) = family.Other
 family_in (low ∷ high ∷ rest) = family_of (low + 256 * high)
 
--- what stands behind the family
+-- what stands after the family
 abbrev pub behind_family : List ℕ → List ℕ
 behind_family saddr = drop 2 saddr
 
@@ -42,7 +42,7 @@ key_by family.Internet6 saddr = Some (if nat_le 24 (length saddr) then take 4 sa
 key_by family.Unix saddr = unix_key saddr
 key_by family.Other saddr = Some saddr
 
--- the key of an address, where the bytes hold one
+-- the key of an address, if the bytes hold one
 abbrev pub key_of : List ℕ → Option (List ℕ)
 key_of saddr = key_by (family_in saddr) saddr
 

@@ -6,7 +6,7 @@ use Rattle.flow_base.specs.declared.types.Key.{Key}
 use Rattle.flow_base.specs.declared.types.Key.TheVariants as key
 use Rattle.name_text.specs.Addresses as addresses
 
--- a number in lower-case hex, with a zero in front where that is one digit
+-- a number in lower-case hex, with a leading zero if it is one digit
 abbrev pub half_of : ℕ → List ℕ
 half_of number = replicate (2 - length (digits 16 false number)) 48 ++ digits 16 false number
 

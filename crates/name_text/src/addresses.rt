@@ -1,7 +1,7 @@
 //! Socket addresses: the bytes of one that name the other end, and their text.
 //!
 //!     family       bytes                                      key                        text
-//!     1, unix      family, a path and zeros behind it         up to the path's end       unix:PATH
+//!     1, unix      family, a path and zeros after it          up to the path's end       unix:PATH
 //!     1            family, a zero and an abstract name        all                        unix:@NAME
 //!     2, internet  family, port, 4 of the host, more          the first 8                192.0.2.1:443
 //!     10           family, port, 4 of the flow, 16 of the     the first 24, with zeros   [2001:0db8:..:0001]:443
@@ -9,7 +9,7 @@
 //!     others       family, more                               all                        family:HEX
 //!
 //! The family has its low byte first, the port its high byte. An address of family 2 or 10 with fewer bytes is kept
-//! and told as those of other families are. One of family 1 with nothing but zeros is none: nothing was bound.
+//! and shown as those of other families are. An address of family 1 that is all zeros is none: nothing was bound.
 ghost use Rattle.std.specs.Prelude.{◌≡◌, ◌≤◌, length, drop, take, replicate, IfOk, string_bytes, ◌++◌};
 ghost use Rattle.std.specs.List.{list_all, position_or_len, join_with_byte};
 ghost use Rattle.name_text.specs.Addresses as addresses;
@@ -28,7 +28,7 @@ pub enum Family {
     Other,
 }
 
-/// The bytes of an address that name the other end, or nothing where there is none.
+/// The bytes of an address that name the other end, or nothing if there is none.
 pub fn address_key(alloc: Global, saddr: &[u8]) -> Result<Option<Bytes>, NoMemory>
     ensures { IfOk result (λ key. key ≡ key_of saddr.now) }
 {
@@ -41,7 +41,7 @@ pub fn address_key(alloc: Global, saddr: &[u8]) -> Result<Option<Bytes>, NoMemor
     Ok(Some(key))
 }
 
-// The family that the first two bytes tell.
+// The family that the first two bytes name.
 fn family_in(saddr: &[u8]) -> Family
     ensures { result ≡ addresses.family_in saddr.now }
 {
@@ -97,7 +97,7 @@ fn zero_at(name: &[u8]) -> usize
     }
 }
 
-// The key of an address of family 10, in which the flow tells no two ends apart.
+// The key of an address of family 10, without the flow number, which names no end.
 fn internet6_key(alloc: Global, saddr: &[u8]) -> Result<Bytes, NoMemory>
     requires { 24 ≤ length saddr.now }
     ensures { IfOk result (λ key. key ≡ take 4 saddr.now ++ (replicate 4 0 ++ take 16 (drop 8 saddr.now))) }

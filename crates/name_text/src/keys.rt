@@ -7,7 +7,7 @@
 //!     made ACT
 //!     lost PID LIFE FD
 //!
-//! All other numbers are decimal, without zeros in front.
+//! All other numbers are decimal, without leading zeros.
 ghost use Rattle.std.specs.Prelude.{◌≡◌, ◌++◌, IfOk, string_bytes};
 ghost use Rattle.name_text.specs.KeyTexts as texts;
 ghost use Rattle.name_text.specs.KeyTexts.{text_of};

@@ -8,7 +8,7 @@ pub fn absolute_names_stand_alone()
     ensures { (first second : Option (List ℕ)) (name : List ℕ) (limit : ℕ) → is_absolute name ≡ true → joined first name limit ≡ joined second name limit }
 {}
 
-/// A tidied path has names alone, with `..` before them only where it is relative.
+/// A tidied path has names alone, with `..` before them only if it is relative.
 pub fn tidied_paths_have_names()
     ensures { (path : List ℕ) → (parts : List (List ℕ)) × (tidied path ≡ path_of (is_absolute path) parts) × AreTidy (is_absolute path) parts }
 {}
@@ -18,7 +18,7 @@ pub fn tidied_paths_stay()
     ensures { (path : List ℕ) → tidied (tidied path) ≡ tidied path }
 {}
 
-/// A `..` goes back to where the path was before the name in front of it.
+/// A `..` undoes the name before it.
 pub fn a_way_up_takes_a_name_back()
     ensures { (path name : List ℕ) → path ≢ [] → IsName name → tidied (path ++ 47 ∷ (name ++ codes "/..")) ≡ tidied path }
 {}

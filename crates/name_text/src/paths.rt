@@ -39,7 +39,7 @@ fn tidy(alloc: Global, path: &[u8], limit: usize) -> Result<Bytes, NoMemory>
     cut_path(alloc, parts.as_slice(), absolute, limit)
 }
 
-// The same of a path that is given as what stands before a slash, and what stands behind it.
+// The same of a path that is given as the text before a slash and the text after it.
 fn tidy_behind(alloc: Global, front: &[u8], name: &[u8], limit: usize) -> Result<Bytes, NoMemory>
     ensures { IfOk result (λ made. made ≡ take limit (tidied (front.now ++ 47 ∷ name.now))) }
 {
@@ -64,7 +64,7 @@ fn is_absolute(path: &[u8]) -> bool
     path.first() == Some(&b'/')
 }
 
-// Puts the parts of a text behind the kept ones.
+// Appends the parts of a text to the kept parts.
 fn put_parts<'a>(
     parts: &mut Vec<&'a [u8]>,
     text: &'a [u8],
@@ -78,7 +78,7 @@ fn put_parts<'a>(
     Ok(())
 }
 
-// Puts one part behind the kept ones.
+// Appends one part to the kept parts.
 fn put_part<'a>(parts: &mut Vec<&'a [u8]>, part: &'a [u8], absolute: bool) -> Result<(), AllocError>
     ensures { OnOk result (Gains absolute (map (λ p. p.now) parts.old.items) (map (λ p. p.now) parts.new.items) (part.now ∷ [])) }
 {
@@ -97,7 +97,7 @@ fn is_named(part: &[u8]) -> bool
     !part.is_empty() && part != b".".as_slice()
 }
 
-// Puts a `..` behind the kept parts.
+// Appends a `..` to the kept parts.
 fn put_up<'a>(parts: &mut Vec<&'a [u8]>, up: &'a [u8], absolute: bool) -> Result<(), AllocError>
     requires { paths.is_up up.now ≡ true }
     ensures { OnOk result (Gains absolute (map (λ p. p.now) parts.old.items) (map (λ p. p.now) parts.new.items) (up.now ∷ [])) }

@@ -4,7 +4,7 @@ ghost use Rattle.std.specs.List.{join_with_byte};
 
 use std::alloc::AllocError;
 
-// Puts the pieces behind a text, with the byte between each two.
+// Appends the pieces to a text, with the byte between each two.
 pub fn put_joined(text: &mut Vec<u8>, byte: u8, pieces: &[&[u8]]) -> Result<(), AllocError>
     ensures { OnOk result (text.new.items ≡ text.old.items ++ join_with_byte byte (map (λ p. p.now) pieces.now)) }
 {

@@ -2,7 +2,7 @@
 use Rattle.std.specs.Prelude.{◌≡◌, ◌⊎◌, ℕ, ◌+◌, ◌≤◌, max, List, [], ◌∷◌, ◌++◌, length, take, drop}
 use Rattle.outside.specs.Cause.{Rose}
 
--- A disk at a moment. A disk that doesn't tell its bytes has no image, so no clause claims anything of them.
+-- A disk at a moment. A disk that isn't observable has no image, so no clause claims anything of them.
 pub record DiskState : Type 1 where
   pub told : Type 0  -- the disk tells its bytes
   pub reads : List ℕ  -- the bytes that a read gives now
@@ -40,7 +40,7 @@ Only bytes image = (c : List ℕ) → image c → c ≡ bytes
 abbrev pub IsDurable : DiskState → Type 0
 IsDurable state = Only state.reads state.image
 
--- Calls that use a disk. They don't change whether it tells its bytes, its count of faults doesn't fall, a spent disk stays
+-- Calls that use a disk. They don't change whether it is observable, its count of faults doesn't fall, a spent disk stays
 -- spent, and the count rose if they blame the disk.
 pub record UsesDisk {D : Type 0} (state : D → DiskState) (faults : D → ℕ) (spent : D → Type 0) (old new : D) (blamed : Type 0) : Type 0 where
   pub still_told : (state old).told → (state new).told
@@ -89,6 +89,6 @@ pub record IsDisk (state : DiskState) : Type 0 where
   pub only_now : (c : List ℕ) → state.since state.moment c → state.image c
   pub read_is_image : state.told → state.image state.reads
 
--- a disk that tells nothing
+-- a disk that isn't observable
 abbrev pub silent : DiskState
 silent = record { told = ⊥; reads = []; image = λ _. ⊥; moment = 0; since = λ _ _. ⊥ }

@@ -2,7 +2,7 @@
 //!
 //! It keeps a record of its writes and syncs. What it reads as is what these make of the bytes that it
 //! began with, and what a crash may leave at each moment follows from the record by the model of
-//! `Disk`. A call that fails changes nothing. If there is no memory for a growth, that is a fault of
+//! `Disk`. A call that fails changes nothing. If allocation fails as it grows, that is a fault of
 //! the disk.
 ghost use Rattle.std.specs.Prelude.{◌≡◌, ◌≤◌, ◌<◌, ◌+◌, ◌-◌, ◌^◌, ◌↔◌, ◌∷◌, [], take, drop, length, min, IsErr, OnOk, OnErr, IfOk};
 ghost use Rattle.std.specs.List.{Contains};
@@ -69,7 +69,7 @@ fn put_over(alloc: Global, old: &[u8], at: usize, bytes: &[u8]) -> Result<Bytes,
     Ok(made)
 }
 
-// Copies the bytes from a place on into the buffer, as many as it holds, and says how many.
+// Copies the bytes from a place on into the buffer, as many as fit, and says how many.
 fn read_from(bytes: &[u8], at: u64, buf: &mut [u8]) -> usize
     ensures bound { result ≤ length buf.new }
     ensures bytes { take result buf.new ≡ take result (drop at bytes.now) }

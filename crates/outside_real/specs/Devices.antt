@@ -27,7 +27,7 @@ pub record Storing (M : Type 0) : Type 0 where
   pub inner : Option M
   pub faults : ℕ
 
--- what a medium is at a moment, and without one a disk that tells nothing
+-- what a medium is at a moment, and without one a disk that isn't observable
 abbrev pub state_in : {M : Type 0} → (M → DiskState) → Option M → DiskState
 state_in state None = silent
 state_in state (Some medium) = state medium

@@ -1,7 +1,7 @@
 //! What the bytes of a disk stand on: a file, or in a test what stands in for one.
 //!
-//! Nothing is known of the bytes of a file. A stand-in may tell its bytes, and then the disk over it
-//! gives exactly those.
+//! Nothing is known of the bytes of a file. If the bytes of a stand-in are known, the disk over it gives
+//! exactly those.
 ghost use Rattle.std.specs.Prelude.{◌≡◌, ◌≤◌, ◌<◌, ◌↔◌, take, drop, length, IfOk, OnOk, OnErr};
 ghost use Rattle.std.specs.Io.{ReadsAtMost};
 ghost use Rattle.outside.specs.Disk.{DiskState, IsDisk, put_at, MayBecome, Follows, IsDurable, Elapses, OnlyLooks, silent};

@@ -8,7 +8,7 @@ use outside::Failed;
 use std::io;
 use std::io::{ErrorKind, Read, Write};
 
-/// How often a call is tried while signals interrupt it. After as many tries it has failed.
+/// How often a call is tried while signals interrupt it. After this many tries it has failed.
 pub const TRIES: u32 = 1_000;
 
 /// Whether a signal interrupted the call, so that it did nothing.

@@ -9,7 +9,7 @@ use Rattle.reach_model.specs.declared.modes.Verdict.TheVariants.{Drop, Add, Exte
 use Rattle.reach_model.specs.Flows.{source, target, place}
 use Rattle.reach_model.specs.Rows.{Row, SamePair, IsVerdict, firsts}
 
--- Continuous: f carries on from r where it has r's pair, and no row of that pair, into f's source or out of its target ends after r
+-- Continuous: f carries on from r if it has r's pair, and no row of that pair, into f's source or out of its target ends after r
 pub record CarriesOnRow (R : List Row) (r : Row) (f : Flow) : Type 0 where
   pub pair : SamePair r.last f
   pub nothing_after : (s : Row) → Contains R s → place r.last < place s.last → (target s.last ≢ source f) × (source s.last ≢ target f)

@@ -14,7 +14,7 @@ pub record AnswersAll (F : List Flow) (R : List Row) : Type 0 where
   pub back : (v : ℕ) (until : Option ℕ) (u : ℕ) → Back (firsts R) v until u ↔ Back F v until u
   pub fore : (u : ℕ) (since : Option ℕ) (v : ℕ) → Fore (lasts R) u since v ↔ Fore F u since v
 
--- backward always, forward where the start is no later than the object's first flow
+-- backward always, forward if the start is no later than the object's first flow
 pub record AnswersFromFirst (F : List Flow) (R : List Row) : Type 0 where
   pub back : (v : ℕ) (until : Option ℕ) (u : ℕ) → Back (firsts R) v until u ↔ Back F v until u
   pub fore : (u : ℕ) (since : Option ℕ) → IsStartAllowed F u since → (v : ℕ) → Fore (lasts R) u since v ↔ Fore F u since v

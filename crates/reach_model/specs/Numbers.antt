@@ -18,7 +18,7 @@ pub record IsNumbered (F : List Flow) : Type 0 where
   pub sources : (k : ℕ) (d : Flow) → k < length F → source (slice_index_or F k d) ≤ known (take k F)
   pub targets : (k : ℕ) (d : Flow) → k < length F → target (slice_index_or F k d) ≤ max (known (take k F)) (suc (source (slice_index_or F k d)))
 
--- a lawful list of flows between so many objects, which are numbered by first appearance
+-- a lawful list of flows between this many objects, which are numbered by first appearance
 pub record IsLawfulWith (count : ℕ) (F : List Flow) : Type 0 where
   pub lawful : IsLawful F
   pub numbered : IsNumbered F

@@ -4,7 +4,7 @@ use Rattle.std.specs.List.{Contains}
 use Rattle.flow_base.specs.declared.types.Flow.{Flow}
 use Rattle.reach_model.specs.Flows.{source, target, time, place}
 
--- The empty list is a path from u to u. A flow and then a list is a path from u to v where the flow is allowed and leaves u,
+-- The empty list is a path from u to u. A flow and then a list is a path from u to v if the flow is allowed and leaves u,
 -- and the list is a path from its target to v by later flows. All places are n or above.
 abbrev pub Path : (Flow → Type 0) → ℕ → ℕ → ℕ → List Flow → Type 0
 Path S n u v [] = u ≡ v

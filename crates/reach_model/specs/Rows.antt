@@ -47,7 +47,7 @@ abbrev pub IsSourceOf : List Flow → Flow → ℕ → ℕ → Type 0
 IsSourceOf F f v x = IsSource (F ++ f ∷ []) x × Reaches (Contains F) 0 x v
 
 -- The verdict of a mode on f after the flows F, of which it kept R. Plain adds every flow. Continuous extends the row whose
--- last flow f carries on from, and else adds. Full drops f where it is linked. Source drops f where each source of its
+-- last flow f carries on from, and else adds. Full drops f if it is linked. Source drops f if each source of its
 -- source is one of its target already.
 abbrev pub IsVerdict : Mode → List Flow → List Row → Flow → Verdict → Type 0
 IsVerdict Plain F R f Drop = ⊥

@@ -16,7 +16,7 @@ first_at (f ∷ F) x = cond (touches f x) (Some f) (first_at F x)
 abbrev pub IsSource : List Flow → ℕ → Type 0
 IsSource F x = (f : Flow) × (first_at F x ≡ Some f) × (source f ≡ x)
 
--- a start is allowed by a first flow where it is no later than that flow
+-- a start is allowed by a first flow if it is no later than that flow
 abbrev pub StartsBy : Option Flow → ℕ → Type 0
 StartsBy None s = ⊤
 StartsBy (Some f) s = s ≤ time f

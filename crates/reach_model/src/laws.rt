@@ -66,7 +66,7 @@ pub fn sources_follow_from_earlier_ones()
     ensures asked { (K : List Flow) (f : Flow) → IsLater K f → source f ≢ target f → (v x : ℕ) → IsSourceOf K f v x ↔ (HasSource K v x ⊎ (MakesSource K f x × (v ≡ source f))) }
 {}
 
-/// A flow leaves the current version of its source exactly where no flow into that source comes after it.
+/// A flow leaves the current version of its source exactly if no flow into that source comes after it.
 pub fn inflows_open_versions()
     ensures { (K : List Flow) (x i j : ℕ) (d : Flow) → i < j → j ≤ length K → source (slice_index_or K i d) ≡ x → target (slice_index_or K i d) ≢ x
         → (version (take i K) x ≡ version (take j K) x) ↔ ((k : ℕ) → i < k → k < j → target (slice_index_or K k d) ≢ x) }

@@ -6,7 +6,7 @@ ghost use Rattle.flow_base.specs.declared.types.Flow.{Flow};
 ghost use Rattle.reach_model.specs.Ids.{IsAscending, numbers};
 ghost use Rattle.reach_model.specs.Numbers.{IsLawfulWith, MayFollow, beyond, known};
 
-/// No flows are lawful, and lawful flows stay lawful exactly where the next one may follow them.
+/// The empty list of flows is lawful, and lawful flows stay lawful exactly if the next flow may follow them.
 pub fn lawful_flows_grow()
     ensures none { IsLawfulWith 0 [] }
     ensures next { (count : ℕ) (F : List Flow) (f : Flow) → IsLawfulWith count F → MayFollow F f → IsLawfulWith (max count (beyond f)) (F ++ f ∷ []) }

@@ -5,12 +5,12 @@
 pub enum Mode {
     /// Each flow is a row.
     Plain,
-    /// Flows between the same two objects share a row where no flow into their source and none out of their target
+    /// Flows between the same two objects share a row if no flow into their source and none out of their target
     /// comes between them.
     Continuous,
-    /// A flow is dropped where one between its two objects was kept, and none into its source since.
+    /// A flow is dropped if a flow between its two objects was kept, and since then no flow into its source.
     Full,
-    /// A flow is dropped where each source that reaches its source reaches its target already.
+    /// A flow is dropped if each source that reaches its source reaches its target already.
     Source,
 }
 

@@ -78,7 +78,7 @@ pub record Holds (c : Continuous) (R : List Row) : Type 0 where
   pub count : c.count ≡ length R
   pub runs : HasRuns c R
 
--- room for so many more flows
+-- room for this many more flows
 abbrev pub HasRoom : Continuous → ℕ → Type 0
 HasRoom c n = (n ≤ index.spare c.runs) × (n ≤ index.spare c.into) × (n ≤ index.spare c.out)
 

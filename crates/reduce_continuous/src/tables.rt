@@ -38,7 +38,7 @@ impl Continuous {
         }
     }
 
-    /// Makes room for so many more flows.
+    /// Makes room for this many more flows.
     fn grow(&mut self, more: usize) -> Result<(), NoMemory>
         ensures room { OnOk result (HasRoom self.new more) }
         ensures same { (self.new.count ≡ self.old.count) × IsUnchanged self.old.runs self.new.runs × IsUnchanged self.old.into self.new.into × IsUnchanged self.old.out self.new.out }

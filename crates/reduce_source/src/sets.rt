@@ -85,7 +85,7 @@ impl SourceSets {
         Ok(sources)
     }
 
-    /// Whether each source of one object is one of another.
+    /// Whether each source of one object is a source of another.
     pub fn covers(&self, large: EntityId, small: EntityId) -> bool
         ensures yes { (K : List AFlow) → StandsFor self.now K → result ≡ true → (x : ℕ)
             → HasSource K small.0 x → HasSource K large.0 x }
@@ -111,9 +111,9 @@ impl SourceSets {
         Ok(())
     }
 
-    /// Takes in a kept flow between two objects, in the room that was made for it: the one that it
-    /// leaves is a source if it has no flow yet, and its sources become sources of the one that it
-    /// enters.
+    /// Takes in a kept flow between two objects, in the room that was made for it. The object that the
+    /// flow leaves is a source if it has no flow yet, and its sources become sources of the object that
+    /// the flow enters.
     pub fn union(&mut self, into: EntityId, with: EntityId)
         requires room { (f : AFlow) × IsBetween f with.0 into.0 × HasRoom self.old (f ∷ []) }
         ensures next { (K : List AFlow) (f : AFlow) → IsBetween f with.0 into.0 → with.0 ≢ into.0

@@ -27,7 +27,7 @@ pub fn standing_of(standings: &[Standing], object: usize) -> Standing
     }
 }
 
-/// Gives an object its standing at its first flow, and tells whether it was the first.
+/// Gives an object its standing at its first flow, and returns whether it was the first.
 pub fn see(standings: &mut Vec<Standing>, object: usize, standing: Standing) -> bool
     requires { object < length standings.old.items }
     ensures first { IsTrue result ↔ (standing_at standings.old.items object ≡ variant.Unknown) }
@@ -49,7 +49,7 @@ pub fn see(standings: &mut Vec<Standing>, object: usize, standing: Standing) -> 
     }
 }
 
-/// Makes places for so many objects.
+/// Makes places for this many objects.
 pub fn grow(standings: &mut Vec<Standing>, objects: usize) -> Result<(), NoMemory>
     ensures room { OnOk result
         (length standings.new.items ≡ max (length standings.old.items) objects) }

@@ -7,7 +7,7 @@ use Rattle.report_json.specs.declared.ask.Ask.TheVariants as ask
 use Rattle.reach_rows.specs.declared.questions.Question.{Question}
 use Rattle.reach_rows.specs.declared.questions.Question.TheVariants as question
 
--- from one to `most` decimal digits that spell the number, with zeros in front or without
+-- from one to `most` decimal digits that spell the number, with or without leading zeros
 pub record Spells (most : ℕ) (text : List ℕ) (number : ℕ) : Type 0 where
   pub digits : IsNumeral 10 text
   pub short : length text ≤ most
@@ -28,7 +28,7 @@ pub record IsTime (text : List ℕ) (ms : ℕ) : Type 0 where
   pub three : length millis ≡ 3
   pub value : ms ≡ digits_value 10 seconds * 1000 + digits_value 10 millis
 
--- the object, and behind one space the time where there is one
+-- the object, and after one space the time if there is one
 abbrev pub IsBounded : List ℕ → EntityId → Option ℕ → Type 0
 IsBounded text of None = IsId text of
 IsBounded text of (Some ms) = (id time : List ℕ) × (text ≡ id ++ (codes " " ++ time)) × IsId id of × IsTime time ms
@@ -38,7 +38,7 @@ abbrev pub IsQuestion : List ℕ → Question → Type 0
 IsQuestion line (question.Back of until) = (rest : List ℕ) × (line ≡ codes "back " ++ rest) × IsBounded rest of until
 IsQuestion line (question.Fore of since) = (rest : List ℕ) × (line ≡ codes "fore " ++ rest) × IsBounded rest of since
 
--- the line asks why one object reaches another, by a time where there is one
+-- the line asks why one object reaches another, by a time if there is one
 abbrev pub IsWhy : List ℕ → EntityId → EntityId → Option ℕ → Type 0
 IsWhy line from to until = (first rest : List ℕ) × (line ≡ codes "why " ++ (first ++ (codes " " ++ rest))) × IsId first from × IsBounded rest to until
 

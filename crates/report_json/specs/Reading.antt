@@ -11,7 +11,7 @@ use Rattle.report_json.specs.declared.ask.Ask.{Ask}
 use Rattle.report_json.specs.declared.ask.Ask.TheVariants as ask
 use Rattle.reach_rows.specs.declared.questions.Question.TheVariants as question
 
--- what stands before the first such byte and behind it, where there is one
+-- what stands before the first such byte and after it, if there is one
 abbrev pub cut_at : ℕ → List ℕ → Option (List ℕ × List ℕ)
 cut_at byte text =
     if nat_lt (position_or_len (is_byte byte) text) (length text)
@@ -37,7 +37,7 @@ abbrev pub time_from : Option ℕ → Option ℕ → Option ℕ
 time_from (Some seconds) (Some millis) = Some (seconds * 1000 + millis)
 time_from _ _ = None
 
--- the time of what stands before the point and behind it
+-- the time of what stands before the point and after it
 abbrev pub time_in : List ℕ × List ℕ → Option ℕ
 time_in parts =
     if length parts.1 == 3 then time_from (number_of 15 parts.0) (number_of 3 parts.1) else None
@@ -46,7 +46,7 @@ time_in parts =
 abbrev pub time_of : List ℕ → Option ℕ
 time_of text = option_and_then time_in (cut_at 46 text)
 
--- an object and a time, where both are there
+-- an object and a time, if both are there
 abbrev pub bounded_from : Option EntityId → Option ℕ → Option (EntityId × Option ℕ)
 bounded_from (Some of) (Some ms) = Some (of, Some ms)
 bounded_from _ _ = None
@@ -56,7 +56,7 @@ abbrev pub bounded_in : List ℕ → Option (List ℕ × List ℕ) → Option (E
 bounded_in text None = option_map (λ of. (of, None)) (id_of text)
 bounded_in text (Some parts) = bounded_from (id_of parts.0) (time_of parts.1)
 
--- the object, and behind one space the time where there is one
+-- the object, and after one space the time if there is one
 abbrev pub bounded_of : List ℕ → Option (EntityId × Option ℕ)
 bounded_of text = bounded_in text (cut_at 32 text)
 
@@ -84,7 +84,7 @@ why_from _ _ = None
 abbrev pub why_in : List ℕ × List ℕ → Option Ask
 why_in parts = why_from (id_of parts.0) (bounded_of parts.1)
 
--- two objects, and after one space the time where there is one
+-- two objects, and after one space the time if there is one
 abbrev pub why_of : List ℕ → Option Ask
 why_of text = option_and_then why_in (cut_at 32 text)
 

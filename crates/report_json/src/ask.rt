@@ -164,7 +164,7 @@ fn show(text: &[u8]) -> Option<Ask<'_>>
     Some(Ask::Show(id(text)?))
 }
 
-// An object, and a time where one follows.
+// An object, and a time if one follows.
 fn id_and_time(text: &[u8]) -> Option<(EntityId, Option<u64>)>
     ensures { result ≡ bounded_of text.now }
 {

@@ -1,4 +1,4 @@
-//! Numbers in question lines: decimal digits, with zeros in front or without.
+//! Numbers in question lines: decimal digits, with or without leading zeros.
 ghost use Rattle.std.specs.Prelude.{◌≡◌, true, ◌<◌, ◌≤◌, ◌^◌, length, IfSome};
 ghost use Rattle.std.specs.List.{list_all};
 ghost use Rattle.std.specs.Char.{is_ascii_digit};

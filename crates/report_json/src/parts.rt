@@ -6,7 +6,7 @@ ghost use Rattle.report_json.specs.Reading.{cut_at};
 
 use memchr::memchr;
 
-// What stands before the first such byte and behind it, where there is one.
+// What stands before the first such byte and after it, if there is one.
 pub fn parts_at(byte: u8, text: &[u8]) -> Option<(&[u8], &[u8])>
     ensures { option_map (λ parts. (parts.0.now, parts.1.now)) result ≡ cut_at byte text.now }
 {

@@ -15,9 +15,9 @@ use std::alloc::{AllocError, Global};
 /// What answers a line of the questions.
 #[derive(Drop)]
 pub enum Reply {
-    /// So many bytes of the log were taken.
+    /// How many bytes of the log were taken.
     Take(u64),
-    /// So many events have been released so far.
+    /// How many events have been released so far.
     Settle(u64),
     /// The objects from which the contents of this one can have come, ascending.
     Back {
@@ -58,7 +58,7 @@ pub enum Reply {
     BadQuestion,
     /// An object in the question isn't known.
     Unknown,
-    /// What is kept of the flows doesn't tell the answer.
+    /// The kept flows don't determine the answer.
     NotKept,
 }
 

@@ -10,7 +10,7 @@
 //!     6    Held       pid n4, fd n4, held flag; if it is 1: cloexec flag, object
 //!     7    Address    act n8, text
 //!     8    Born       major n4, minor n4, ino n8, born n8
-//!     9    Waiting    ms n8, serial n4, closed flag, count n4, that many texts
+//!     9    Waiting    ms n8, serial n4, closed flag, count n4, then count texts
 //!     10   State      thirteen counts n8, seen flag, n8, released flag, n8, n4, effective n8,
 //!                     long flag, tail text, count n4, that many malformed lines: line n8,
 //!                     fault byte

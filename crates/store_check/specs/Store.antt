@@ -44,7 +44,7 @@ flow_of r = record { from = r.from; to = r.to; how = r.mark.how; at = r.mark.at;
 abbrev pub extended : Mark → Row → Row
 extended m r = record { first = r.first; last = record { from = r.last.from; to = r.last.to; how = m.how; at = m.at; serial = m.serial } }
 
--- the rows, with the one at an index changed
+-- the rows, with the row at an index changed
 abbrev pub changed_at : ℕ → (Row → Row) → List Row → List Row
 changed_at i f [] = []
 changed_at zero f (r ∷ R) = f r ∷ R

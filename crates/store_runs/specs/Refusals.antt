@@ -21,14 +21,14 @@ pub record IsUnsoundFor (limits : Limits) (asked : Option Mode) (place : ℕ) (b
   pub lawful : stores.found.rows.lawful ≡ true
   pub agrees : Agree stores.found.mode asked
 
--- A disk that tells its bytes is refused: as a bad one at its place, if it is no store or what waits there isn't sound, and as a store
+-- A disk that is observable is refused: as a bad one at its place, if it is no store or what waits there isn't sound, and as a store
 -- of another mode.
 pub record AlwaysRefuses (limits : Limits) (disk : DiskState) (asked : Option Mode) (ended : Status) : Type 0 where
   pub bad : disk.told → (place : ℕ) → IsBadAt limits place disk.reads → EndsUnlessFailed ended (status.BadStore place)
   pub wrong : disk.told → (kept want : Mode) → IsOfWrongMode limits disk.reads asked kept want → EndsUnlessFailed ended (status.WrongMode kept want)
   pub unsound : disk.told → (place : ℕ) → IsUnsoundFor limits asked place disk.reads → EndsUnlessFailed ended (status.BadStore place)
 
--- a disk that tells its bytes is refused at its first place if it is a store without a batch
+-- a disk that is observable is refused at its first place if it is a store without a batch
 abbrev pub RefusesNoBatch : Limits → DiskState → (ended : Status) → Type 0
 RefusesNoBatch limits disk ended = disk.told → (place : ℕ) → StoresNothing limits place disk.reads → EndsUnlessFailed ended (status.BadStore place)
 

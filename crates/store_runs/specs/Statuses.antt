@@ -44,11 +44,11 @@ limit_name limit.Store = codes "store"
 abbrev pub full_text : Full → List ℕ
 full_text full = codes "full: " ++ (limit_name full.limit ++ (codes " " ++ decimal full.number))
 
--- where a disk is no store
+-- the batch from which on a disk isn't a store
 abbrev pub bad_text : ℕ → List ℕ
 bad_text place = codes "bad store at " ++ decimal place
 
--- the mode of the store, and the one that was asked for
+-- the mode of the store, and the mode that was asked for
 abbrev pub wrong_text : Mode → Mode → List ℕ
 wrong_text kept asked = codes "wrong mode: kept " ++ (mode_name kept ++ (codes ", asked " ++ mode_name asked))
 

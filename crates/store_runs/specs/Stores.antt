@@ -38,7 +38,7 @@ use Rattle.store_runs.specs.declared.extending.Taking.TheVariants as taking
 use Rattle.store_runs.specs.declared.status.Status.{Status}
 use Rattle.store_runs.specs.declared.status.Status.TheVariants as status
 
--- the log is a short one: it has so many bytes, and the store has taken so many of it
+-- the log is a short one: it has this many bytes, and the store has taken this many of it
 pub record IsShort (resume : Bool) (before : ℕ) (log : List ℕ) (taken had : ℕ) : Type 0 where
   pub resumes : resume ≡ true
   pub all : taken ≡ before
@@ -49,7 +49,7 @@ pub record IsShort (resume : Bool) (before : ℕ) (log : List ℕ) (taken had : 
 abbrev pub querying : Mode → History → Moment
 querying mode h = record { mode = mode; takes = false; history = h; log = [] }
 
--- The engine of a store that was opened stands for this history, all of which is saved, with so many bytes in its part of a log, and
+-- The engine of a store that was opened stands for this history, all of which is saved, with this many bytes in its part of a log, and
 -- a crash leaves nothing else.
 pub record IsReopened {D : Type 0} (state : D → DiskState) (mode : Mode) (limits : Limits) (engine : Engine (OnDisk D)) (h : History) (before : ℕ) : Type 0 where
   pub stands : StandsWith limits engine h before
@@ -101,7 +101,7 @@ pub record IsOpenAt {D : Type 0} (state : D → DiskState) (limits : Limits) (mo
   pub open_on : IsOpen state limits opened
   pub stores : StoresHistory limits mode (state opened.store.disk).reads h part
 
--- the disk tells its bytes, which store this history
+-- the disk is observable, and its bytes store this history
 pub record StoodAt {D : Type 0} (state : D → DiskState) (limits : Limits) (mode : Mode) (disk : D) (h : History) (part : ℕ) : Type 0 where
   pub told : (state disk).told
   pub stores : StoresHistory limits mode (state disk).reads h part
@@ -121,15 +121,15 @@ pub record StoresUnsoundly (limits : Limits) (place : ℕ) (bytes : List ℕ) : 
   pub is : place ≡ unwrap_or last 0
   pub unsound : OfState found.others (λ state. ¬ AreSoundWaiting limits state found.others)
 
--- a disk that tells its bytes is no store at this place, or what waits there isn't sound
+-- a disk that is observable is no store at this place, or what waits there isn't sound
 abbrev pub IsBadIn : Limits → DiskState → ℕ → Type 0
 IsBadIn limits disk place = disk.told → IsBadAt limits place disk.reads ⊎ StoresUnsoundly limits place disk.reads
 
--- a disk that tells its bytes is a store of another mode
+-- a disk that is observable is a store of another mode
 abbrev pub IsWrongIn : Limits → DiskState → Option Mode → Mode → Mode → Type 0
 IsWrongIn limits disk asked kept want = disk.told → IsOfWrongMode limits disk.reads asked kept want
 
--- A run of `reduce` over a disk that stores a history. Once it is synced, a crash leaves this history or a front of what the run
+-- A run of `reduce` over a disk that stores a history. Once it is synced, a crash leaves this history or a prefix of what the run
 -- takes after it, and if a limit on a store is named, a batch would have passed it.
 pub record Reduces (resume : Bool) (limits : Limits) (mode : Mode) (disk after : DiskState) (left old new : Option (List ℕ)) (outcome : Result Unit StoreHalt)
     (h : History) (before : ℕ) (bytes : List ℕ) : Type 0 where
@@ -141,7 +141,7 @@ pub record Reduces (resume : Bool) (limits : Limits) (mode : Mode) (disk after :
   pub enough : OnOk outcome (HasTaken resume before bytes)
   pub short : (taken had : ℕ) → outcome ≡ Err (over.ShortLog taken had) → IsShort resume before bytes taken had
 
--- what a run of `reduce` does with a log that tells its bytes, over a disk that has a history so
+-- what a run of `reduce` does with a log that is observable, over a disk that has a history so
 abbrev pub IsReduceRun : (resume : Bool) → (Stood : History → ℕ → Type 0) → Limits → Mode → (disk after : DiskState) → (log left old new : Option (List ℕ)) → Result Unit StoreHalt → Type 0
 IsReduceRun resume Stood limits mode disk after log left old new outcome =
     (h : History) (before : ℕ) (bytes : List ℕ) → Stood h before → log ≡ Some bytes → Reduces resume limits mode disk after left old new outcome h before bytes
@@ -151,13 +151,13 @@ abbrev pub LooksOrLacks : (resume : Bool) → (Tells : Type 0) → (Stood : Hist
 LooksOrLacks resume Tells Stood limits mode disk after log left most outcome =
     (OnlyLooks disk after × (left ≡ log)) ⊎ LacksIn resume Tells Stood limits mode after log left most outcome
 
--- A run adds a batch to its disk at most for each so many bytes that it takes of its log, and so many more. The run is over a disk that
--- has a history so, and its log tells its bytes
+-- A run adds at most one batch to its disk for each portion of this many bytes of its log, and this many more. The run is over a disk that
+-- has a history so, and its log is observable
 abbrev pub AddsFew : (resume : Bool) → (Stood : History → ℕ → Type 0) → Limits → (disk after : DiskState) → (log left : Option (List ℕ)) → (batch more : ℕ) → Type 0
 AddsFew resume Stood limits disk after log left batch more = (h : History) (before : ℕ) (bytes rest : List ℕ) → Stood h before → log ≡ Some bytes → left ≡ Some rest
     → AddsAtMost limits disk after ((length (begun_of resume h before bytes).log - length rest) / batch + more)
 
--- the same of a run that begins with so many bytes unsaved
+-- the same of a run that begins with this many bytes unsaved
 abbrev pub AddsIn : (resume : Bool) → (Stood : History → ℕ → Type 0) → Limits → (disk after : DiskState) → (log left : Option (List ℕ)) → (unsaved batch more : ℕ) → Type 0
 AddsIn resume Stood limits disk after log left unsaved batch more = (h : History) (before : ℕ) (bytes rest : List ℕ) → Stood h before → log ≡ Some bytes → left ≡ Some rest
     → AddsAtMost limits disk after ((unsaved + (length (begun_of resume h before bytes).log - length rest)) / batch + more)
@@ -167,11 +167,11 @@ abbrev pub is_resumed : Taking → Bool
 is_resumed (taking.Whole resume) = resume
 is_resumed taking.Asked = false
 
--- questions tell their bytes
+-- the questions are observable
 abbrev pub AreTold : Option (List ℕ) → Type 0
 AreTold asked = (questions : List ℕ) × (asked ≡ Some questions)
 
--- if questions are asked, they tell their bytes
+-- if questions are asked, they are observable
 abbrev pub AsksTold : Taking → Option (List ℕ) → Type 0
 AsksTold (taking.Whole resume) asked = ⊤
 AsksTold taking.Asked asked = AreTold asked
@@ -183,7 +183,7 @@ pub record IsStored (limits : Limits) (mode : Mode) (disk : DiskState) (left : O
   pub durable : IsDurable disk
   pub told : left ≡ Some to.log
 
--- A run of `watch` over a disk that stores a history. Once it is synced, a crash leaves this history or a front of what the run has
+-- A run of `watch` over a disk that stores a history. Once it is synced, a crash leaves this history or a prefix of what the run has
 -- taken after it at the last moment to which it came.
 pub record Watches (limits : Limits) (mode : Mode) (disk after : DiskState) (left old new : Option (List ℕ)) (outcome : Result Unit StoreHalt)
     (begun : Begun) (asked : List ℕ) : Type 0 where
@@ -199,7 +199,7 @@ pub record Watches (limits : Limits) (mode : Mode) (disk after : DiskState) (lef
   pub passes : IfErr outcome (PassesIn limits mode begun (since begun last))
   pub whole : (taken had : ℕ) → outcome ≡ Err (over.ShortLog taken had) → ⊥
 
--- what a run of `watch` does with a log and questions that tell their bytes, over a disk that has a history so
+-- what a run of `watch` does with an observable log and observable questions, over a disk that has a history so
 abbrev pub IsWatchRun : (Stood : History → ℕ → Type 0) → Limits → Mode → (disk after : DiskState) → (log left asked old new : Option (List ℕ)) → Result Unit StoreHalt → Type 0
 IsWatchRun Stood limits mode disk after log left asked old new outcome =
     (h : History) (before : ℕ) (bytes questions : List ℕ) → Stood h before → log ≡ Some bytes → asked ≡ Some questions
@@ -218,12 +218,12 @@ pub record StoresNothing (limits : Limits) (place : ℕ) (bytes : List ℕ) : Ty
   pub none : found.mode ≡ None
   pub is : place ≡ 0
 
--- a disk that tells its bytes is no store at this place, or what waits there isn't sound, or it has no batch
+-- a disk that is observable is no store at this place, or what waits there isn't sound, or it has no batch
 abbrev pub IsBadOrNone : Limits → DiskState → ℕ → Type 0
 IsBadOrNone limits disk place =
     disk.told → (IsBadAt limits place disk.reads ⊎ StoresUnsoundly limits place disk.reads) ⊎ StoresNothing limits place disk.reads
 
--- what a run of `query` does with questions that tell their bytes, over a disk that has a history of a mode so
+-- what a run of `query` does with observable questions, over a disk that has a history of a mode so
 pub record IsQueryRun (Stood : Mode → History → Type 0) (limits : Limits) (left rest old new : Option (List ℕ)) (outcome : Result Unit StoreHalt) : Type 0 where
   pub queried : (kept : Mode) (h : History) (asked : List ℕ) → Stood kept h → left ≡ Some asked → IsQueried limits kept h asked rest old new outcome
 
@@ -261,12 +261,12 @@ pub record GoesOn (limits : Limits) (mode : Mode) (end : History) (log bytes : L
 
 -- ---- a run that nothing stops
 
--- no limit would be passed by all of the log, settled, nor by a commit of a front of it
+-- no limit would be passed by all of the log, settled, nor by a commit of a prefix of it
 pub record FitsWhole (limits : Limits) (mode : Mode) (begun : Begun) : Type 0 where
   pub engine : (full : Full) → ¬ Stops limits (whole_of begun) full
   pub store : (full : Full) → ¬ PassesStore limits mode begun (steps_of begun) full
 
--- no limit would be passed by what these questions take, nor by a commit of a front of what is taken of the log at some moment
+-- no limit would be passed by what these questions take, nor by a commit of a prefix of what is taken of the log at some moment
 pub record FitsDialogue (limits : Limits) (mode : Mode) (begun : Begun) (asked : List ℕ) : Type 0 where
   pub engine : (said : List Reply) (to : Moment) (full : Full) → ¬ StopsAfter limits (QuestionsStop limits asked) (first_of mode begun) (asks limits (lines_in asked)) said to full
   pub store : (m : Moment) → IsOf begun m → (full : Full) → ¬ PassesStore limits mode begun (since begun m) full

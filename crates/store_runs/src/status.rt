@@ -99,7 +99,7 @@ fn as_line(text: &str) -> ArrayString<LINE>
     line
 }
 
-// Where a disk is no store.
+// The batch from which on a disk isn't a store.
 fn bad_text(place: u64) -> ArrayString<LINE>
     ensures text { result.bytes ≡ bad_text place }
     ensures short { array_string_len result ≤ 64 }
@@ -111,7 +111,7 @@ fn bad_text(place: u64) -> ArrayString<LINE>
     text
 }
 
-// The mode of the store, and the one that was asked for.
+// The mode of the store, and the mode that was asked for.
 fn wrong_text(kept: Mode, asked: Mode) -> ArrayString<LINE>
     ensures text { result.bytes ≡ wrong_text kept asked }
     ensures short { array_string_len result ≤ 64 }

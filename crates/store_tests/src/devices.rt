@@ -27,7 +27,7 @@ impl Sink for Narrow {
     }
 }
 
-// What is written of seven bytes, and how it ended, where the calls of these numbers fail.
+// What is written of seven bytes, and how it ends, if the calls of these numbers fail.
 fn written_with(
     rt: &HostRuntime,
     fails: List<u64>,

@@ -13,7 +13,7 @@ use std::test::Fail;
 /// A source, a target and a time.
 type Step = (u8, u8, u64);
 
-/// The flows of these steps in order, and how many objects they know. `None` where they aren't lawful.
+/// The flows of these steps in order, and how many objects they know. `None` if they aren't lawful.
 fn lawful_flows(alloc: Global, steps: &[Step]) -> Result<Option<(List<Flow>, u32)>, NoMemory>
     ensures { IfOk result (λ made. IfSome made (λ (flows, count). IsLawfulWith count flows)) }
 {

@@ -8,7 +8,7 @@ use Rattle.acts.specs.declared.act.Taken.{Taken}
 use Rattle.acts.specs.Flows.{flows}
 use Rattle.row_codec.specs.declared.state.StateRow.{StateRow}
 
--- The acts that were taken, the newest first; what waits, with the clock and the records in excess; the counts of lines and
+-- The acts that were taken, newest first; what waits, with the clock and the records in excess; the counts of lines and
 -- of events; the bytes taken, and those of this part; and the line that has begun.
 pub record Moment : Type 0 where
   pub taken : List Taken

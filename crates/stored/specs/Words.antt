@@ -14,7 +14,7 @@ use Rattle.row_codec.specs.declared.rows.StoreRow.{StoreRow}
 use Rattle.row_codec.specs.declared.rows.StoreRow.TheVariants.{Name, Life, Held, Address, Born, Waiting, State}
 use Rattle.store_check.specs.Store.{last_found}
 
--- all rows of some batches, the oldest first
+-- all rows of some batches, oldest first
 abbrev pub all_of : List (List StoreRow) → List StoreRow
 all_of batches = flat_map (λ b. b) batches
 
@@ -44,7 +44,7 @@ pub record Holding : Type 0 where
   pub life : Option ALife
   pub held : Option AHeld
 
--- a Life row goes on with the life before it, and that one is live
+-- a Life row goes on with the life before it, and the life before it is live
 abbrev pub goes_on : Option ALife → ALife → Bool
 goes_on None now = false
 goes_on (Some before) now = now.live && before.life == now.life

@@ -13,7 +13,7 @@ abbrev pub version_or : Option Version → Version
 version_or None = record { number = 0; sealed = false }
 version_or (Some current) = current
 
--- a flow from u to v left the version n of u, no later one than the current one. It is linked exactly where that version is
+-- a flow from u to v left the version n of u, no later one than the current one. It is linked exactly if that version is
 -- the current one, which is sealed then.
 pub record IsLeft (K : List Flow) (u v n : ℕ) : Type 0 where
   pub begun : n ≤ version K u
@@ -30,7 +30,7 @@ pub record StandsFor (s : Versions) (K : List Flow) : Type 0 where
   pub seals : (x : ℕ) → (version_or (index.get nat_eq s.objects x)).sealed ≡ is_sealed K x
   pub links : (u v : ℕ) → IsLeftOf K u v (index.get pair_eq s.links (u, v))
 
--- room for so many flows: two objects each and a pair
+-- room for this many flows: two objects each and a pair
 abbrev pub HasRoom : Versions → ℕ → Type 0
 HasRoom s n = (2 * n ≤ index.spare s.objects) × (n ≤ index.spare s.links)
 

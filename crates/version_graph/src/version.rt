@@ -26,7 +26,7 @@ pub fn current_of(known: Option<&Version>) -> Version
     }
 }
 
-/// The version after a flow into the object: a new one where a flow has left the current one.
+/// The version after a flow into the object: a new one if a flow has left the current one.
 fn entered(current: Version) -> Version
     ensures number { current.number < 2 ^ 64 - 1 → result.number ≡ current.number + cond current.sealed 1 0 }
     ensures seal { result.sealed ≡ false }

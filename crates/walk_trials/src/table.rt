@@ -1,11 +1,11 @@
-//! Rows as they were written down, which tell nothing.
+//! Rows as they were written down, which aren't observable.
 ghost use Rattle.std.specs.Prelude.{◌≡◌, ◌-◌, ◌^◌, ⊤, None, vec_len};
 ghost use Rattle.reach_rows.specs.Alike.{all_alike};
 
 use flow_base::{EntityId, Stamp};
 use reach_rows::{First, Row, RowFault, Rows};
 
-/// Rows between so many objects. One read may fail, and a row with an end that isn't one of the objects is bad.
+/// Rows between this many objects. One read may fail, and a row with an end that isn't one of the objects is bad.
 #[derive(Drop)]
 pub struct Table {
     pub rows: Vec<Row>,

@@ -35,7 +35,7 @@ fn row(written: Written) -> Row {
     }
 }
 
-/// A table of rows between so many objects.
+/// A table of rows between this many objects.
 fn table(alloc: Global, written: &[Written], known: u32) -> Result<Table, NoMemory>
     ensures { IfOk result (λ made. made.known ≡ known) }
 {

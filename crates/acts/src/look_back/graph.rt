@@ -62,7 +62,7 @@ impl Model for Graph {
 }
 
 impl Graph {
-    /// No flows, and room for no more than so many objects and flows.
+    /// No flows, with these limits on the numbers of objects and flows.
     pub fn new(alloc: Global, most_objects: u32, most_flows: u64) -> Graph
         ensures { result ≡ record { objects = []; flows = []; most_objects = most_objects; most_flows = most_flows } }
     {
@@ -95,7 +95,7 @@ impl Graph {
         self.flows.as_slice()
     }
 
-    /// Puts the flow of a link last, and its ends where they are new. Where it is refused nothing has changed.
+    /// Appends the flow of a link, and those of its ends that are new. If it is refused, nothing has changed.
     pub fn add(&mut self, taken: &Taken, link: Link) -> Result<(), Refused>
         ensures objects { OnOk result (self.new.objects ≡ with_ends self.old.objects (Some link)) }
         ensures flows { OnOk result (self.new.flows ≡ self.old.flows ++ flow_at self.new.objects taken.now (length self.old.flows) link ∷ []) }
@@ -139,7 +139,7 @@ impl Graph {
     }
 }
 
-// The limit that so many objects, and one more than these flows, pass.
+// The limit that this many objects, or one more flow, would pass.
 fn full_by(most_objects: u32, most_flows: u64, objects: usize, flows: usize) -> Option<Full>
     ensures { result ≡ full_by most_objects most_flows objects (flows + 1) }
 {
@@ -169,7 +169,7 @@ fn count_new(objects: &[Key], link: &Link) -> usize
     count_ends(from_known, to_known, link.to == link.from)
 }
 
-// How many of two ends are new, where one that is the other counts once.
+// How many of two ends are new. Equal ends count once.
 fn count_ends(from_known: bool, to_known: bool, same: bool) -> usize
     ensures count { result ≡ as_number (not from_known) + as_number (not to_known && not same) }
     ensures few { result ≤ 2 }
@@ -184,7 +184,7 @@ fn is_known(objects: &[Key], key: &Key) -> bool
     objects.iter().any(|known| key == known)
 }
 
-// The number of a key, which is put last where it is new.
+// The number of a key, which is appended if it is new.
 fn enter(objects: &mut Vec<Key>, key: Key) -> EntityId
     requires room { vec_len objects.old < vec_capacity objects.old }
     requires fits { length objects.old.items < 2 ^ 32 }

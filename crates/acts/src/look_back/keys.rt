@@ -10,7 +10,7 @@ use crate::look_back::lives::{Standing, stands_after};
 use flow_base::{Bytes, FileId, Key, NoMemory};
 use std::alloc::Global;
 
-/// The last life of a pid after these acts, the oldest first.
+/// The last life of a pid after these acts, oldest first.
 pub fn process_key(taken: &[Taken], pid: u32) -> Key
     ensures { result ≡ process_key (so_far taken.now) pid }
 {
@@ -27,7 +27,7 @@ pub fn key_of(pid: u32, standing: Standing) -> Key
     }
 }
 
-/// The key of a thing that a pid names after these acts, the oldest first, where nothing was put at a descriptor.
+/// The key of a thing that a pid names after these acts, oldest first, if nothing was put at a descriptor.
 pub fn thing_key(alloc: Global, taken: &[Taken], pid: u32, thing: &Thing) -> Result<Key, NoMemory>
     requires none_opened { any_opens (so_far taken.now) ≡ false }
     ensures { IfOk result (λ made. made ≡ thing_key (so_far taken.now) pid thing.now) }
@@ -52,7 +52,7 @@ fn lost_key(pid: u32, standing: Standing, fd: u32) -> Key
     }
 }
 
-/// The key of a file after these acts, the oldest first.
+/// The key of a file after these acts, oldest first.
 pub fn file_key(alloc: Global, taken: &[Taken], file: &FileRef) -> Result<Key, NoMemory>
     ensures { IfOk result (λ made. made ≡ file_key (so_far taken.now) file.now) }
 {

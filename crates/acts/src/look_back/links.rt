@@ -11,7 +11,7 @@ use crate::look_back::lives::{forked, is_live, stands_after};
 use flow_base::{How, Key, NoMemory};
 use std::alloc::Global;
 
-/// What the next act links after these, the oldest first, where nothing was put at a descriptor.
+/// What the next act links after these, oldest first, if nothing was put at a descriptor.
 pub fn link_of(alloc: Global, before: &[Taken], act: &Act) -> Result<Option<Link>, NoMemory>
     requires none_opened { any_opens (so_far before.now) ≡ false }
     ensures { IfOk result (λ link. link ≡ link_of (so_far before.now) act.now) }
@@ -32,7 +32,7 @@ pub fn link_of(alloc: Global, before: &[Taken], act: &Act) -> Result<Option<Link
     }
 }
 
-/// The link of a see: from its parent, where it begins a life while another pid, the parent, is live.
+/// The link of a see: from its parent, if the see begins a life and the parent is another pid and live.
 fn parent_link(before: &[Taken], pid: u32, ppid: u32) -> Option<Link>
     ensures { (exe : Option (List ℕ)) → result ≡ link_of (so_far before.now) (act.See pid ppid exe) }
 {

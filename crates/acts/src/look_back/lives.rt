@@ -15,7 +15,7 @@ pub struct Standing {
     pub linked: bool,
 }
 
-/// How a pid stands after these acts, the oldest first.
+/// How a pid stands after these acts, oldest first.
 pub fn stands_after(taken: &[Taken], pid: u32) -> Standing
     ensures standing { result ≡ standing (so_far taken.now) pid }
     ensures few { result.beginnings ≤ length taken.now }
@@ -60,7 +60,7 @@ pub fn after(before: &[Taken], act: &Act, state: Standing, pid: u32) -> Standing
     }
 }
 
-/// How a child stands after a fork by another pid: claimed where it awaited that pid, else begun.
+/// How a child stands after a fork by another pid: claimed if it awaited that pid, else begun.
 pub fn forked(state: Standing, caller: u32) -> Standing
     requires fits { state.beginnings < 2 ^ 64 - 1 }
     ensures { result ≡ forked_by caller state }
@@ -78,7 +78,7 @@ pub fn forked(state: Standing, caller: u32) -> Standing
     }
 }
 
-/// Whether a pid is live after these acts, the oldest first.
+/// Whether a pid is live after these acts, oldest first.
 pub fn is_live(taken: &[Taken], pid: u32) -> bool
     ensures { result ≡ live (so_far taken.now) pid }
 {

@@ -33,7 +33,7 @@ impl Model for Plain {
 }
 
 impl Plain {
-    /// No acts, and room for no more than so many objects and flows.
+    /// No acts, with these limits on the numbers of objects and flows.
     pub fn new(alloc: Global, most_objects: u32, most_flows: u64) -> Plain
         ensures { result ≡ record { taken = []; most_objects = most_objects; most_flows = most_flows } }
     {
@@ -65,7 +65,7 @@ impl Plain {
         self.graph.flows()
     }
 
-    /// Takes the next act. Where it is refused nothing has changed.
+    /// Takes the next act. If it is refused, nothing has changed.
     pub fn act(&mut self, taken: Taken) -> Result<(), Refused>
         requires opens_nothing { opens taken.act ≡ false }
         ensures taken { OnOk result (self.new ≡ record self.old { taken = taken ∷ self.old.taken }) }

@@ -1,7 +1,7 @@
 //! Vectors with room that was made before.
 ghost use Rattle.std.specs.Prelude.{◌≡◌, ◌≤◌, ◌<◌, ◌+◌, ◌++◌, ◌∷◌, [], vec_len, vec_capacity};
 
-/// Puts an item last in the room that was made for it.
+/// Appends an item in the room that was made for it.
 pub fn put_last<T: Drop>(items: &mut Vec<T>, item: T)
     requires room { vec_len items.old < vec_capacity items.old }
     ensures last { items.new.items ≡ items.old.items ++ item ∷ [] }

@@ -38,7 +38,7 @@ pub enum Answer {
 /// A call's number, its answer, its arguments, the other records, and the acts after the see of its caller.
 pub type Case = (u32, Answer, [u64; 4], &'static [Said], &'static str);
 
-/// The records of a case; those beside the call come before it where they come first.
+/// The records of a case; the records beside the call come before it if the case says so.
 pub fn records(alloc: Global, case: &Case, first: bool) -> Result<List<Record>, NoMemory> {
     let (number, answer, arguments, others, _) = *case;
     let mut records = List::new(alloc);
@@ -54,7 +54,7 @@ pub fn records(alloc: Global, case: &Case, first: bool) -> Result<List<Record>, 
     Ok(records)
 }
 
-/// The one record of an event.
+/// The only record of an event.
 pub fn one_record(alloc: Global, body: Body) -> Result<List<Record>, NoMemory> {
     let mut records = List::new(alloc);
     records.push(record(alloc, body))?;
