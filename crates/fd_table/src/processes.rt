@@ -1,24 +1,19 @@
 //! What each process holds, by the numbers of objects. A process that isn't in the map holds
 //! nothing.
-ghost use Rattle.std.specs.Prelude.{◌≡◌, ◌==◌, ◌+◌, ◌<◌, ◌≤◌, ◌^◌, ℕ, if◌then◌else◌, OnOk};
+ghost use Rattle.std.specs.Prelude.{◌≡◌, ◌==◌, ◌↔◌, ◌+◌, ◌<◌, ◌≤◌, ◌^◌, ℕ, if◌then◌else◌, Err, OnOk};
 ghost use Rattle.std.specs.Vec.{vec_len, vec_capacity};
 ghost use Rattle.indexmap.specs.IndexMap.{spare};
 ghost use Rattle.fd_table.specs.Numbers.{IsLonger};
 ghost use Rattle.fd_table.specs.Holdings.{bare, nothing};
-ghost use Rattle.fd_table.specs.Processes.{holding_of, holders, AreChanged, StaySound, GetNumber, HasRoom, Fits};
+ghost use Rattle.fd_table.specs.Processes.{holding_of, holders, AreChanged, AreTooMany, StaySound, GetNumber, HasRoom, Fits};
+ghost use Rattle.fd_table.specs.declared.room.RoomFault.TheVariants as fault;
 
 use crate::holdings::{nothing, with_numbers};
 use crate::node::Node;
+use crate::room::{NODES, RoomFault, are_too_many};
 use crate::tree::{Holding, Tree};
 use acts::Object;
-use flow_base::NoMemory;
 use indexmap::IndexMap;
-
-/// How many nodes one change may add: at most eight in each of the two trees.
-const NODES: usize = 16;
-
-/// Ids and numbers are below this.
-const NUMBERS: usize = 1 << 32;
 
 /// What a process holds.
 pub fn holding_of(processes: &IndexMap<u32, Holding>, pid: u32) -> Holding
@@ -91,27 +86,26 @@ pub fn change(
     put(processes, pid, holding);
 }
 
-/// Makes room for this many changes. It fails if memory does, or if the ids would reach 2^32.
+/// Makes room for this many changes.
 pub fn make_room(
     processes: &mut IndexMap<u32, Holding>,
     nodes: &mut Vec<Node>,
     objects: &mut Vec<Object>,
     changes: usize,
-) -> Result<(), NoMemory>
+) -> Result<(), RoomFault>
     ensures ok { OnOk result (Fits changes processes.new nodes.new objects.new) }
+    ensures many { (result ≡ Err fault.TooMany)
+        ↔ AreTooMany changes (vec_len nodes.old) (vec_len objects.old) }
     ensures keeps { (room : ℕ) → Fits room processes.old nodes.old objects.old
         → Fits room processes.new nodes.new objects.new }
     ensures processes { processes.new.entries ≡ processes.old.entries }
     ensures nodes { nodes.new.items ≡ nodes.old.items }
     ensures objects { objects.new.items ≡ objects.old.items }
 {
-    let more = changes.checked_mul(NODES).ok_or(NoMemory)?;
-    let all_nodes = nodes.len().checked_add(more).ok_or(NoMemory)?;
-    let all_objects = objects.len().checked_add(changes).ok_or(NoMemory)?;
-    if all_nodes >= NUMBERS || all_objects >= NUMBERS {
-        return Err(NoMemory);
+    if are_too_many(changes, nodes.len(), objects.len()) {
+        return Err(RoomFault::TooMany);
     }
-    nodes.reserve(more)?;
+    nodes.reserve(changes * NODES)?;
     objects.reserve(changes)?;
     processes.reserve(changes)?;
     Ok(())

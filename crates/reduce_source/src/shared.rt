@@ -1,11 +1,13 @@
 //! The sets of all objects, and the blocks that they share.
-ghost use Rattle.std.specs.Prelude.{◌≡◌, ◌↔◌, ◌⊎◌, ◌+◌, ◌-◌, ◌/◌, ◌*◌, ◌<◌, ◌≤◌, ◌^◌, [], ℕ, false, true, length, max, slice_index_or, IsTrue, OnOk};
+ghost use Rattle.std.specs.Prelude.{◌≡◌, ◌↔◌, ◌⊎◌, ◌+◌, ◌-◌, ◌/◌, ◌*◌, ◌<◌, ◌≤◌, ◌^◌, [], ℕ, false, true, length, max, slice_index_or, Err, IsTrue, OnOk};
 ghost use Rattle.std.specs.Vec.{vec_len, vec_capacity};
 ghost use Rattle.flow_base.specs.declared.types.Flow.{Flow as AFlow};
 ghost use Rattle.reach_model.specs.Flows.{source, target};
 ghost use Rattle.reduce_source.specs.IdLists.{AreIds};
+ghost use Rattle.reduce_source.specs.declared.fault.RoomFault.TheVariants as fault;
 
 use crate::block::Block;
+use crate::fault::RoomFault;
 use crate::ids::{self, Ids};
 use flow_base::{Flow, NoMemory};
 use std::alloc::Global;
@@ -148,7 +150,7 @@ impl Shared {
     }
 
     /// Makes room for the blocks of this many unions, each after a mark.
-    pub fn make_room(&mut self, unions: usize) -> Result<(), NoMemory>
+    pub fn make_room(&mut self, unions: usize) -> Result<(), RoomFault>
         ensures room { OnOk result
             (vec_len self.new.blocks + unions * (self.new.width + 1)
             ≤ vec_capacity self.new.blocks) }
@@ -156,12 +158,13 @@ impl Shared {
             (vec_len self.new.blocks + unions * (self.new.width + 1) < 2 ^ 32) }
         ensures same { (v n : ℕ) → HasNumber self.new v n ↔ HasNumber self.old v n }
         ensures rest { (self.new.sets ≡ self.old.sets) × (self.new.width ≡ self.old.width) }
+        ensures blocks { self.new.blocks.items ≡ self.old.blocks.items }
+        ensures many { (result ≡ Err fault.TooMany)
+            ↔ (2 ^ 32 ≤ vec_len self.old.blocks + unions * (self.old.width + 1)) }
     {
-        let each = self.width.checked_add(1).ok_or(NoMemory)?;
-        let more = each.checked_mul(unions).ok_or(NoMemory)?;
-        let all = self.blocks.len().checked_add(more).ok_or(NoMemory)?;
-        if all >= MOST_BLOCKS {
-            return Err(NoMemory);
+        let more = self.width.saturating_add(1).saturating_mul(unions);
+        if more.saturating_add(self.blocks.len()) >= MOST_BLOCKS {
+            return Err(RoomFault::TooMany);
         }
         self.blocks.reserve(more)?;
         Ok(())

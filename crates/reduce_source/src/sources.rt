@@ -65,7 +65,8 @@ impl Reducer for Sources {
     }
 
     fn reserve(&mut self, flows: &[Flow]) -> Result<(), NoMemory> {
-        self.sets.reserve(flows)
+        self.sets.reserve(flows)?;
+        Ok(())
     }
 
     fn note(&mut self, flow: &Flow, verdict: Verdict) {
