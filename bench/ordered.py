@@ -3,12 +3,15 @@
     bench/ordered.py [LOG..]
 
 Of each log: the status is 0; the lines of the answer, with the marks of raised times undone, are the lines of the log and EOE lines, in some order;
-each of those EOE lines is of an event that has a call; the times in the answer never fall; and `--undo` writes the lines of the answer, and those of the
-log, with their marks undone. The events of small logs made by hand stand in the order that the documents say. Other words have the status 2 and write
-nothing. Without a LOG the checks go over the examples, over
+each of those EOE lines is of an event that has a call; the times in the answer never fall; `--report` counts the events, the added ends and the raised
+times that the answer has, also if no line may wait; and `--undo` writes the lines of the answer, and those of the log, with their marks undone. The events
+of small logs made by hand stand in the order that the documents say, and are late where it says so. Other words have the status 2 and write nothing.
+Without a LOG the checks go over the examples, over
 generated logs, and over logs that were made to be odd. Prints what isn't so, and ends with status 1 if there is any.
 """
 import collections
+import itertools
+import json
 import re
 import subprocess
 import sys
@@ -90,14 +93,32 @@ def lines_of(text):
     return lines if lines[-1] else lines[:-1]
 
 
-def faults_of(log):
+def event_of(line):
+    """The time, the serial number and the node of a line that bears them."""
+    stamp = STAMP.match(line)
+    return stamp and (stamp[2], stamp[3], stamp[1].split(b' ')[0] if stamp[1].startswith(b'node=') else b'')
+
+
+def counts_of(written, added):
+    """What a report has to count of an answer, except late events; and events, if some line bears no stamp: it may stand apart from its event."""
+    events = [event_of(undone(line)) for line in written]
+    return {'added_ends': added, **({} if None in events else {'events': sum(1 for _ in itertools.groupby(events))}),
+            'times_raised': sum(STAMP.match(line)[2] != STAMP.match(undone(line))[2] for line in written if STAMP.match(line))}
+
+
+def faults_of(log, words=()):
     """What isn't as it is to be of the answer over the bytes of a log."""
-    ran = subprocess.run([PROGRAM], input=log, stdout=subprocess.PIPE, stderr=subprocess.PIPE)
-    if ran.returncode or ran.stderr:
+    ran = subprocess.run([PROGRAM, '--report', *words], input=log, stdout=subprocess.PIPE, stderr=subprocess.PIPE)
+    if ran.returncode:
         yield f'status {ran.returncode}, {ran.stderr!r}'
+        return
     written = lines_of(ran.stdout)
     left = collections.Counter(map(undone, written))
     left.subtract(lines_of(log))
+    report = json.loads(ran.stderr)
+    counts = counts_of(written, sum(left.values()))
+    if any(report[name] != count for name, count in counts.items()):
+        yield f'the report is {report} and not {counts}'
     for line, count in left.items():
         if count < 0:
             yield f'lost: {line!r}'
@@ -131,10 +152,20 @@ def faults_of_undoing(lines):
 
 def faults_of_words():
     """What isn't as it is to be of words that name no job."""
-    for words in [['--order'], ['--undo', '--undo'], ['--und'], ['']]:
+    for words in [['--order'], ['--undo', '--undo'], ['--und'], [''], ['--undo', '--report'], ['--report', '--report'], ['--window'], ['--window', 'x'], ['--memory', '-1'],
+                  ['--memory', '1', '--window', '1'], ['--window', '1', '--report'], ['--window', '1', '--window', '1'], ['--window', '4294967296'], ['--report', 'x']]:
         ran = subprocess.run([PROGRAM, *words], input=b'x\n', stdout=subprocess.PIPE, stderr=subprocess.PIPE)
         if ran.returncode != 2 or ran.stdout or ran.stderr != b'audit_order: bad words\n':
             yield f'status {ran.returncode}, {ran.stdout!r}, {ran.stderr!r} for the words {words}'
+
+
+def faults_of_late_events():
+    """What isn't so of the events that are late in logs made by hand."""
+    for words, name, late in [([], 'a read that waited', 0), (['--memory', '0'], 'a read that waited', 0), (['--memory', '0'], 'two events far ahead', 1),
+                              (['--window', '0'], 'one event far ahead', 0), ([], 'two boots, the clock set back', 3), (['--memory', '0'], 'two nodes with two clocks', 2)]:
+        ran = subprocess.run([PROGRAM, '--report', *words], input=ORDERS[name][0].encode(), stdout=subprocess.PIPE, stderr=subprocess.PIPE, check=True)
+        if (found := json.loads(ran.stderr)['late']) != late:
+            yield f'{name}: {found} late events and not {late}, by {words}'
 
 
 def generated(seed):
@@ -147,8 +178,8 @@ def main(names):
     logs = {name: Path(name).read_bytes() for name in names} if names else {
         **ODD, **{name: log.encode() for name, (log, _) in ORDERS.items()}, **{path.name: path.read_bytes() for path in sorted((TOP / 'examples').glob('*.log'))},
         **{f'generated log {seed}': generated(seed) for seed in range(1, 21)}}
-    faults = [('words', fault) for fault in faults_of_words()] + [('order', fault) for fault in faults_of_orders()]
-    faults += [(name, fault) for name, log in logs.items() for fault in faults_of(log)]
+    faults = [('words', fault) for fault in faults_of_words()] + [('order', fault) for fault in (*faults_of_orders(), *faults_of_late_events())]
+    faults += [(name, fault) for name, log in logs.items() for words in ((), ('--window', '0'), ('--memory', '0')) for fault in faults_of(log, words)]
     for name, fault in faults[:20]:
         print(f'{name}: {fault}')
     return 1 if faults else 0

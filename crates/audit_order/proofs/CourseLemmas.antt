@@ -1,16 +1,17 @@
 -- How the ordering of a log goes on.
-use Rattle.std.proofs.Common.{◌≡◌, ◌≤◌, ◌-◌, ◌∙◌, sym, refl, ap, subst, ℕ, List, [], ◌∷◌, ◌++◌, length, Option, None, Some, option_map, map, max, arith, append_assoc, append-nil}
+use Rattle.std.proofs.Common.{◌≡◌, ◌≤◌, ◌+◌, ◌-◌, ◌∙◌, sym, refl, ap, subst, ℕ, Bool, true, false, List, [], ◌∷◌, ◌++◌, length, Option, None, Some, option_map, map, max, nat_lt, arith, append_assoc, append-nil, add-one, length-append, if◌then◌else◌}
 use Rattle.std.specs.Prelude.{option_to_list}
-use Rattle.std.specs.List.{All}
+use Rattle.std.specs.List.{All, filter}
+use Rattle.std.proofs.lemmas.Bool.Decides.{nat_tests}
 use Rattle.std.specs.List.Sorted.{IsPermutation, IsNonDecreasing}
 use Rattle.std.specs.Io.KnownBytes.{Appends}
 use Rattle.std.proofs.lemmas.Grind.{flat_map-append}
 use Rattle.std.proofs.lemmas.List.{map-append}
-use Rattle.std.proofs.lemmas.List.Elements.{All-push, All-weaker, All-cons, All-nil}
+use Rattle.std.proofs.lemmas.List.Elements.{All-push, All-weaker, All-cons, All-nil, filter-append}
 use Rattle.std.proofs.lemmas.List.Sorted.{IsPermutation-refl, IsPermutation-sym, IsPermutation-trans, IsPermutation-cons, IsPermutation-to_front, IsPermutation-append_left, IsNonDecreasingBy-push, IsNonDecreasingBy-short}
-use Rattle.order_text.specs.Laws.{time_in, StaysAfter}
+use Rattle.order_text.specs.Laws.{time_in, is_one_line, IsOneLine, StaysAfter}
 use Rattle.order_text.specs.Undo.{undone, written_after}
-use Rattle.audit_order.specs.Lines.{text_of, times_of, IsEnd, risen, Written, Writes}
+use Rattle.audit_order.specs.Lines.{text_of, times_of, IsEnd, AddsNoFeed, is_less, is_raised, raised_in, risen, more_if, Written, Writes, Adds}
 use Rattle.audit_order.specs.Course.{Course, Keeps, Gives}
 
 pub text_more : (outs : List (List ℕ)) (out : List ℕ) → text_of (outs ++ out ∷ []) ≡ text_of outs ++ (out ++ 10 ∷ [])
@@ -45,6 +46,31 @@ moved all waits outs line same =
     (subst (λ (to : List (List ℕ)). IsPermutation (line ∷ (waits ++ outs)) to) (append_assoc waits outs (line ∷ []))
     (IsPermutation-sym ((waits ++ outs) ++ line ∷ []) (line ∷ (waits ++ outs)) (IsPermutation-to_front (waits ++ outs) line)))
 
+-- ---- counts of raised times
+
+-- two tests that pass together are one
+both_true : (a b : Bool) → (a ≡ true → b ≡ true) → (b ≡ true → a ≡ true) → a ≡ b
+both_true true b f g = sym (f refl)
+both_true false true f g = g refl
+both_true false false f g = refl
+
+less_than_max : (ms : ℕ) (time : Option ℕ) → is_less time (option_map (max ms) time) ≡ is_less time (Some ms)
+less_than_max ms None = refl
+less_than_max ms (Some time) = both_true (nat_lt time (max ms time)) (nat_lt time ms) (λ e. grind (arith, nat_tests, e)) (λ e. grind (arith, nat_tests, e))
+
+raised_by : (ms : ℕ) (out line : List ℕ) → undone out ≡ line → time_in out ≡ option_map (max ms) (time_in line) → is_raised out ≡ is_less (time_in line) (Some ms)
+raised_by ms out line is time =
+    ap (λ (t : Option ℕ). is_less t (time_in out)) (ap time_in is) ∙ ap (is_less (time_in line)) time ∙ less_than_max ms (time_in line)
+
+one_raised : (b : Bool) (n : ℕ) (out : List ℕ) → n + length (if b then out ∷ [] else []) ≡ more_if b n
+one_raised true n out = refl
+one_raised false n out = omega arith
+
+raised_more : (outs : List (List ℕ)) (out : List ℕ) → raised_in (outs ++ out ∷ []) ≡ more_if (is_raised out) (raised_in outs)
+raised_more outs out =
+    ap length (filter-append is_raised outs (out ∷ [])) ∙ length-append (filter is_raised outs) (filter is_raised (out ∷ []))
+    ∙ one_raised (is_raised out) (raised_in outs) out
+
 pub gives : (old new : Written) (line : List ℕ) → Writes old new line → Gives old new line
 gives old new line w before now waits lines c =
     let rising = rising_more old.ms (times_of c.outs) (time_in line) (record { rises = c.rises; below = c.below }) in
@@ -62,12 +88,16 @@ gives old new line w before now waits lines c =
       rises = there.rises;
       below = there.below;
       ends = c.ends;
+      own = All-push AddsNoFeed c.outs w.out c.own (λ one. w.one (ap is_one_line (sym w.undone) ∙ one));
+      counts_raised = w.raised ∙ ap (more_if (is_less (time_in line) (Some old.ms))) c.counts_raised
+          ∙ ap (λ (b : Bool). more_if b (raised_in c.outs)) (sym (raised_by old.ms w.out line w.undone w.time)) ∙ sym (raised_more c.outs w.out);
+      counts_added = w.added ∙ c.counts_added;
     }
 
--- an end that is added waits for no time
-pub adds : (before now : Option (List ℕ)) (pending : List ℕ) (ms : ℕ) (waits lines : List (List ℕ)) (line : List ℕ) → IsEnd line
-    → Course before now pending ms waits lines → Course before now pending ms (line ∷ waits) lines
-adds before now pending ms waits lines line is c = record {
+-- an end that is added waits for no time, and is counted
+pub adds : (before now : Option (List ℕ)) (w : Written) (waits lines : List (List ℕ)) (line : List ℕ) → IsEnd line
+    → Course before now w waits lines → Course before now (record w { added = w.added + 1 }) (line ∷ waits) lines
+adds before now w waits lines line is c = record {
   outs = c.outs;
   added = line ∷ c.added;
   done = c.done;
@@ -77,16 +107,36 @@ adds before now pending ms waits lines line is c = record {
   rises = c.rises;
   below = c.below;
   ends = All-cons IsEnd line c.added is c.ends;
+  own = c.own;
+  counts_raised = c.counts_raised;
+  counts_added = ap (λ (n : ℕ). n + 1) c.counts_added ∙ add-one (length c.added);
 }
 
-pub keeps_end : (old new : Written) (line : List ℕ) → Writes old new line → IsEnd line → Keeps old new
-keeps_end old new line w is before now waits lines c =
-    gives old new line w before now waits lines (adds before now old.pending old.ms waits lines line is c)
+-- a line that is written is so whatever is added besides
+writes_added : (old new : Written) (line : List ℕ) → Writes old new line → Writes (record old { added = old.added + 1 }) (record new { added = new.added + 1 }) line
+writes_added old new line w = record {
+  out = w.out;
+  pending = w.pending;
+  undone = w.undone;
+  time = w.time;
+  number = w.number;
+  ms = w.ms;
+  one = w.one;
+  raised = w.raised;
+  added = ap (λ (n : ℕ). n + 1) w.added;
+}
+
+pub keeps_end : (old new : Written) (line : List ℕ) → Adds old new line → IsEnd line → Keeps old new
+keeps_end old new line a is before now waits lines c =
+    let more : Written = record a.mid { added = a.mid.added + 1 } in
+    subst (λ (w : Written). Course before now w waits lines) (sym a.is)
+    (gives (record old { added = old.added + 1 }) more line (writes_added old a.mid line a.writes) before now waits lines
+    (adds before now old waits lines line is c))
 
 -- those that wait may stand in another order
-pub shuffled : (before now : Option (List ℕ)) (pending : List ℕ) (ms : ℕ) (waits other lines : List (List ℕ)) → IsPermutation waits other
-    → Course before now pending ms waits lines → Course before now pending ms other lines
-shuffled before now pending ms waits other lines same c = record {
+pub shuffled : (before now : Option (List ℕ)) (w : Written) (waits other lines : List (List ℕ)) → IsPermutation waits other
+    → Course before now w waits lines → Course before now w other lines
+shuffled before now w waits other lines same c = record {
   outs = c.outs;
   added = c.added;
   done = c.done;
@@ -97,12 +147,15 @@ shuffled before now pending ms waits other lines same c = record {
   rises = c.rises;
   below = c.below;
   ends = c.ends;
+  own = c.own;
+  counts_raised = c.counts_raised;
+  counts_added = c.counts_added;
 }
 
 -- one more line of the log waits
-pub joins : (before now : Option (List ℕ)) (pending : List ℕ) (ms : ℕ) (waits lines : List (List ℕ)) (line : List ℕ)
-    → Course before now pending ms waits lines → Course before now pending ms (line ∷ waits) (lines ++ line ∷ [])
-joins before now pending ms waits lines line c = record {
+pub joins : (before now : Option (List ℕ)) (w : Written) (waits lines : List (List ℕ)) (line : List ℕ)
+    → Course before now w waits lines → Course before now w (line ∷ waits) (lines ++ line ∷ [])
+joins before now w waits lines line c = record {
   outs = c.outs;
   added = c.added;
   done = c.done;
@@ -117,6 +170,9 @@ joins before now pending ms waits lines line c = record {
   rises = c.rises;
   below = c.below;
   ends = c.ends;
+  own = c.own;
+  counts_raised = c.counts_raised;
+  counts_added = c.counts_added;
 }
 
 pub appends_both : (before now later : Option (List ℕ)) (done pending : List ℕ) → Appends before now done → Appends now later pending → Appends before later (done ++ pending)
@@ -126,25 +182,28 @@ appends_both (Some xs) (Some ys) None done pending first second = absurd second
 appends_both (Some xs) (Some ys) (Some zs) done pending first second = second ∙ ap (λ (t : List ℕ). t ++ pending) first ∙ append_assoc xs done pending
 
 -- what waited to be handed on was handed on
-pub flushed : (before now later : Option (List ℕ)) (pending : List ℕ) (ms : ℕ) (waits lines : List (List ℕ)) → Appends now later pending
-    → Course before now pending ms waits lines → Course before later [] ms waits lines
-flushed before now later pending ms waits lines handed c = record {
+pub flushed : (before now later : Option (List ℕ)) (w : Written) (waits lines : List (List ℕ)) → Appends now later w.pending
+    → Course before now w waits lines → Course before later (record w { pending = [] }) waits lines
+flushed before now later w waits lines handed c = record {
   outs = c.outs;
   added = c.added;
-  done = c.done ++ pending;
-  appends = appends_both before now later c.done pending c.appends handed;
-  text = append-nil (c.done ++ pending) ∙ c.text;
+  done = c.done ++ w.pending;
+  appends = appends_both before now later c.done w.pending c.appends handed;
+  text = append-nil (c.done ++ w.pending) ∙ c.text;
   same = c.same;
   rises = c.rises;
   below = c.below;
   ends = c.ends;
+  own = c.own;
+  counts_raised = c.counts_raised;
+  counts_added = c.counts_added;
 }
 
 pub appends_none : (before : Option (List ℕ)) → Appends before before []
 appends_none None = tt
 appends_none (Some xs) = sym (append-nil xs)
 
-pub starts : (before : Option (List ℕ)) → Course before before [] 0 [] []
+pub starts : (before : Option (List ℕ)) → Course before before (record { pending = []; ms = 0; raised = 0; added = 0 }) [] []
 starts before = record {
   outs = [];
   added = [];
@@ -155,6 +214,9 @@ starts before = record {
   rises = IsNonDecreasingBy-short (λ (t : ℕ). t) [] (omega arith);
   below = All-nil (λ (t : ℕ). t ≤ 0);
   ends = All-nil IsEnd;
+  own = All-nil AddsNoFeed;
+  counts_raised = refl;
+  counts_added = refl;
 }
 
 -- ---- lines
@@ -165,14 +227,20 @@ end_pieces node a b c d e n0 n1 n2 n3 n4 n5 e0 e1 e2 e3 e4 e5 =
     rw (e5, e4, e3, e2, e1, e0) (simp append_assoc refl)
 
 pub writes_by : (old new : Written) (time line slice mid after : List ℕ) → slice ≡ time
-    → mid ≡ old.pending ++ written_after slice old.ms line → after ≡ mid ++ 10 ∷ [] → new.pending ≡ after → new.ms ≡ risen old.ms (time_in line)
-    → undone (written_after time old.ms line) ≡ line → StaysAfter old.ms line (written_after time old.ms line) → Writes old new line
-writes_by old new time line slice mid after is one two three ms undo stays = record {
+    → mid ≡ old.pending ++ written_after slice old.ms line → after ≡ mid ++ 10 ∷ []
+    → new ≡ record old { pending = after; ms = new.ms; raised = new.raised }
+    → new.ms ≡ risen old.ms (time_in line) → new.raised ≡ more_if (is_less (time_in line) (Some old.ms)) old.raised
+    → undone (written_after time old.ms line) ≡ line → StaysAfter old.ms line (written_after time old.ms line)
+    → (IsOneLine line → IsOneLine (written_after time old.ms line)) → Writes old new line
+writes_by old new time line slice mid after is one two same ms raised undo stays feed = record {
   out = written_after time old.ms line;
-  pending = three ∙ two ∙ ap (λ (t : List ℕ). t ++ 10 ∷ []) (one ∙ ap (λ (t : List ℕ). old.pending ++ written_after t old.ms line) is)
+  pending = ap (λ (w : Written). w.pending) same ∙ two ∙ ap (λ (t : List ℕ). t ++ 10 ∷ []) (one ∙ ap (λ (t : List ℕ). old.pending ++ written_after t old.ms line) is)
       ∙ append_assoc old.pending (written_after time old.ms line) (10 ∷ []);
   undone = undo;
   time = stays.time;
   number = stays.number;
   ms = ms;
+  one = feed;
+  raised = raised;
+  added = ap (λ (w : Written). w.added) same;
 }

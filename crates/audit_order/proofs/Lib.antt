@@ -1,4 +1,5 @@
 pub mod CourseLemmas
+pub mod FeedLemmas
 pub mod ReadLemmas
 pub mod UndoneLemmas
 pub mod RipeLemmas

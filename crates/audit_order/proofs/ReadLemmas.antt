@@ -12,7 +12,10 @@ use Rattle.audit_lex.specs.History.{History, Step, Byte, lines_of, with_bytes, i
 use Rattle.audit_lex.specs.LineCut.{StandsFor, Cutter, Gives}
 use Rattle.audit_lex.specs.declared.line_cut.Line.{Line}
 use Rattle.order_text.specs.Undo.{undone}
+use Rattle.audit_order.specs.declared.counts.Counts.{Counts}
+use Rattle.audit_order.specs.Lines.{Written}
 use Rattle.audit_order.specs.Course.{Course}
+use Rattle.audit_order.proofs.FeedLemmas.{one_each, given_back_one}
 use Rattle.audit_order.specs.Reads.{Took, TakesAlso, TakesNext, log_lines, Orders}
 use Rattle.audit_order.specs.Taken.{Standing}
 
@@ -97,17 +100,23 @@ ends_log stands bytes left later was now cut cut2 s s2 piece empty log read ende
     }
 
 -- what was written at the end orders the log
-pub orders : (bytes : List ℕ) (before now : Option (List ℕ)) (pending : List ℕ) (ms : ℕ) (waits lines : List (List ℕ)) → pending ≡ [] → waits ≡ []
-    → lines ≡ log_lines bytes → Course before now pending ms waits lines → Orders bytes before now
-orders bytes before now pending ms waits lines flushed none are c = record {
-  outs = c.outs;
-  added = c.added;
-  written = subst (λ (t : List ℕ). Appends before now t) (sym (append-nil c.done) ∙ ap (λ (p : List ℕ). c.done ++ p) (sym flushed) ∙ c.text) c.appends;
-  same = subst (λ (l : List (List ℕ)). IsPermutation (c.added ++ l) (map undone c.outs)) are
-      (subst (λ (w : List (List ℕ)). IsPermutation (c.added ++ lines) (w ++ map undone c.outs)) none c.same);
-  rises = c.rises;
-  ends = c.ends;
-}
+pub orders : (bytes : List ℕ) (before now : Option (List ℕ)) (w : Written) (waits lines : List (List ℕ)) (counts : Counts) → w.pending ≡ [] → waits ≡ []
+    → lines ≡ log_lines bytes → counts.times_raised ≡ w.raised → counts.added_ends ≡ w.added → Course before now w waits lines → Orders bytes before now counts
+orders bytes before now w waits lines counts flushed none are raised added c =
+    let same : IsPermutation (c.added ++ log_lines bytes) (map undone c.outs) =
+    subst (λ (l : List (List ℕ)). IsPermutation (c.added ++ l) (map undone c.outs)) are
+    (subst (λ (v : List (List ℕ)). IsPermutation (c.added ++ lines) (v ++ map undone c.outs)) none c.same) in
+    record {
+      outs = c.outs;
+      added = c.added;
+      written = subst (λ (t : List ℕ). Appends before now t) (sym (append-nil c.done) ∙ ap (λ (p : List ℕ). c.done ++ p) (sym flushed) ∙ c.text) c.appends;
+      same = same;
+      rises = c.rises;
+      ends = c.ends;
+      one = one_each c.outs c.own (given_back_one bytes c.added (map undone c.outs) c.ends same);
+      counts_raised = raised ∙ c.counts_raised;
+      counts_added = added ∙ c.counts_added;
+    }
 
 -- ---- slices, and results
 
@@ -116,6 +125,10 @@ pub joined_slice : (history : History) (piece : List ℕ) (a n : ℕ)
     → (history ++ map Byte (take a piece)) ++ map Byte (take n (take (length piece - a) (drop a piece))) ≡ history ++ map Byte (take (a + n) piece)
 joined_slice history piece a n =
     ap (λ (t : List ℕ). (history ++ map Byte (take a piece)) ++ map Byte (take n t)) (take_rest piece a) ∙ joined_bytes history piece a n
+
+pub on_ok_two : {T E P Q S : Type 0} (r : Result T E) → OnOk r P → OnOk r Q → (P → Q → S) → OnOk r S
+on_ok_two (Ok x) p q f = f p q
+on_ok_two (Err e) p q f = tt
 
 pub on_ok_three : {T E P Q R S : Type 0} (r : Result T E) → OnOk r P → OnOk r Q → OnOk r R → (P → Q → R → S) → OnOk r S
 on_ok_three (Ok x) p q r f = f p q r

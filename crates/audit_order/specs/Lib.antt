@@ -1,9 +1,11 @@
 pub mod Halts
 pub mod Lines
 pub mod Course
+pub mod Tally
 pub mod Taken
 pub mod Sorted
 pub mod Undone
 pub mod Reads
+pub mod Report
 pub mod Statuses
 pub mod Words

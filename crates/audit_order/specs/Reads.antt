@@ -1,5 +1,5 @@
 -- How far a log was read.
-use Rattle.std.specs.Prelude.{◌≡◌, ℕ, false, List, [], ◌∷◌, ◌++◌, Option, None, Some, map, IsPermutation}
+use Rattle.std.specs.Prelude.{◌≡◌, ℕ, false, List, [], ◌∷◌, ◌++◌, Option, None, Some, map, length, IsPermutation}
 use Rattle.std.specs.List.{All}
 use Rattle.std.specs.List.Sorted.{IsNonDecreasing}
 use Rattle.std.specs.Io.KnownBytes.{Appends}
@@ -7,7 +7,9 @@ use Rattle.audit_lex.specs.History.{History, Settle, lines_of, with_bytes}
 use Rattle.audit_lex.specs.LineCut.{Cutter, StandsFor}
 use Rattle.audit_lex.specs.declared.line_cut.Line.{Line}
 use Rattle.order_text.specs.Undo.{undone}
-use Rattle.audit_order.specs.Lines.{text_of, times_of, IsEnd}
+use Rattle.order_text.specs.Laws.{IsOneLine}
+use Rattle.audit_order.specs.declared.counts.Counts.{Counts}
+use Rattle.audit_order.specs.Lines.{text_of, times_of, raised_in, IsEnd}
 use Rattle.audit_order.specs.Taken.{Standing, Stays, Takes}
 
 -- the lines of a history were cut out and taken
@@ -30,15 +32,38 @@ abbrev pub log_lines : List ℕ → List (List ℕ)
 log_lines bytes = lines_of (with_bytes [] bytes ++ Settle ∷ [])
 
 -- What was written orders a log: without what was raised it is the lines of the log and the ends that were added, in some
--- order, none of them lost, doubled or made up; and the times in it don't fall.
-pub record Orders (bytes : List ℕ) (before now : Option (List ℕ)) : Type 0 where
+-- order, none of them lost, doubled or made up; the times in it don't fall; and each of its lines is one line. Raised times
+-- and added ends are counted.
+pub record Orders (bytes : List ℕ) (before now : Option (List ℕ)) (counts : Counts) : Type 0 where
   pub outs : List (List ℕ)
   pub added : List (List ℕ)
   pub written : Appends before now (text_of outs)
   pub same : IsPermutation (added ++ log_lines bytes) (map undone outs)
   pub rises : IsNonDecreasing (times_of outs)
   pub ends : All IsEnd added
+  pub one : All IsOneLine outs
+  pub counts_raised : counts.times_raised ≡ raised_in outs
+  pub counts_added : counts.added_ends ≡ length added
 
 -- What was written is the lines of the log, each as it was before its time was raised, in their order.
 abbrev pub Undoes : List ℕ → (before now : Option (List ℕ)) → Type 0
 Undoes bytes before now = Appends before now (text_of (map undone (log_lines bytes)))
+
+-- What was written is the lines of a log and the ends that were added, in some order: none of them is lost, doubled or made up.
+pub record GivesBack (bytes : List ℕ) (before now : Option (List ℕ)) : Type 0 where
+  pub lines : List (List ℕ)
+  pub added : List (List ℕ)
+  pub written : Appends before now (text_of lines)
+  pub same : IsPermutation (added ++ log_lines bytes) lines
+  pub ends : All IsEnd added
+  pub one : All IsOneLine lines
+
+-- undoing what orders a log gives the lines of the log and the ends that were added
+abbrev pub UndoesOrders : Type 0
+UndoesOrders =
+    (bytes ordered : List ℕ) (before now : Option (List ℕ)) (counts : Counts)
+    → Orders bytes (Some []) (Some ordered) counts → Undoes ordered before now → GivesBack bytes before now
+
+-- a text of such lines has these lines
+abbrev pub TextHasLines : Type 0
+TextHasLines = (lines : List (List ℕ)) → All IsOneLine lines → log_lines (text_of lines) ≡ lines

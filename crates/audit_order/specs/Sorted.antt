@@ -5,11 +5,12 @@ use Rattle.order_queue.specs.declared.waiting.Waiting.{Waiting}
 use Rattle.order_queue.specs.Queue.{texts_of}
 use Rattle.audit_order.specs.Course.{Course}
 use Rattle.audit_order.specs.Taken.{Stays}
+use Rattle.audit_order.specs.declared.counts.Counts.{Counts}
 use Rattle.audit_order.specs.declared.sorter.Sorter.{Sorter}
 
 -- the sorter holds the lines that wait, after these lines of the log
 abbrev pub Sorts : (before now : Option (List ℕ)) → Sorter → List (List ℕ) → Type 0
-Sorts before now s lines = Course before now s.writer.pending s.writer.ms (texts_of s.queue.waits) lines
+Sorts before now s lines = Course before now s.writer (texts_of s.queue.waits) lines
 
 -- a step of the sorter alone loses nothing
 abbrev pub Moves : Sorter → Sorter → Type 0
@@ -24,11 +25,15 @@ Holds old new line =
 abbrev pub Goes : (was : Option (List ℕ)) → Sorter → (now : Option (List ℕ)) → Sorter → Type 0
 Goes was old now new = Stays Sorts was old now new
 
--- the clock is more than 20 seconds past a time, if there is one
-abbrev pub is_past : Option ℕ → ℕ → Bool
-is_past None clock = false
-is_past (Some time) clock = nat_lt (time + 20000) clock
+-- what a sorter has done
+abbrev pub counts_of : Sorter → Counts
+counts_of s = record { added_ends = s.writer.added; events = s.tally.events; late = s.tally.late; times_raised = s.writer.raised }
+
+-- the clock is more than the window past a time, if there is one
+abbrev pub is_past : ℕ → Option ℕ → ℕ → Bool
+is_past window None clock = false
+is_past window (Some time) clock = nat_lt (time + window) clock
 
 -- a line waits whose place is past
-abbrev pub any_is_past : ℕ → List Waiting → Bool
-any_is_past clock waits = list_any (λ item. is_past (Some item.time) clock) waits
+abbrev pub any_is_past : ℕ → ℕ → List Waiting → Bool
+any_is_past window clock waits = list_any (λ item. is_past window (Some item.time) clock) waits

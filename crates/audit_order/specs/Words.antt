@@ -1,11 +1,60 @@
 -- The words of the program.
-use Rattle.std.specs.Prelude.{ℕ, List, [], ◌∷◌, Option, None, Some, codes, if◌then◌else◌}
+--
+-- `--undo` alone, or `--report`, `--window SECONDS` and `--memory MB`, each of which may be left out, in this order.
+use Rattle.std.specs.Prelude.{ℕ, ◌*◌, Bool, true, false, List, [], ◌∷◌, Option, None, Some, codes, option_map, if◌then◌else◌}
+use Rattle.std.specs.Option.{option_and_then}
 use Rattle.std.specs.Str.{bytes_eq}
+use Rattle.audit_lex.specs.Values.{dec32_of}
+use Rattle.audit_order.specs.declared.bounds.Bounds.{Bounds}
 use Rattle.audit_order.specs.declared.words.Job.{Job}
 use Rattle.audit_order.specs.declared.words.Job.TheVariants as job
 
--- no words order a log, and `--undo` alone undoes one
-abbrev pub job_of : List (List ℕ) → Option Job
-job_of [] = Some job.Order
-job_of (word ∷ []) = if bytes_eq word (codes "--undo") then Some job.Undo else None
-job_of (word ∷ other ∷ more) = None
+-- words
+abbrev pub Words : Type 0
+Words = List (List ℕ)
+
+-- whether a word is this one
+abbrev pub is_word : List ℕ → List ℕ → Bool
+is_word word text = bytes_eq word text
+
+-- the number that the first word spells, and the words after that
+abbrev pub number_first : Words → Option (ℕ × Words)
+number_first [] = None
+number_first (word ∷ rest) = option_map (λ n. (n, rest)) (dec32_of word)
+
+-- the number after a switch, if the words begin with the switch, else the usual one; and the words after that
+abbrev pub switch_value : List ℕ → ℕ → Words → Option (ℕ × Words)
+switch_value name usual [] = Some (usual, [])
+switch_value name usual (word ∷ rest) = if is_word word name then number_first rest else Some (usual, word ∷ rest)
+
+-- bounds of so many seconds and so many units of 2^20 bytes
+abbrev pub bounds_of : ℕ → ℕ → Bounds
+bounds_of seconds megabytes = record { window = seconds * 1000; memory = megabytes * 1048576 }
+
+-- a job that orders, if no words are left
+abbrev pub at_end : Bool → ℕ → ℕ × Words → Option Job
+at_end report seconds (megabytes, []) = Some (job.Order (bounds_of seconds megabytes) report)
+at_end report seconds (megabytes, word ∷ rest) = None
+
+-- a job that orders, by the words from the switch of the memory on, which is 64 MiB without it
+abbrev pub with_memory : Bool → ℕ × Words → Option Job
+with_memory report found = option_and_then (at_end report found.0) (switch_value (codes "--memory") 64 found.1)
+
+-- a job that orders, by the words from the switch of the window on, which is 20 seconds without it
+abbrev pub with_window : Bool → Words → Option Job
+with_window report words = option_and_then (with_memory report) (switch_value (codes "--window") 20 words)
+
+-- whether the words ask that a log is undone
+abbrev pub is_undo : Words → Bool
+is_undo [] = false
+is_undo (word ∷ []) = is_word word (codes "--undo")
+is_undo (word ∷ other ∷ rest) = false
+
+-- a job that orders
+abbrev pub order_of : Words → Option Job
+order_of [] = with_window false []
+order_of (word ∷ rest) = if is_word word (codes "--report") then with_window true rest else with_window false (word ∷ rest)
+
+-- the job that the words name
+abbrev pub job_of : Words → Option Job
+job_of words = if is_undo words then Some job.Undo else order_of words

@@ -1,9 +1,9 @@
 //! The line that ends an event.
-ghost use Rattle.std.specs.Prelude.{◌≡◌, IfOk, IfSome};
-ghost use Rattle.audit_order.specs.Lines.{IsEnd};
+ghost use Rattle.std.specs.Prelude.{◌≡◌, IfOk};
+ghost use Rattle.audit_order.specs.Lines.{IsEnd, SpellsEnd};
 
 use flow_base::{Bytes, NoMemory};
-use order_text::Stamp;
+use order_text::{Stamp, is_one_line};
 use std::alloc::Global;
 use std::marker::Model;
 
@@ -39,15 +39,26 @@ impl End {
             None => Ok(None),
             Some(node) => {
                 let line = end_line(alloc, node, stamp.time, stamp.serial)?;
-                Ok(Some(End { line }))
+                Ok(end_of(line))
             }
         }
     }
 }
 
+// An end that is one line, as each is whose stamp is of a line.
+fn end_of(line: Bytes) -> Option<End>
+    requires { SpellsEnd line }
+{
+    if is_one_line(line.as_slice()) {
+        Some(End { line })
+    } else {
+        None
+    }
+}
+
 // The line that ends an event of this node, time and serial number.
 fn end_line(alloc: Global, node: &[u8], time: &[u8], serial: &[u8]) -> Result<Bytes, NoMemory>
-    ensures { IfOk result IsEnd }
+    ensures { IfOk result SpellsEnd }
 {
     let mut line = Bytes::from_slice(alloc, node)?;
     line.append(b"type=EOE msg=audit(")?;

@@ -1,6 +1,6 @@
 //! An audit log in the order of effects.
 //!
-//!     audit_order < LOG > ORDERED
+//!     audit_order [--report] [--window SECONDS] [--memory MB] < LOG > ORDERED
 //!     audit_order --undo < ORDERED > LINES
 //!
 //! A record's time is its call's entry, and its serial number is given when the call returns. So a read that waited
@@ -9,11 +9,14 @@
 //! source and sink, and its contract is the theorem. `undo_run` writes the lines as they were.
 #![tactic(auto)]
 
-ghost use Rattle.std.specs.Prelude.{◌≡◌, ◌⊎◌, None, IfErr, map, string_bytes};
+ghost use Rattle.std.specs.Prelude.{◌≡◌, ◌≢◌, ◌⊎◌, None, IfErr, map, string_bytes};
 ghost use Rattle.audit_order.specs.Words.{job_of};
 
+mod bounds;
+mod counts;
 mod end;
 mod halt;
+mod laws;
 mod log;
 mod release;
 mod run;
@@ -26,6 +29,9 @@ mod undo;
 mod words;
 mod writer;
 
+pub use bounds::Bounds;
+pub use counts::{Counts, report};
+pub use laws::{ordered_logs_are_undone, written_lines_are_lines};
 use outside::put_all;
 use outside_real::{Reading, Writing};
 pub use run::{order_run, undo_run};
@@ -49,13 +55,46 @@ fn run_words(rt: &HostRuntime, words: &[String]) -> Status
     ensures bad_words { result ≡ Status.BadWords → job_of (map string_bytes words.now) ≡ None }
     ensures refuses { job_of (map string_bytes words.now) ≡ None → result ≡ Status.BadWords }
 {
-    let mut log = Reading::new(rt.stdin());
-    let mut out = Writing::new(rt.stdout());
     match job_of(words) {
         None => Status::BadWords,
-        Some(Job::Order) => order_run(rt.alloc(), &mut log, &mut out),
-        Some(Job::Undo) => undo_run(rt.alloc(), &mut log, &mut out),
+        Some(Job::Order { bounds, report }) => order_log(rt, bounds, report),
+        Some(Job::Undo) => undo_log(rt),
     }
+}
+
+// Orders a log, and says what was done if that is asked for.
+fn order_log(rt: &HostRuntime, bounds: Bounds, reports: bool) -> Status
+    ensures { result ≢ Status.BadWords }
+{
+    let mut log = Reading::new(rt.stdin());
+    let mut out = Writing::new(rt.stdout());
+    let mut counts = Counts::new();
+    let status = order_run(rt.alloc(), bounds, &mut log, &mut out, &mut counts);
+    if status != Status::Done || !reports {
+        return status;
+    }
+    say_report(rt, counts)
+}
+
+// Says on standard error what was done.
+fn say_report(rt: &HostRuntime, counts: Counts) -> Status
+    ensures { result ≢ Status.BadWords }
+{
+    let Ok(line) = report(rt.alloc(), counts) else {
+        return Status::NoMemory;
+    };
+    let mut err = Writing::new(rt.stderr());
+    let _ = put_all(&mut err, line.as_slice());
+    Status::Done
+}
+
+// Undoes an ordered log.
+fn undo_log(rt: &HostRuntime) -> Status
+    ensures { result ≢ Status.BadWords }
+{
+    let mut log = Reading::new(rt.stdin());
+    let mut out = Writing::new(rt.stdout());
+    undo_run(rt.alloc(), &mut log, &mut out)
 }
 
 // The words after the program's own name. Words that aren't UTF-8 name no job.

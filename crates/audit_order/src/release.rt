@@ -1,5 +1,5 @@
 //! Lines that are written since their turn has come.
-ghost use Rattle.std.specs.Prelude.{◌≡◌, ◌-◌, ◌≤◌, ◌^◌, ◌∷◌, [], false, length, OnOk, IfErr};
+ghost use Rattle.std.specs.Prelude.{◌≡◌, ◌+◌, ◌-◌, ◌<◌, ◌≤◌, ◌^◌, ◌∷◌, [], false, length, OnOk, IfErr};
 ghost use Rattle.outside.specs.Cause.{Rose};
 ghost use Rattle.audit_order.specs.Halts.{HasCauses, GoesUp};
 ghost use Rattle.audit_order.specs.Sorted.{Sorts, Goes, any_is_past};
@@ -16,6 +16,7 @@ fn flush_much<O: Sink>(sorter: &mut Sorter, sink: &mut O) -> Result<(), Halt>
     ensures goes { OnOk result
         (Goes (O.written sink.old) sorter.old (O.written sink.new) sorter.new) }
     ensures waits { sorter.new.queue ≡ sorter.old.queue }
+    ensures bounds { sorter.new.bounds ≡ sorter.old.bounds }
     ensures causes { IfErr result (HasCauses ⊥
         (Rose (O.faults sink.old) (O.faults sink.new) (O.spent sink.new))) }
     ensures counts { GoesUp
@@ -33,6 +34,7 @@ fn release_least<O: Sink>(sorter: &mut Sorter, sink: &mut O) -> Result<(), Halt>
         (Goes (O.written sink.old) sorter.old (O.written sink.new) sorter.new) }
     ensures fewer { OnOk result
         (length sorter.new.queue.waits ≡ length sorter.old.queue.waits - 1) }
+    ensures bounds { sorter.new.bounds ≡ sorter.old.bounds }
     ensures causes { IfErr result (HasCauses ⊥
         (Rose (O.faults sink.old) (O.faults sink.new) (O.spent sink.new))) }
     ensures counts { GoesUp
@@ -46,13 +48,16 @@ fn release_least<O: Sink>(sorter: &mut Sorter, sink: &mut O) -> Result<(), Halt>
 fn make_room<O: Sink>(sorter: &mut Sorter, sink: &mut O, more: u64) -> Result<(), Halt>
     ensures goes { OnOk result
         (Goes (O.written sink.old) sorter.old (O.written sink.new) sorter.new) }
-    ensures room { OnOk result (sorter.new.queue.bytes ≤ 2 ^ 26) }
+    ensures room { OnOk result (sorter.new.queue.bytes ≤ sorter.old.bounds.memory) }
+    ensures fits { OnOk result (sorter.new.queue.bytes + more < 2 ^ 64) }
+    ensures bounds { sorter.new.bounds ≡ sorter.old.bounds }
     ensures causes { IfErr result (HasCauses ⊥
         (Rose (O.faults sink.old) (O.faults sink.new) (O.spent sink.new))) }
     ensures counts { GoesUp
         (O.faults sink.old) (O.faults sink.new) (O.spent sink.old) (O.spent sink.new) }
 {
-    while is_over(&sorter.queue, more) {
+    let memory = sorter.bounds.memory;
+    while is_over(&sorter.queue, memory, more) {
         release_least(sorter, sink)?;
     }
     Ok(())
@@ -63,13 +68,16 @@ fn release_past<O: Sink>(sorter: &mut Sorter, sink: &mut O) -> Result<(), Halt>
     ensures goes { OnOk result
         (Goes (O.written sink.old) sorter.old (O.written sink.new) sorter.new) }
     ensures past { OnOk result
-        (any_is_past sorter.new.places.clock sorter.new.queue.waits ≡ false) }
+        (any_is_past sorter.old.bounds.window
+        sorter.new.places.clock sorter.new.queue.waits ≡ false) }
+    ensures bounds { sorter.new.bounds ≡ sorter.old.bounds }
     ensures causes { IfErr result (HasCauses ⊥
         (Rose (O.faults sink.old) (O.faults sink.new) (O.spent sink.new))) }
     ensures counts { GoesUp
         (O.faults sink.old) (O.faults sink.new) (O.spent sink.old) (O.spent sink.new) }
 {
-    while is_ripe(sorter) {
+    let window = sorter.bounds.window;
+    while is_ripe(sorter, window) {
         release_least(sorter, sink)?;
     }
     Ok(())
@@ -93,6 +101,7 @@ fn release_all<O: Sink>(sorter: &mut Sorter, sink: &mut O) -> Result<(), Halt>
     ensures goes { OnOk result
         (Goes (O.written sink.old) sorter.old (O.written sink.new) sorter.new) }
     ensures none { OnOk result (sorter.new.queue.waits ≡ []) }
+    ensures bounds { sorter.new.bounds ≡ sorter.old.bounds }
     ensures causes { IfErr result (HasCauses ⊥
         (Rose (O.faults sink.old) (O.faults sink.new) (O.spent sink.new))) }
     ensures counts { GoesUp
@@ -108,6 +117,7 @@ fn release_all<O: Sink>(sorter: &mut Sorter, sink: &mut O) -> Result<(), Halt>
 fn release_before<O: Sink>(sorter: &mut Sorter, sink: &mut O, starts: bool) -> Result<(), Halt>
     ensures goes { OnOk result
         (Goes (O.written sink.old) sorter.old (O.written sink.new) sorter.new) }
+    ensures bounds { sorter.new.bounds ≡ sorter.old.bounds }
     ensures causes { IfErr result (HasCauses ⊥
         (Rose (O.faults sink.old) (O.faults sink.new) (O.spent sink.new))) }
     ensures counts { GoesUp
@@ -125,6 +135,7 @@ pub fn finish<O: Sink>(sorter: &mut Sorter, sink: &mut O) -> Result<(), Halt>
         (Goes (O.written sink.old) sorter.old (O.written sink.new) sorter.new) }
     ensures none { OnOk result (sorter.new.queue.waits ≡ []) }
     ensures written { OnOk result (sorter.new.writer.pending ≡ []) }
+    ensures bounds { sorter.new.bounds ≡ sorter.old.bounds }
     ensures causes { IfErr result (HasCauses ⊥
         (Rose (O.faults sink.old) (O.faults sink.new) (O.spent sink.new))) }
     ensures counts { GoesUp

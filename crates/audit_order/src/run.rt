@@ -5,6 +5,8 @@ ghost use Rattle.audit_order.specs.Halts.{HasCauses, GoesUp};
 ghost use Rattle.audit_order.specs.Statuses.{StatusCause, AtDone};
 ghost use Rattle.audit_order.specs.Reads.{Orders, Undoes};
 
+use crate::bounds::Bounds;
+use crate::counts::Counts;
 use crate::halt::Halt;
 use crate::log::{MOST, take_log, take_tail};
 use crate::release::finish;
@@ -27,9 +29,15 @@ fn room_for_a_read(alloc: Global) -> Result<Vec<u8>, NoMemory>
 }
 
 // Orders a log.
-fn order<L: Source, O: Sink>(alloc: Global, log: &mut L, out: &mut O) -> Result<(), Halt>
+fn order<L: Source, O: Sink>(
+    alloc: Global,
+    bounds: Bounds,
+    log: &mut L,
+    out: &mut O,
+    counts: &mut Counts,
+) -> Result<(), Halt>
     ensures ordered { (bytes : List ℕ) → L.left log.old ≡ Some bytes
-        → OnOk result (Orders bytes (O.written out.old) (O.written out.new)) }
+        → OnOk result (Orders bytes (O.written out.old) (O.written out.new) counts.new) }
     ensures whole { (bytes : List ℕ) → L.left log.old ≡ Some bytes
         → OnOk result (L.left log.new ≡ Some []) }
     ensures causes { IfErr result (HasCauses
@@ -38,26 +46,34 @@ fn order<L: Source, O: Sink>(alloc: Global, log: &mut L, out: &mut O) -> Result<
 {
     let mut piece = room_for_a_read(alloc)?;
     let mut cut = LineCut::new(alloc, MOST);
-    let mut sorter = Sorter::new(alloc)?;
+    let mut sorter = Sorter::new(alloc, bounds)?;
     take_log(&mut cut, &mut sorter, log, out, piece.as_mut_slice())?;
     take_tail(&mut cut, &mut sorter, out)?;
-    finish(&mut sorter, out)
+    finish(&mut sorter, out)?;
+    *counts = sorter.counts();
+    Ok(())
 }
 
 /// Writes the lines of a log in the order of effects.
 ///
 /// At `Done` what was written, without what was raised, is the lines of the log and the ends that were added, in some
-/// order: nothing is lost, doubled or made up. The times in it never fall.
-pub fn order_run<L: Source, O: Sink>(alloc: Global, log: &mut L, out: &mut O) -> Status
+/// order: nothing is lost, doubled or made up. The times in it never fall. Raised times and added ends are counted.
+pub fn order_run<L: Source, O: Sink>(
+    alloc: Global,
+    bounds: Bounds,
+    log: &mut L,
+    out: &mut O,
+    counts: &mut Counts,
+) -> Status
     ensures ordered { (bytes : List ℕ) → L.left log.old ≡ Some bytes
-        → AtDone result (Orders bytes (O.written out.old) (O.written out.new)) }
+        → AtDone result (Orders bytes (O.written out.old) (O.written out.new) counts.new) }
     ensures whole { (bytes : List ℕ) → L.left log.old ≡ Some bytes
         → AtDone result (L.left log.new ≡ Some []) }
     ensures causes { StatusCause
         (Rose (L.faults log.old) (L.faults log.new) (L.spent log.new))
         (Rose (O.faults out.old) (O.faults out.new) (O.spent out.new)) result }
 {
-    status_of(order(alloc, log, out))
+    status_of(order(alloc, bounds, log, out, counts))
 }
 
 // Undoes the lines of a log.

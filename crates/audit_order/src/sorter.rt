@@ -1,18 +1,18 @@
 //! The sorter: lines that wait for their turn, and what is written of them.
-ghost use Rattle.std.specs.Prelude.{◌≡◌, ◌-◌, ◌<◌, ◌≤◌, ◌^◌, [], List, ℕ, Option, true, false, length, IfOk, OnOk};
+ghost use Rattle.std.specs.Prelude.{◌≡◌, ◌+◌, ◌-◌, ◌<◌, ◌≤◌, ◌^◌, [], List, ℕ, Option, true, false, length, IfOk, OnOk};
 ghost use Rattle.audit_order.specs.Course.{Gives, Keeps};
-ghost use Rattle.audit_order.specs.Sorted.{Sorts, Moves, Holds, is_past, any_is_past};
+ghost use Rattle.audit_order.specs.Sorted.{Sorts, Moves, Holds, counts_of, is_past, any_is_past};
+ghost use Rattle.audit_order.specs.Tally.{is_of, tally_with};
 
+use crate::bounds::Bounds;
+use crate::counts::{Counts, Tally};
 use crate::end::{End, ends_event};
 use crate::writer::Writer;
 use flow_base::{Bytes, NoMemory};
-use order_place::{Place, Places, WINDOW};
+use order_place::{Place, Places};
 use order_queue::{Queue, Waiting};
 use order_text::read_stamp;
 use std::alloc::Global;
-
-/// The bytes of lines that may wait. Beyond them the least place is written at once.
-pub const MEMORY: u64 = 64 << 20;
 
 /// The event whose lines are written now, and the line that ends it, if it is a call's event without an end so far.
 #[derive(Drop)]
@@ -31,13 +31,19 @@ pub struct Sorter {
     pub queue: Queue,
     pub writer: Writer,
     pub turn: Turn,
+    pub tally: Tally,
     pub number: u64,
+    pub bounds: Bounds,
 }
 
 impl Sorter {
     /// A sorter that has seen nothing.
-    pub fn new(alloc: Global) -> Result<Sorter, NoMemory>
-        ensures { IfOk result (λ made. (before : Option (List ℕ)) → Sorts before before made []) }
+    pub fn new(alloc: Global, bounds: Bounds) -> Result<Sorter, NoMemory>
+        ensures nothing { IfOk result (λ made.
+            (before : Option (List ℕ)) → Sorts before before made []) }
+        ensures bounds { IfOk result (λ made. made.bounds ≡ bounds) }
+        ensures tally { IfOk result (λ made.
+            made.tally ≡ record { events = 0; late = 0; latest = 0 }) }
     {
         let writer = Writer::new(alloc)?;
         Ok(Sorter {
@@ -51,30 +57,54 @@ impl Sorter {
                 node: Bytes::new(alloc),
                 end: None,
             },
+            tally: Tally {
+                events: 0,
+                late: 0,
+                latest: 0,
+            },
             number: 0,
+            bounds,
         })
+    }
+
+    /// What was done.
+    pub fn counts(&self) -> Counts
+        ensures { result ≡ counts_of self.now }
+    {
+        Counts {
+            added_ends: self.writer.added(),
+            events: self.tally.events,
+            late: self.tally.late,
+            times_raised: self.writer.raised(),
+        }
     }
 }
 
 /// Writes the line that ends the event whose lines are written, if it has no end so far.
 pub fn write_end(sorter: &mut Sorter) -> Result<(), NoMemory>
     ensures keeps { OnOk result (Keeps sorter.old.writer sorter.new.writer) }
+    ensures tally { sorter.new.tally ≡ sorter.old.tally }
     ensures waits { sorter.new.queue ≡ sorter.old.queue }
+    ensures bounds { sorter.new.bounds ≡ sorter.old.bounds }
 {
     match sorter.turn.end.take() {
         None => Ok(()),
-        Some(end) => sorter.writer.write(end.line()),
+        Some(end) => sorter.writer.write_added(end.line()),
     }
 }
 
-// Another event's lines are written from here on: the one before is ended.
+// If the line is of another event than those before it, that one is ended, and the line's own is counted.
 fn turn_to(sorter: &mut Sorter, item: &Waiting) -> Result<(), NoMemory>
     ensures keeps { OnOk result (Keeps sorter.old.writer sorter.new.writer) }
+    ensures counts { OnOk result (sorter.new.tally
+        ≡ tally_with sorter.old.turn sorter.old.tally item.now) }
     ensures waits { sorter.new.queue ≡ sorter.old.queue }
+    ensures bounds { sorter.new.bounds ≡ sorter.old.bounds }
 {
     if is_of(&sorter.turn, item) {
         return Ok(());
     }
+    sorter.tally.note(item.time)?;
     write_end(sorter)?;
     let before = sorter.turn.node.take();
     sorter
@@ -87,7 +117,9 @@ fn turn_to(sorter: &mut Sorter, item: &Waiting) -> Result<(), NoMemory>
 }
 
 // Whether a line is of the event whose lines are written.
-fn is_of(turn: &Turn, item: &Waiting) -> bool {
+fn is_of(turn: &Turn, item: &Waiting) -> bool
+    ensures { result ≡ is_of turn.now item.now }
+{
     turn.ms == item.ms && turn.serial == item.serial && turn.node == item.node
 }
 
@@ -106,7 +138,10 @@ fn note_end(turn: &mut Turn, alloc: Global, line: &[u8]) -> Result<(), NoMemory>
 // Writes a line that waits no longer.
 fn write_item(sorter: &mut Sorter, item: &Waiting) -> Result<(), NoMemory>
     ensures gives { OnOk result (Gives sorter.old.writer sorter.new.writer item.now.line) }
+    ensures counts { OnOk result (sorter.new.tally
+        ≡ tally_with sorter.old.turn sorter.old.tally item.now) }
     ensures waits { sorter.new.queue ≡ sorter.old.queue }
+    ensures bounds { sorter.new.bounds ≡ sorter.old.bounds }
 {
     turn_to(sorter, item)?;
     note_end(&mut sorter.turn, sorter.alloc, item.line.as_slice())?;
@@ -118,6 +153,7 @@ pub fn write_least(sorter: &mut Sorter) -> Result<(), NoMemory>
     ensures moves { OnOk result (Moves sorter.old sorter.new) }
     ensures fewer { OnOk result
         (length sorter.new.queue.waits ≡ length sorter.old.queue.waits - 1) }
+    ensures bounds { sorter.new.bounds ≡ sorter.old.bounds }
 {
     match sorter.queue.pop() {
         None => Ok(()),
@@ -127,9 +163,9 @@ pub fn write_least(sorter: &mut Sorter) -> Result<(), NoMemory>
 
 /// Holds a line of this place.
 pub fn hold(sorter: &mut Sorter, place: Place, line: Bytes) -> Result<(), NoMemory>
-    requires room { sorter.old.queue.bytes ≤ 2 ^ 26 }
-    requires short { length line ≤ 2 ^ 60 }
+    requires fits { sorter.old.queue.bytes + length line < 2 ^ 64 }
     ensures holds { OnOk result (Holds sorter.old sorter.new line) }
+    ensures bounds { sorter.new.bounds ≡ sorter.old.bounds }
 {
     let number = sorter.number;
     sorter.number = number.wrapping_add(1);
@@ -145,27 +181,28 @@ pub fn hold(sorter: &mut Sorter, place: Place, line: Bytes) -> Result<(), NoMemo
 }
 
 /// Whether too many bytes wait with so many more.
-pub fn is_over(queue: &Queue, more: u64) -> bool
+pub fn is_over(queue: &Queue, memory: u64, more: u64) -> bool
     ensures some { result ≡ true → 0 < length queue.now.waits }
-    ensures room { result ≡ false → queue.now.bytes ≤ 2 ^ 26 }
+    ensures room { result ≡ false → queue.now.bytes ≤ memory }
+    ensures fits { result ≡ false → queue.now.bytes + more < 2 ^ 64 }
 {
-    queue.len() > 0 && queue.bytes() > MEMORY - more.min(MEMORY)
+    queue.len() > 0 && queue.bytes() > memory - more.min(memory)
 }
 
 /// Whether a line waits whose place is more than the window past.
-pub fn is_ripe(sorter: &Sorter) -> bool
+pub fn is_ripe(sorter: &Sorter, window: u64) -> bool
     ensures some { result ≡ true → 0 < length sorter.now.queue.waits }
-    ensures past { result ≡ any_is_past sorter.now.places.clock sorter.now.queue.waits }
+    ensures past { result ≡ any_is_past window sorter.now.places.clock sorter.now.queue.waits }
 {
-    is_past(sorter.queue.least_time(), sorter.places.clock())
+    is_past(window, sorter.queue.least_time(), sorter.places.clock())
 }
 
 // Whether the time is past a place by more than the window.
-fn is_past(place: Option<u64>, clock: u64) -> bool
-    ensures { result ≡ is_past place clock }
+fn is_past(window: u64, place: Option<u64>, clock: u64) -> bool
+    ensures { result ≡ is_past window place clock }
 {
     match place {
-        Some(time) => time.saturating_add(WINDOW) < clock,
+        Some(time) => time.saturating_add(window) < clock,
         None => false,
     }
 }

@@ -21,6 +21,17 @@ type=EOE msg=audit(1.010:5): \x1dWAS={ audit(1.000:5) }\n\
 type=SYSCALL msg=audit(1.010:7): arch=c000003e syscall=1 a0=4 a1=0 a2=1 a3=0 ppid=1 pid=10\x1dWAS={ audit(1.006:7) }\n\
 type=EOE msg=audit(1.010:7): \x1dWAS={ audit(1.006:7) }\n";
 
+// The same, if no bytes may wait: the write of the third line comes after a later one.
+const WAITED_AT_ONCE: &[u8] =
+    b"type=SYSCALL msg=audit(1.010:4): arch=c000003e syscall=1 a0=4 a1=0 a2=1 a3=0 ppid=1 pid=30\n\
+type=EOE msg=audit(1.010:4): \n\
+type=SYSCALL msg=audit(1.010:5): arch=c000003e syscall=0 a0=3 a1=0 a2=1 a3=0 ppid=1 pid=10\x1dWAS={ audit(1.000:5) }\n\
+type=EOE msg=audit(1.010:5): \x1dWAS={ audit(1.000:5) }\n\
+type=SYSCALL msg=audit(1.010:6): arch=c000003e syscall=1 a0=4 a1=0 a2=1 a3=0 ppid=1 pid=20\x1dWAS={ audit(1.005:6) }\n\
+type=EOE msg=audit(1.010:6): \x1dWAS={ audit(1.005:6) }\n\
+type=SYSCALL msg=audit(1.010:7): arch=c000003e syscall=1 a0=4 a1=0 a2=1 a3=0 ppid=1 pid=10\x1dWAS={ audit(1.006:7) }\n\
+type=EOE msg=audit(1.010:7): \x1dWAS={ audit(1.006:7) }\n";
+
 const WAITED_UNDONE: &[u8] =
     b"type=SYSCALL msg=audit(1.005:6): arch=c000003e syscall=1 a0=4 a1=0 a2=1 a3=0 ppid=1 pid=20\n\
 type=EOE msg=audit(1.005:6): \n\
@@ -104,14 +115,21 @@ fn calls(rt: &HostRuntime, first: bool) -> Result<List<u64>, Fail> {
     Ok(list)
 }
 
-// How a run of a job ends, and what it writes.
-fn run(rt: &HostRuntime, job: Job, log: &[u8]) -> Result<(Status, Bytes), Fail> {
+// How the ordering of a log ends, what it writes, and what it counts.
+fn order(rt: &HostRuntime, bounds: Bounds, log: &[u8]) -> Result<(Status, Bytes, Counts), Fail> {
     let mut log = MemSource::new(Bytes::from_slice(rt.alloc(), log)?, calls(rt, false)?);
     let mut out = MemSink::new(Bytes::new(rt.alloc()), calls(rt, false)?);
-    let status = match job {
-        Job::Order => order_run(rt.alloc(), &mut log, &mut out),
-        Job::Undo => undo_run(rt.alloc(), &mut log, &mut out),
-    };
+    let mut counts = Counts::new();
+    let status = order_run(rt.alloc(), bounds, &mut log, &mut out, &mut counts);
+    let written = Bytes::from_slice(rt.alloc(), out.written())?;
+    Ok((status, written, counts))
+}
+
+// How the undoing of a log ends, and what it writes.
+fn undo(rt: &HostRuntime, log: &[u8]) -> Result<(Status, Bytes), Fail> {
+    let mut log = MemSource::new(Bytes::from_slice(rt.alloc(), log)?, calls(rt, false)?);
+    let mut out = MemSink::new(Bytes::new(rt.alloc()), calls(rt, false)?);
+    let status = undo_run(rt.alloc(), &mut log, &mut out);
     Ok((status, Bytes::from_slice(rt.alloc(), out.written())?))
 }
 
@@ -127,10 +145,20 @@ fn lines_are_written_in_the_order_of_effects(rt: HostRuntime) -> Result<(), Fail
         (BLANK, BLANK_ORDERED),
     ];
     for (log, text) in rows {
-        let (ended, written) = run(&rt, Job::Order, log)?;
+        let (ended, written, _) = order(&rt, Bounds::of(20, 64), log)?;
         assert_eq!(rt; ended, Status::Done);
         assert_eq!(rt; written.as_slice(), text);
     }
+    Ok(())
+}
+
+#[test]
+fn lines_that_wait_for_less_are_late(rt: HostRuntime) -> Result<(), Fail> {
+    let (_, written, counts) = order(&rt, Bounds::of(20, 0), WAITED)?;
+    assert_eq!(rt; written.as_slice(), WAITED_AT_ONCE);
+    let line = report(rt.alloc(), counts)?;
+    let text = b"{\"added_ends\":4,\"events\":4,\"late\":1,\"times_raised\":6}\n";
+    assert_eq!(rt; line.as_slice(), text.as_slice());
     Ok(())
 }
 
@@ -144,7 +172,7 @@ fn lines_are_undone_in_their_order(rt: HostRuntime) -> Result<(), Fail> {
         (TWICE, ONCE),
     ];
     for (log, text) in rows {
-        let (ended, written) = run(&rt, Job::Undo, log)?;
+        let (ended, written) = undo(&rt, log)?;
         assert_eq!(rt; ended, Status::Done);
         assert_eq!(rt; written.as_slice(), text);
     }
@@ -159,7 +187,15 @@ fn a_fault_of_an_end_is_named(rt: HostRuntime) -> Result<(), Fail> {
     ] {
         let mut log = MemSource::new(Bytes::from_slice(rt.alloc(), b"x\n")?, calls(&rt, read)?);
         let mut out = MemSink::new(Bytes::new(rt.alloc()), calls(&rt, write)?);
-        assert_eq!(rt; order_run(rt.alloc(), &mut log, &mut out), status);
+        let mut counts = Counts::new();
+        let ended = order_run(
+            rt.alloc(),
+            Bounds::of(20, 64),
+            &mut log,
+            &mut out,
+            &mut counts,
+        );
+        assert_eq!(rt; ended, status);
     }
     Ok(())
 }

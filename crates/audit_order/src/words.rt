@@ -1,12 +1,18 @@
 //! The words of the program, and what they ask for.
-ghost use Rattle.std.specs.Prelude.{◌≡◌, ◌∷◌, [], map, string_bytes};
-ghost use Rattle.audit_order.specs.Words.{job_of};
+//!
+//!     audit_order [--report] [--window SECONDS] [--memory MB]
+//!     audit_order --undo
+ghost use Rattle.std.specs.Prelude.{◌≡◌, map, option_map, string_bytes};
+ghost use Rattle.audit_order.specs.Words.{job_of, is_undo, order_of, with_window, with_memory, switch_value, number_first, is_word};
+
+use crate::bounds::{Bounds, MEGABYTES, SECONDS};
+use audit_lex::dec32;
 
 /// What the words ask for.
 #[derive(Clone, Copy, Debug, PartialEq, Eq)]
 pub enum Job {
-    /// Write the lines of a log in the order of effects.
-    Order,
+    /// Write the lines of a log in the order of effects, within these bounds, and report what was done if that is asked for.
+    Order { bounds: Bounds, report: bool },
     /// Write the lines of an ordered log as they were before their times were raised.
     Undo,
 }
@@ -15,20 +21,80 @@ pub enum Job {
 pub fn job_of(words: &[String]) -> Option<Job>
     ensures { result ≡ job_of (map string_bytes words.now) }
 {
+    if is_undo(words) {
+        return Some(Job::Undo);
+    }
+    order_of(words)
+}
+
+// Whether the words ask that a log is undone.
+fn is_undo(words: &[String]) -> bool
+    ensures { result ≡ is_undo (map string_bytes words.now) }
+{
     match words {
-        [] => Some(Job::Order),
-        [word] => job_named(word.as_str().as_bytes()),
-        _ => None,
+        [word] => is_word(word, b"--undo"),
+        _ => false,
     }
 }
 
-// The job that one word names.
-fn job_named(word: &[u8]) -> Option<Job>
-    ensures { result ≡ job_of (word.now ∷ []) }
+// A job that orders.
+fn order_of(words: &[String]) -> Option<Job>
+    ensures { result ≡ order_of (map string_bytes words.now) }
 {
-    if word == b"--undo".as_slice() {
-        Some(Job::Undo)
-    } else {
-        None
+    match words {
+        [word, rest @ ..] if is_word(word, b"--report") => with_window(true, rest),
+        _ => with_window(false, words),
     }
+}
+
+// A job that orders, by the words from the switch of the window on.
+fn with_window(report: bool, words: &[String]) -> Option<Job>
+    ensures { result ≡ with_window report (map string_bytes words.now) }
+{
+    let (seconds, rest) = switch_value(b"--window", SECONDS, words)?;
+    with_memory(report, seconds, rest)
+}
+
+// A job that orders, by the words from the switch of the memory on.
+fn with_memory(report: bool, seconds: u32, words: &[String]) -> Option<Job>
+    ensures { result ≡ with_memory report (seconds, map string_bytes words.now) }
+{
+    let (megabytes, rest) = switch_value(b"--memory", MEGABYTES, words)?;
+    if !rest.is_empty() {
+        return None;
+    }
+    let bounds = Bounds::of(seconds, megabytes);
+    Some(Job::Order { bounds, report })
+}
+
+// The number after a switch, if the words begin with the switch, else the usual one; and the words after that.
+fn switch_value<'a>(name: &[u8], usual: u32, words: &'a [String]) -> Option<(u32, &'a [String])>
+    ensures { option_map (λ found. (found.0, map string_bytes found.1.now)) result
+        ≡ switch_value name.now usual (map string_bytes words.now) }
+{
+    match words {
+        [word, rest @ ..] if is_word(word, name) => number_first(rest),
+        _ => Some((usual, words)),
+    }
+}
+
+// The number that the first word spells, and the words after that.
+fn number_first(words: &[String]) -> Option<(u32, &[String])>
+    ensures { option_map (λ found. (found.0, map string_bytes found.1.now)) result
+        ≡ number_first (map string_bytes words.now) }
+{
+    match words {
+        [] => None,
+        [word, rest @ ..] => {
+            let number = dec32(word.as_str().as_bytes())?;
+            Some((number, rest))
+        }
+    }
+}
+
+// Whether a word is this one.
+fn is_word(word: &String, text: &[u8]) -> bool
+    ensures { result ≡ is_word (string_bytes word.now) text.now }
+{
+    word.as_str().as_bytes() == text
 }

@@ -1,15 +1,18 @@
 //! Lines on their way out, with times that never fall.
-ghost use Rattle.std.specs.Prelude.{◌≡◌, ◌⊎◌, [], IfOk, OnOk, OnErr, IfErr};
+ghost use Rattle.std.specs.Prelude.{◌≡◌, ◌+◌, [], IfOk, OnOk, IfErr, Some, max, nat_lt};
 ghost use Rattle.std.specs.Io.KnownBytes.{Appends};
 ghost use Rattle.order_text.specs.Laws.{time_in};
+ghost use Rattle.order_text.specs.Stamp.{time_of};
 ghost use Rattle.outside.specs.Cause.{Rose};
 ghost use Rattle.audit_order.specs.Halts.{HasCauses, GoesUp};
-ghost use Rattle.audit_order.specs.Lines.{Writes, risen};
+ghost use Rattle.audit_order.specs.Lines.{Writes, Adds, risen, is_less, more_if};
 
+use crate::counts::count_one;
 use crate::halt::Halt;
 use flow_base::{Bytes, NoMemory};
 use order_text::{
-    read_stamp, write_after, written_lines_are_undone, written_lines_bear_their_stamp,
+    read_stamp, write_after, written_lines_are_one_line, written_lines_are_undone,
+    written_lines_bear_their_stamp,
 };
 use outside::{Sink, put_all};
 use std::alloc::Global;
@@ -18,13 +21,16 @@ use std::marker::Model;
 /// How many bytes wait at most before they are handed on.
 pub const CHUNK: usize = 65_536;
 
-/// What waits to be written, and the greatest time that was written, in milliseconds and as a text.
+/// What waits to be written, the greatest time that was written, in milliseconds and as a text, how many times were raised,
+/// and how many ends were added.
 #[derive(Drop)]
 pub struct Writer {
     alloc: Global,
     pending: Bytes,
     time: Bytes,
     ms: u64,
+    raised: u64,
+    added: u64,
 }
 
 impl Model for Writer {
@@ -34,7 +40,12 @@ impl Model for Writer {
 
     ghost Value = { Written };
 
-    ghost view = { λ a. record { pending = a.pending; ms = a.ms } };
+    ghost view = { λ a. record {
+      pending = a.pending;
+      ms = a.ms;
+      raised = a.raised;
+      added = a.added;
+    } };
 
     ghost invariant = { λ a. time_of a.time ≡ Some a.ms };
 }
@@ -42,7 +53,8 @@ impl Model for Writer {
 impl Writer {
     /// Nothing was written.
     pub fn new(alloc: Global) -> Result<Writer, NoMemory>
-        ensures { IfOk result (λ made. made ≡ record { pending = []; ms = 0 }) }
+        ensures { IfOk result (λ made. made
+            ≡ record { pending = []; ms = 0; raised = 0; added = 0 }) }
     {
         let time = Bytes::from_slice(alloc, b"0.000")?;
         Ok(Writer {
@@ -50,7 +62,23 @@ impl Writer {
             pending: Bytes::new(alloc),
             time,
             ms: 0,
+            raised: 0,
+            added: 0,
         })
+    }
+
+    /// How many times were raised.
+    pub fn raised(&self) -> u64
+        ensures { result ≡ self.now.raised }
+    {
+        self.raised
+    }
+
+    /// How many ends were added.
+    pub fn added(&self) -> u64
+        ensures { result ≡ self.now.added }
+    {
+        self.added
     }
 
     /// How many bytes wait to be written.
@@ -64,23 +92,59 @@ impl Writer {
     {
         written_lines_are_undone();
         written_lines_bear_their_stamp();
+        written_lines_are_one_line();
         write_after(&mut self.pending, self.time.as_slice(), self.ms, line)?;
         self.pending.append(b"\n")?;
         self.rise(line)
     }
 
-    // The time of a line that is greater becomes the greatest.
-    fn rise(&mut self, line: &[u8]) -> Result<(), NoMemory>
-        ensures pending { self.new.pending ≡ self.old.pending }
-        ensures ms { OnOk result (self.new.ms ≡ risen self.old.ms (time_in line.now)) }
+    /// Writes an end that the log doesn't have.
+    pub fn write_added(&mut self, line: &[u8]) -> Result<(), NoMemory>
+        ensures { OnOk result (Adds self.old self.new line.now) }
     {
-        if let Some(stamp) = read_stamp(line) {
-            if self.ms < stamp.ms {
-                let time = Bytes::from_slice(self.alloc, stamp.time)?;
-                self.time = time;
-                self.ms = stamp.ms;
-            }
+        self.write(line)?;
+        count_one(&mut self.added)
+    }
+
+    // The time of a line that is greater becomes the greatest, and one that is less is counted.
+    fn rise(&mut self, line: &[u8]) -> Result<(), NoMemory>
+        ensures same { self.new ≡ record self.old { ms = self.new.ms; raised = self.new.raised } }
+        ensures ms { OnOk result (self.new.ms ≡ risen self.old.ms (time_in line.now)) }
+        ensures raised { OnOk result (self.new.raised
+            ≡ more_if (is_less (time_in line.now) (Some self.old.ms)) self.old.raised) }
+    {
+        match read_stamp(line) {
+            None => Ok(()),
+            Some(stamp) => self.rise_to(stamp.time, stamp.ms),
         }
+    }
+
+    // A line of this time was written.
+    fn rise_to(&mut self, time: &[u8], ms: u64) -> Result<(), NoMemory>
+        requires { time_of time.now ≡ Some ms }
+        ensures same { self.new ≡ record self.old { ms = self.new.ms; raised = self.new.raised } }
+        ensures ms { OnOk result (self.new.ms ≡ max self.old.ms ms) }
+        ensures raised { OnOk result (self.new.raised
+            ≡ more_if (nat_lt ms self.old.ms) self.old.raised) }
+    {
+        if ms < self.ms {
+            return count_one(&mut self.raised);
+        }
+        if ms == self.ms {
+            return Ok(());
+        }
+        self.set_time(time, ms)
+    }
+
+    // This time is the greatest.
+    fn set_time(&mut self, time: &[u8], ms: u64) -> Result<(), NoMemory>
+        requires { time_of time.now ≡ Some ms }
+        ensures same { self.new ≡ record self.old { ms = self.new.ms } }
+        ensures ms { OnOk result (self.new.ms ≡ ms) }
+    {
+        let time = Bytes::from_slice(self.alloc, time)?;
+        self.time = time;
+        self.ms = ms;
         Ok(())
     }
 

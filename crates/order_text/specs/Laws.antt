@@ -1,6 +1,15 @@
 -- What holds of raised times.
-use Rattle.std.specs.Prelude.{◌≡◌, ℕ, List, Option, max, option_map}
+use Rattle.std.specs.Prelude.{◌≡◌, ℕ, ◌==◌, Bool, true, List, Option, max, option_map, not}
+use Rattle.std.specs.List.{list_all}
 use Rattle.order_text.specs.Stamp.{stamp_of}
+
+-- whether no byte of a text is a line feed
+abbrev pub is_one_line : List ℕ → Bool
+is_one_line text = list_all (λ byte. not (byte == 10)) text
+
+-- a text without a line feed
+abbrev pub IsOneLine : List ℕ → Type 0
+IsOneLine text = is_one_line text ≡ true
 
 -- the time of a line in milliseconds, if it bears one
 abbrev pub time_in : List ℕ → Option ℕ

@@ -1,7 +1,7 @@
 //! What raised times promise, for callers to use. The functions do nothing; their contracts are laws.
 ghost use Rattle.std.specs.Prelude.{◌≡◌, ℕ, List, Some};
 ghost use Rattle.order_text.specs.Stamp.{time_of};
-ghost use Rattle.order_text.specs.Laws.{StaysAfter};
+ghost use Rattle.order_text.specs.Laws.{IsOneLine, StaysAfter};
 ghost use Rattle.order_text.specs.Undo.{undone, written_after};
 
 /// A line as it is written is undone to the line as it was, whatever bytes it has.
@@ -14,4 +14,10 @@ pub fn written_lines_are_undone()
 pub fn written_lines_bear_their_stamp()
     ensures { (time : List ℕ) (ms : ℕ) (line : List ℕ) → time_of time ≡ Some ms
         → StaysAfter ms line (written_after time ms line) }
+{}
+
+/// A line as it is written has a line feed only if the line has one.
+pub fn written_lines_are_one_line()
+    ensures { (time : List ℕ) (ms : ℕ) (line : List ℕ) → time_of time ≡ Some ms
+        → IsOneLine line → IsOneLine (written_after time ms line) }
 {}

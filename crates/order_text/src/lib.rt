@@ -9,9 +9,13 @@
 mod cut;
 mod laws;
 mod mark;
+mod one_line;
 mod stamp;
 
 pub use cut::at_first;
-pub use laws::{written_lines_are_undone, written_lines_bear_their_stamp};
+pub use laws::{
+    written_lines_are_one_line, written_lines_are_undone, written_lines_bear_their_stamp,
+};
 pub use mark::{undo, write_after, write_undone};
+pub use one_line::is_one_line;
 pub use stamp::{Stamp, read_stamp};

@@ -7,7 +7,7 @@ use Rattle.audit_order.proofs.release.finish.Goals as goal
 
 pub returns-clause-goes : goal.returns-clause-goes
 returns-clause-goes g c = on_ok_weaker c.flush.result
-    (λ handed before lines s. rw (c.flush.ensures.left, c.in_ok-write_end.ensures.waits) (flushed before _ _ _ _ _ lines handed
+    (λ handed before lines s. rw (c.flush.ensures.left, c.in_ok-write_end.ensures.waits) (flushed before _ _ _ _ lines handed
     (c.in_ok-write_end.ensures.keeps before _ (texts_of c.release_all.new.sorter.queue.waits) lines (c.in_ok-release_all.ensures.goes before lines s))))
     c.flush.ensures.bytes
 

@@ -1,4 +1,4 @@
-use Rattle.std.proofs.Common.{length}
+use Rattle.std.proofs.Common.{◌≡◌, length}
 use Rattle.audit_order.specs.Halts.{GoesUp}
 use Rattle.audit_order.specs.Sorted.{Goes}
 use Rattle.audit_order.proofs.release.release_past.Given as goal
@@ -10,6 +10,7 @@ invariant-loop-sorter g l =
     record {
       goes : Goes (sink.written l.initial.sink) l.initial.sorter (sink.written l.sink) l.sorter;
       counts : GoesUp (sink.faults l.initial.sink) (sink.faults l.sink) (sink.spent l.initial.sink) (sink.spent l.sink);
+      bounds : l.sorter.bounds ≡ l.initial.sorter.bounds;
     }
 
 abbrev pub decreases-loop-sorter : goal.decreases-loop-sorter

@@ -3,6 +3,6 @@ use Rattle.audit_order.proofs.CourseLemmas.{keeps_end}
 use Rattle.audit_order.proofs.sorter.write_end.Goals as goal
 
 pub returns-in-Some-clause-keeps : goal.returns-in-Some-clause-keeps
-returns-in-Some-clause-keeps c = on_ok_weaker c.write.result
-    (λ w. keeps_end _ _ _ w c.line.ensures.end)
-    c.write.ensures
+returns-in-Some-clause-keeps c = on_ok_weaker c.write_added.result
+    (λ a. keeps_end _ _ _ a c.line.ensures.end)
+    c.write_added.ensures

@@ -8,7 +8,7 @@ use Rattle.audit_order.proofs.sorter.write_least.Goals as goal
 pub returns-in-Some-clause-moves : goal.returns-in-Some-clause-moves
 returns-in-Some-clause-moves c = on_ok_weaker c.write_item.result
     (λ g before now lines s. rw c.write_item.ensures.waits
-    (g before now _ lines (shuffled before now _ _ _ _ lines (IsPermutation-map text_of _ _ c.in-Some.ensures.some) s)))
+    (g before now _ lines (shuffled before now _ _ _ lines (IsPermutation-map text_of _ _ c.in-Some.ensures.some) s)))
     c.write_item.ensures.gives
 
 pub returns-in-Some-clause-fewer : goal.returns-in-Some-clause-fewer

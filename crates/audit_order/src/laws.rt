@@ -1,0 +1,12 @@
+//! What ordering and undoing promise together. The functions do nothing; their contracts are laws.
+ghost use Rattle.audit_order.specs.Reads.{UndoesOrders, TextHasLines};
+
+/// Undoing what orders a log gives the lines of the log and the ends that were added, in some order.
+pub fn ordered_logs_are_undone()
+    ensures { UndoesOrders }
+{}
+
+/// Lines without a line feed that are written, each with a line feed after it, are the lines of what is written.
+pub fn written_lines_are_lines()
+    ensures { TextHasLines }
+{}
