@@ -5,7 +5,7 @@
 Of each log: the status is 0; the lines of the answer, with the marks of raised times undone, are the lines of the log and EOE lines, in some order;
 each of those EOE lines is of an event that has a call; the times in the answer never fall; `--report` counts the events, the added ends and the raised
 times that the answer has, also if no line may wait; and `--undo` writes the lines of the answer, and those of the log, with their marks undone. The events
-of small logs made by hand stand in the order that the documents say, and are late where it says so. Other words have the status 2 and write nothing.
+of small logs made by hand stand in the order that the documents say, those with reads of regular files too, and are late where it says so. Other words have the status 2 and write nothing.
 Without a LOG the checks go over the examples, over
 generated logs, and over logs that were made to be odd. Prints what isn't so, and ends with status 1 if there is any.
 """
@@ -35,10 +35,16 @@ ODD = {
 }
 
 
-def call(at, serial, number, pid, more='', node=''):
+def call(at, serial, number, pid, more='', node='', a0=3, answer=1, done='yes', path=''):
     """The records of an event with one call."""
-    kind = f'arch=c000003e syscall={number} success=yes exit=1 a0=3 a1=0 a2=1 a3=0 items=0 ppid=1 pid={pid} comm="p" exe="/p"'
-    return ''.join(f'{node}type={name} msg=audit({at}:{serial}): {text}\n' for name, text in [('SYSCALL', kind), *([('SOCKADDR', more)] if more else []), ('EOE', '')])
+    kind = f'arch=c000003e syscall={number} success={done} exit={answer} a0={a0} a1=0 a2=1 a3=0 items=0 ppid=1 pid={pid} comm="p" exe="/p"'
+    rest = [('SOCKADDR', more)] * bool(more) + [('PATH', path)] * bool(path) + [('EOE', '')]
+    return ''.join(f'{node}type={name} msg=audit({at}:{serial}): {text}\n' for name, text in [('SYSCALL', kind), *rest])
+
+
+def opening(at, serial, pid, fd, mode, done='yes', kind='NORMAL', node=''):
+    """The records of an open of a file of this mode."""
+    return call(at, serial, OPEN, pid, node=node, answer=fd, done=done, path=f'item=0 name="/f" inode=7 dev=fe:00 mode={mode} ouid=0 ogid=0 rdev=00:00 nametype={kind}')
 
 
 def torn(event, other):
@@ -47,7 +53,8 @@ def torn(event, other):
     return first + '\n' + other + rest
 
 
-READ, WRITE, CONNECT = 0, 1, 42
+READ, WRITE, OPEN, CLOSE, DUP2, CONNECT, FORK, EXEC = 0, 1, 257, 3, 33, 42, 57, 59
+FILE, FIFO, FOLDER = '0100644', '010644', '040755'
 EARLY = call('1000.000', 1, WRITE, 9) + call('1000.000', 2, WRITE, 9)
 # Logs made by hand, and the serial numbers of their events in the order of effects.
 ORDERS = {
@@ -65,6 +72,38 @@ ORDERS = {
     'two boots, the clock set back': (EARLY + call('1000.010', 3, WRITE, 5) + 'type=SYSTEM_BOOT msg=audit(500.000:4): pid=1\n' + call('500.010', 6, READ, 5)
                                       + call('500.020', 5, WRITE, 6), [1, 2, 3, 4, 6, 5]),
 }
+
+
+# The record of a read (of pid 2 at descriptor 3, if nothing else is said) that was entered at .020 comes after those of writes that were entered at .030 and
+# .040. From a regular file it had read before them; otherwise it may have waited. These lines say what was read from.
+READ_FROM = {
+    'a regular file': (opening('1000.010', 3, 2, 3, FILE), {}, True),
+    'a new file': (opening('1000.010', 3, 2, 3, FILE, kind='CREATE'), {}, True),
+    'a FIFO': (opening('1000.010', 3, 2, 3, FIFO), {}, False),
+    'a file whose folder alone is there': (opening('1000.010', 3, 2, 3, FILE, kind='PARENT'), {}, False),
+    'another descriptor': (opening('1000.010', 3, 2, 4, FILE), {}, False),
+    'a descriptor of another process': (opening('1000.010', 3, 5, 3, FILE), {}, False),
+    'a descriptor of another node': (opening('1000.010', 3, 2, 3, FILE, node='node=b '), {}, False),
+    'a file that could not be opened': (opening('1000.010', 3, 2, 3, FILE, done='no'), {}, False),
+    'a descriptor that was closed': (opening('1000.010', 3, 2, 3, FILE) + call('1000.011', 7, CLOSE, 2, answer=0), {}, False),
+    'a descriptor that is another file now': (opening('1000.010', 3, 2, 3, FILE) + opening('1000.011', 7, 2, 3, FIFO), {}, False),
+    'a copy': (opening('1000.010', 3, 2, 3, FILE) + call('1000.011', 7, DUP2, 2, answer=0), {'a0': 0}, True),
+    'a copy of a FIFO over a file': (opening('1000.009', 3, 2, 3, FILE) + opening('1000.010', 7, 2, 4, FIFO) + call('1000.011', 8, DUP2, 2, a0=4, answer=3), {}, False),
+    'the standard input after an exec': (opening('1000.010', 3, 2, 0, FILE) + call('1000.011', 7, EXEC, 2, answer=0), {'a0': 0}, True),
+    'another descriptor after an exec': (opening('1000.010', 3, 2, 3, FILE) + call('1000.011', 7, EXEC, 2, answer=0), {}, False),
+    'a descriptor of a process that is a new one': (opening('1000.010', 3, 2, 3, FILE) + call('1000.011', 7, FORK, 8, answer=2), {}, False),
+    'a file before a start': (opening('1000.010', 3, 2, 3, FILE) + 'type=DAEMON_START msg=audit(1000.011:7): op=start\n' + call('1000.012', 8, WRITE, 9)
+                              + call('1000.013', 9, WRITE, 9), {}, False),
+}
+
+
+def faults_of_reads():
+    """What isn't so of the order of a read and two writes."""
+    for name, (before, given, early) in READ_FROM.items():
+        log = EARLY + before + call('1000.040', 26, WRITE, 7) + call('1000.030', 25, WRITE, 1) + call('1000.020', 24, READ, 2, **given)
+        found = events_in(lines_of(subprocess.run([PROGRAM], input=log.encode(), stdout=subprocess.PIPE, check=True).stdout))[-3:]
+        if found != ([24, 25, 26] if early else [25, 24, 26]):
+            yield f'a read from {name}: events {found}'
 
 
 def events_in(written):
@@ -178,7 +217,7 @@ def main(names):
     logs = {name: Path(name).read_bytes() for name in names} if names else {
         **ODD, **{name: log.encode() for name, (log, _) in ORDERS.items()}, **{path.name: path.read_bytes() for path in sorted((TOP / 'examples').glob('*.log'))},
         **{f'generated log {seed}': generated(seed) for seed in range(1, 21)}}
-    faults = [('words', fault) for fault in faults_of_words()] + [('order', fault) for fault in (*faults_of_orders(), *faults_of_late_events())]
+    faults = [('words', fault) for fault in faults_of_words()] + [('order', fault) for fault in (*faults_of_orders(), *faults_of_reads(), *faults_of_late_events())]
     faults += [(name, fault) for name, log in logs.items() for words in ((), ('--window', '0'), ('--memory', '0')) for fault in faults_of(log, words)]
     for name, fault in faults[:20]:
         print(f'{name}: {fault}')

@@ -1264,7 +1264,7 @@ class Ordered(Scratch):
 
     def test_the_order_is_told_before_an_answer(self) -> None:
         done = run('--order', '-if', WAITED, 'find', 'plan.txt')
-        self.assertRegex(done.stderr.decode(), r"(?m)^autrail: warning: in the order of effects a read of a regular file may count too late")
+        self.assertRegex(done.stderr.decode(), r"(?m)^autrail: warning: in the order of effects a read of a file that its process didn't open itself may count too late")
         self.assertTrue(done.stderr.endswith(b'autrail: in the order of effects\n'))
         self.assertEqual(run('-q', '--order', '-if', WAITED, 'find', 'plan.txt').stderr, b'autrail: in the order of effects\n')
         self.assertIn('label="autrail back /tmp/copy.txt: in the order of effects; one path', ordered(WAITED, 'back', '/tmp/copy.txt', '--dot')[1])

@@ -29,7 +29,7 @@ def warnings_of(session: Session) -> list[str]:
                   + several_hosts(reading.hosts))
     found += counted_warnings(counts)
     if session.ordered:
-        found.append('in the order of effects a read of a regular file may count too late, so a path may be shown that can\'t be: '
+        found.append('in the order of effects a read of a file that its process didn\'t open itself may count too late, so a path may be shown that can\'t be: '
                      'look at it by "why A B --lines", and without --order')
     # Lines beside a store may say the same as what keep noted of it.
     return list(dict.fromkeys(found))

@@ -1,13 +1,20 @@
 -- The clock by what was seen.
-use Rattle.std.proofs.Common.{◌≡◌, ◌≤◌, ◌+◌, ◌==◌, ◌∙◌, arith, sym, refl, ap, ℕ, Bool, true, false, List, [], ◌∷◌, Option, None, Some, max, min, subst, if◌then◌else◌}
+use Rattle.std.proofs.Common.{◌≡◌, ◌≤◌, ◌+◌, ◌==◌, ◌∙◌, arith, sym, refl, ap, ℕ, Bool, true, false, List, [], ◌∷◌, ◌++◌, Option, None, Some, max, min, subst, if◌then◌else◌}
 use Rattle.std.proofs.lemmas.Bool.Decides.{nat_tests}
 use Rattle.std.proofs.lemmas.Option.{same_Some}
 use Rattle.order_text.specs.Stamp.{Stamp}
-use Rattle.order_place.specs.declared.call.Call.{Call}
+use Rattle.order_calls.specs.declared.call.Call.{Call}
+use Rattle.order_calls.specs.declared.call.Takes.{Takes}
+use Rattle.order_calls.specs.declared.call.Takes.TheVariants as takes
+use Rattle.order_calls.specs.declared.deed.Deed.{Deed}
+use Rattle.order_calls.specs.Deeds.{Said, is_file_in}
+use Rattle.order_calls.specs.Known.{Known, is_file_at, StandsFor as Stands}
+use Rattle.order_calls.specs.Lines.{saying, deed_of, call_of, HearsIt}
+use Rattle.order_calls.proofs.FileLemmas.{heard}
 use Rattle.order_place.specs.declared.clock.Clock.{Clock}
 use Rattle.order_place.specs.Clocks.{others_at, time_after, clock_after}
-use Rattle.order_place.specs.Places.{Seen, Sees, is_pid, is_event, call_at, event_at, own_time, not_before, first_time, time_or, event_time, calls_of}
-use Rattle.order_place.specs.Sights.{Sight, Saw, Wrote, Started, others_in, clock_in, event_in, begun_or, StandsFor}
+use Rattle.order_place.specs.Places.{Seen, Sees, SeesNext, call_by, is_pid, is_event, call_at, event_at, own_time, not_before, call_time, first_time, time_or, event_time, calls_of}
+use Rattle.order_place.specs.Sights.{Sight, Saw, Wrote, Started, others_in, clock_in, event_in, call_in, said_in, call_after, begun_or, StandsFor}
 use Rattle.order_place.proofs.PlaceLemmas.{first_same}
 
 -- after a line, the times of the others
@@ -26,13 +33,14 @@ kept_back : (time ms : ℕ) (before : Option ℕ) → ms ≤ time → ms ≤ not
 kept_back time ms None le = le
 kept_back time ms (Some before) le = omega (arith, le)
 
-own_entered : (clock ms : ℕ) (waits : Bool) → ms ≤ own_time clock ms waits
-own_entered clock ms true = omega arith
-own_entered clock ms false = omega arith
+own_entered : (clock ms : ℕ) (t : Takes) → ms ≤ own_time clock ms t
+own_entered clock ms takes.Nothing = omega arith
+own_entered clock ms takes.File = omega arith
+own_entered clock ms takes.Awaited = omega arith
 
 first_entered : (seen : Seen) (ms : ℕ) (call : Option Call) → ms ≤ first_time seen ms call
 first_entered seen ms None = omega arith
-first_entered seen ms (Some call) = kept_back (own_time seen.clock.time ms call.waits) ms (call_at seen call.pid) (own_entered seen.clock.time ms call.waits)
+first_entered seen ms (Some call) = kept_back (own_time seen.clock.time ms call.takes) ms (call_at seen call.pid) (own_entered seen.clock.time ms call.takes)
 
 entered_by : (ms first : ℕ) (held : Option ℕ) → ms ≤ first → ((time : ℕ) → held ≡ Some time → ms ≤ time) → ms ≤ time_or held first
 entered_by ms first None le held = le
@@ -59,7 +67,7 @@ pub shared : (sights : List Sight) (serial : ℕ) → clock_in sights ≤ others
 shared [] serial = omega arith
 shared (Wrote event ∷ before) serial = shared before serial
 shared (Started ∷ before) serial = omega arith
-shared (Saw s call time ∷ before) serial =
+shared (Saw s line time ∷ before) serial =
     let more = shared before serial in
     grind (arith, nat_tests, more)
 
@@ -74,24 +82,88 @@ entry_by : (same : Bool) (ms time now : ℕ) (before : Option ℕ) → (same ≡
 entry_by true ms time now before here there at = subst (λ (t : ℕ). ms ≤ t) (same_Some _ _ at) (here refl)
 entry_by false ms time now before here there at = there at
 
-pub sees_on : (old new : Seen) (s : Stamp) (call : Option Call) (time : ℕ) (sights : List Sight)
-    → StandsFor old sights → Sees old new s call time → StandsFor new (Saw s call time ∷ sights)
-sees_on old new s call time sights stands sees = record {
-  clock = ap (λ (c : Clock). c.time) sees.clock ∙ time_is old sights s stands;
-  others = λ serial. ap (λ (c : Clock). others_at c serial) sees.clock ∙ others_step old.clock s.ms s.number serial stands.second
-      ∙ ap (λ (o : ℕ). if serial == s.number then o else max o s.ms) (stands.others serial);
-  second = subst (λ (c : Clock). c.second ≤ c.greatest) (sym sees.clock) (second_step old.clock s.ms s.number stands.second);
-  calls = λ pid. sees.calls pid
-      ∙ begun_calls old (event_at old (s.ms, s.number)) (s.ms, s.number) (clock_after old.clock s.ms s.number).time time call pid
-      (λ none. sees.time ∙ ap (λ (o : Option ℕ). time_or o (first_time old s.ms call)) none)
-      ∙ ap (λ (o : Option ℕ). begun_or o call (min time (clock_after old.clock s.ms s.number).time) pid (call_at old pid)) (stands.events (s.ms, s.number))
-      ∙ ap (λ (t : ℕ). begun_or (event_in sights (s.ms, s.number)) call (min time t) pid (call_at old pid)) (time_is old sights s stands)
-      ∙ ap (λ (o : Option ℕ). begun_or (event_in sights (s.ms, s.number)) call (min time (clock_in (Saw s call time ∷ sights))) pid o) (stands.calls pid);
-  events = λ event. sees.events event
-      ∙ ap (λ (t : ℕ). if is_event (s.ms, s.number) event then Some t else event_at old event) (sym sees.time)
-      ∙ ap (λ (o : Option ℕ). if is_event (s.ms, s.number) event then Some time else o) (stands.events event);
-  entry = λ event at is. entry_by (is_event (s.ms, s.number) event) event.0 at (event_time old (s.ms, s.number) call) (event_at old event)
-      (λ same. subst (λ (t : ℕ). t ≤ event_time old (s.ms, s.number) call) (first_same (s.ms, s.number) event same)
-      (entered old (s.ms, s.number) call (stands.entry (s.ms, s.number))))
-      (stands.entry event at) (sym (sees.events event) ∙ is);
-}
+-- the call of a line is by what was seen before it
+pub call_same : (old : Seen) (line : List ℕ) (sights : List Sight) → StandsFor old sights → call_by old line ≡ call_after sights line
+call_same old line sights stands = ap (λ (files : ℕ → ℕ → Bool). call_of files line) (λ i p n. stands.files.files p n i)
+
+hears_on : (old new : Known) (event : ℕ × ℕ) (said : Option Deed) (before : List Said) → HearsIt old new event said → Stands old before
+    → Stands new (saying event said ++ before)
+hears_on old new event None before same stands = subst (λ (k : Known). Stands k before) (sym same) stands
+hears_on old new event (Some said) before hears stands = heard old new event said before hears stands
+
+pub sees_on : (old new : Seen) (s : Stamp) (line : List ℕ) (time : ℕ) (sights : List Sight)
+    → StandsFor old sights → SeesNext old new s line time → StandsFor new (Saw s line time ∷ sights)
+sees_on old new s line time sights stands next =
+    let sees = next.sees in
+    let call : Option Call = call_by old line in
+    record {
+      clock = ap (λ (c : Clock). c.time) sees.clock ∙ time_is old sights s stands;
+      others = λ serial. ap (λ (c : Clock). others_at c serial) sees.clock ∙ others_step old.clock s.ms s.number serial stands.second
+          ∙ ap (λ (o : ℕ). if serial == s.number then o else max o s.ms) (stands.others serial);
+      second = subst (λ (c : Clock). c.second ≤ c.greatest) (sym sees.clock) (second_step old.clock s.ms s.number stands.second);
+      calls = λ pid. sees.calls pid
+          ∙ begun_calls old (event_at old (s.ms, s.number)) (s.ms, s.number) (clock_after old.clock s.ms s.number).time time call pid
+          (λ none. sees.time ∙ ap (λ (o : Option ℕ). time_or o (first_time old s.ms call)) none)
+          ∙ ap (λ (o : Option ℕ). begun_or o call (min time (clock_after old.clock s.ms s.number).time) pid (call_at old pid)) (stands.events (s.ms, s.number))
+          ∙ ap (λ (t : ℕ). begun_or (event_in sights (s.ms, s.number)) call (min time t) pid (call_at old pid)) (time_is old sights s stands)
+          ∙ ap (λ (o : Option ℕ). begun_or (event_in sights (s.ms, s.number)) call (min time (clock_in (Saw s line time ∷ sights))) pid o) (stands.calls pid)
+          ∙ ap (λ (c : Option Call). begun_or (event_in sights (s.ms, s.number)) c (min time (clock_in (Saw s line time ∷ sights))) pid (call_in sights pid))
+          (call_same old line sights stands);
+      events = λ event. sees.events event
+          ∙ ap (λ (t : ℕ). if is_event (s.ms, s.number) event then Some t else event_at old event) (sym sees.time)
+          ∙ ap (λ (o : Option ℕ). if is_event (s.ms, s.number) event then Some time else o) (stands.events event);
+      files = hears_on old.files new.files (s.ms, s.number) (deed_of line) (said_in sights) next.hears stands.files;
+      entry = λ event at is. entry_by (is_event (s.ms, s.number) event) event.0 at (event_time old (s.ms, s.number) call) (event_at old event)
+          (λ same. subst (λ (t : ℕ). t ≤ event_time old (s.ms, s.number) call) (first_same (s.ms, s.number) event same)
+          (entered old (s.ms, s.number) call (stands.entry (s.ms, s.number))))
+          (stands.entry event at) (sym (sees.events event) ∙ is);
+    }
+
+-- ---- laws
+
+-- the time of a call that begins its event
+begins_at : (old : Seen) (s : Stamp) (call : Call) (time : ℕ) (found : Option Call) → time ≡ event_time old (s.ms, s.number) found
+    → event_at old (s.ms, s.number) ≡ None → found ≡ Some call → time ≡ call_time old s.ms call
+begins_at old s call time found is none some =
+    is ∙ ap (λ (o : Option ℕ). time_or o (first_time old s.ms found)) none ∙ ap (λ (c : Option Call). first_time old s.ms c) some
+
+pub keeps_order : (old new : Seen) (s : Stamp) (line : List ℕ) (call : Call) (time : ℕ) (sights : List Sight) (before : ℕ)
+    → StandsFor old sights → SeesNext old new s line time → event_in sights (s.ms, s.number) ≡ None
+    → call_after sights line ≡ Some call → call_in sights call.pid ≡ Some before → before ≤ time
+keeps_order old new s line call time sights before stands next none is at =
+    let own = own_time old.clock.time s.ms call.takes in
+    let most : before ≤ max own before = omega arith in
+    subst (λ (t : ℕ). before ≤ t)
+    (sym (begins_at old s call time (call_by old line) next.sees.time (stands.events (s.ms, s.number) ∙ none) (call_same old line sights stands ∙ is)
+    ∙ ap (λ (o : Option ℕ). not_before own o) (stands.calls call.pid ∙ at)))
+    most
+
+pub together : (old new : Seen) (s : Stamp) (line : List ℕ) (time : ℕ) (sights : List Sight) (before : ℕ)
+    → StandsFor old sights → SeesNext old new s line time → event_in sights (s.ms, s.number) ≡ Some before → time ≡ before
+together old new s line time sights before stands next at =
+    next.sees.time ∙ ap (λ (o : Option ℕ). time_or o (first_time old s.ms (call_by old line))) (stands.events (s.ms, s.number) ∙ at)
+
+pub after_entry : (old new : Seen) (s : Stamp) (line : List ℕ) (time : ℕ) (sights : List Sight)
+    → StandsFor old sights → SeesNext old new s line time → s.ms ≤ time
+after_entry old new s line time sights stands next =
+    subst (λ (t : ℕ). s.ms ≤ t) (sym next.sees.time)
+    (entered old (s.ms, s.number) (call_by old line) (λ at is. stands.entry (s.ms, s.number) at is))
+
+file_soon : (clock ms : ℕ) (t : Takes) → t ≡ takes.File → own_time clock ms t ≤ ms + 4
+file_soon clock ms takes.Nothing e = absurd (cc e)
+file_soon clock ms takes.File e = omega arith
+file_soon clock ms takes.Awaited e = absurd (cc e)
+
+kept_below : (time most : ℕ) (before : Option ℕ) → time ≤ most → not_before time before ≤ not_before most before
+kept_below time most None le = le
+kept_below time most (Some before) le = omega (arith, le)
+
+pub files_soon : (old new : Seen) (s : Stamp) (line : List ℕ) (call : Call) (time : ℕ) (sights : List Sight)
+    → StandsFor old sights → SeesNext old new s line time → event_in sights (s.ms, s.number) ≡ None
+    → call_after sights line ≡ Some call → call.takes ≡ takes.File → time ≤ not_before (s.ms + 4) (call_in sights call.pid)
+files_soon old new s line call time sights stands next none is file =
+    let own = own_time old.clock.time s.ms call.takes in
+    subst (λ (t : ℕ). t ≤ not_before (s.ms + 4) (call_in sights call.pid))
+    (sym (begins_at old s call time (call_by old line) next.sees.time (stands.events (s.ms, s.number) ∙ none) (call_same old line sights stands ∙ is)
+    ∙ ap (λ (o : Option ℕ). not_before own o) (stands.calls call.pid)))
+    (kept_below own (s.ms + 4) (call_in sights call.pid) (file_soon old.clock.time s.ms call.takes file))

@@ -9,10 +9,10 @@ use Rattle.std.specs.Cmp.Lexicographic.{slice_cmp}
 use Rattle.std.proofs.lemmas.Map.Lookups.{exact_bytes}
 use Rattle.std.proofs.lemmas.Bool.Decides.{nat_tests}
 use Rattle.order_text.specs.Stamp.{Stamp}
-use Rattle.order_place.specs.declared.call.Call.{Call}
+use Rattle.order_calls.specs.Known.{nothing}
 use Rattle.order_place.specs.declared.places.Place.{Place}
 use Rattle.order_place.specs.Clocks.{others_at}
-use Rattle.order_place.specs.Places.{Seen, Sees, Forgets, node_of, is_boot}
+use Rattle.order_place.specs.Places.{Seen, SeesNext, Forgets, node_of, is_boot}
 use Rattle.order_place.specs.Sights.{Sight, Saw, Wrote, Started, StandsFor}
 use Rattle.order_place.specs.Nodes.{AllSeen, is_node, none, fresh, booted, begun, node_at, Keeps, SeesOf, ForgetsOf, sights_of, seen_by, StandsForAll}
 use Rattle.order_place.proofs.ClockLemmas.{by_test, sees_on}
@@ -53,6 +53,7 @@ starts true seen sights e stands = record {
   second = omega arith;
   calls = λ pid. refl;
   events = stands.events;
+  files = record { opens = λ event. refl; files = λ p n. refl };
   entry = stands.entry;
 }
 starts false seen sights e stands = absurd (cc e)
@@ -64,29 +65,29 @@ own of name sight before same = rw same refl
 apart : (of name : List ℕ) (sight : Sight) (before : List (List ℕ × Sight)) → is_node of name ≡ false → sights_of name ((of, sight) ∷ before) ≡ sights_of name before
 apart of name sight before isnt = rw isnt refl
 
-sees_own : (boots : Bool) (seen new : Seen) (s : Stamp) (call : Option Call) (time : ℕ) (of name : List ℕ) (sights : List (List ℕ × Sight)) → is_node of name ≡ true
-    → StandsFor seen (sights_of name sights) → Sees (begun boots seen) new s call time → StandsFor new (sights_of name (seen_by boots of (Saw s call time) ++ sights))
-sees_own true seen new s call time of name sights same stands sees =
+sees_own : (boots : Bool) (seen new : Seen) (s : Stamp) (line : List ℕ) (time : ℕ) (of name : List ℕ) (sights : List (List ℕ × Sight)) → is_node of name ≡ true
+    → StandsFor seen (sights_of name sights) → SeesNext (begun boots seen) new s line time → StandsFor new (sights_of name (seen_by boots of (Saw s line time) ++ sights))
+sees_own true seen new s line time of name sights same stands sees =
     subst (λ (l : List Sight). StandsFor new l)
-    (sym (own of name (Saw s call time) ((of, Started) ∷ sights) same ∙ ap (λ (l : List Sight). Saw s call time ∷ l) (own of name Started sights same)))
-    (sees_on (booted seen) new s call time (Started ∷ sights_of name sights) (starts true seen (sights_of name sights) refl stands) sees)
-sees_own false seen new s call time of name sights same stands sees =
-    subst (λ (l : List Sight). StandsFor new l) (sym (own of name (Saw s call time) sights same))
-    (sees_on seen new s call time (sights_of name sights) stands sees)
+    (sym (own of name (Saw s line time) ((of, Started) ∷ sights) same ∙ ap (λ (l : List Sight). Saw s line time ∷ l) (own of name Started sights same)))
+    (sees_on (booted seen) new s line time (Started ∷ sights_of name sights) (starts true seen (sights_of name sights) refl stands) sees)
+sees_own false seen new s line time of name sights same stands sees =
+    subst (λ (l : List Sight). StandsFor new l) (sym (own of name (Saw s line time) sights same))
+    (sees_on seen new s line time (sights_of name sights) stands sees)
 
 sees_apart : (boots : Bool) (sight : Sight) (of name : List ℕ) (sights : List (List ℕ × Sight)) → is_node of name ≡ false
     → sights_of name (seen_by boots of sight ++ sights) ≡ sights_of name sights
 sees_apart true sight of name sights isnt = apart of name sight ((of, Started) ∷ sights) isnt ∙ apart of name Started sights isnt
 sees_apart false sight of name sights isnt = apart of name sight sights isnt
 
-pub sees_on_all : (old new : AllSeen) (s : Stamp) (call : Option Call) (p : Place) (sights : List (List ℕ × Sight))
-    → StandsForAll old sights → SeesOf old new s call p → StandsForAll new (seen_by (is_boot s.front) (node_of s.front) (Saw s call p.time) ++ sights)
-sees_on_all old new s call p sights stands sees = record {
+pub sees_on_all : (old new : AllSeen) (s : Stamp) (line : List ℕ) (p : Place) (sights : List (List ℕ × Sight))
+    → StandsForAll old sights → SeesOf old new s line p → StandsForAll new (seen_by (is_boot s.front) (node_of s.front) (Saw s line p.time) ++ sights)
+sees_on_all old new s line p sights stands sees = record {
   each = λ name. by_test (is_node (node_of s.front) name)
-      (λ same. subst (λ (n : List ℕ). StandsFor (node_at new n) (sights_of name (seen_by (is_boot s.front) (node_of s.front) (Saw s call p.time) ++ sights))) (one_node _ _ same)
-      (sees_own (is_boot s.front) (node_at old (node_of s.front)) (node_at new (node_of s.front)) s call p.time (node_of s.front) name sights same
+      (λ same. subst (λ (n : List ℕ). StandsFor (node_at new n) (sights_of name (seen_by (is_boot s.front) (node_of s.front) (Saw s line p.time) ++ sights))) (one_node _ _ same)
+      (sees_own (is_boot s.front) (node_at old (node_of s.front)) (node_at new (node_of s.front)) s line p.time (node_of s.front) name sights same
       (subst (λ (n : List ℕ). StandsFor (node_at old n) (sights_of name sights)) (sym (one_node _ _ same)) (stands.each name)) sees.sees))
-      (λ isnt. rw (sees.others name isnt, sees_apart (is_boot s.front) (Saw s call p.time) (node_of s.front) name sights isnt) (stands.each name));
+      (λ isnt. rw (sees.others name isnt, sees_apart (is_boot s.front) (Saw s line p.time) (node_of s.front) name sights isnt) (stands.each name));
 }
 
 writes_one : (old new : Seen) (event : ℕ × ℕ) (sights : List Sight) → StandsFor old sights → Forgets old new event → StandsFor new (Wrote event ∷ sights)

@@ -4,10 +4,10 @@ use Rattle.std.specs.Map.{lookup}
 use Rattle.std.specs.Ordering.{nat_cmp, is_eq}
 use Rattle.std.specs.Cmp.Lexicographic.{slice_cmp}
 use Rattle.order_text.specs.Stamp.{Stamp}
-use Rattle.order_place.specs.declared.call.Call.{Call}
+use Rattle.order_calls.specs.Known.{nothing}
 use Rattle.order_place.specs.declared.clock.Clock.{Clock}
 use Rattle.order_place.specs.declared.places.Place.{Place}
-use Rattle.order_place.specs.Places.{Seen, Sees, Forgets, IsPlaceOf, node_of, is_boot}
+use Rattle.order_place.specs.Places.{Seen, SeesNext, Forgets, IsPlaceOf, node_of, is_boot}
 use Rattle.order_place.specs.Sights.{Sight, Started, StandsFor}
 
 -- What was seen: the greatest time of a clock, the place of the last line, and what was seen of each node.
@@ -25,11 +25,11 @@ abbrev pub none : Clock
 none = record { time = 0; greatest = 0; serial = 0; second = 0 }
 
 abbrev pub fresh : Seen
-fresh = record { clock = none; calls = []; events = [] }
+fresh = record { clock = none; files = nothing; calls = []; events = [] }
 
--- a node that was started: its processes and its clock are new ones
+-- a node that was started: its processes, with what they hold, and its clock are new ones
 abbrev pub booted : Seen → Seen
-booted seen = record seen { clock = none; calls = [] }
+booted seen = record seen { clock = none; files = nothing; calls = [] }
 
 abbrev pub begun : Bool → Seen → Seen
 begun boots seen = if boots then booted seen else seen
@@ -51,15 +51,15 @@ HasPlace all None p = p ≡ all.last
 HasPlace all (Some s) p = IsPlaceOf s p
 
 -- A line of a node was seen. If it says that the node was started, the processes and the clock from before are forgotten.
-pub record SeesOf (old new : AllSeen) (s : Stamp) (call : Option Call) (p : Place) : Type 0 where
-  pub sees : Sees (begun (is_boot s.front) (node_at old (node_of s.front))) (node_at new (node_of s.front)) s call p.time
+pub record SeesOf (old new : AllSeen) (s : Stamp) (line : List ℕ) (p : Place) : Type 0 where
+  pub sees : SeesNext (begun (is_boot s.front) (node_at old (node_of s.front))) (node_at new (node_of s.front)) s line p.time
   pub others : (other : List ℕ) → is_node (node_of s.front) other ≡ false → node_at new other ≡ node_at old other
   pub clock : new.clock ≡ max old.clock (node_at new (node_of s.front)).clock.time
 
 -- a line without a stamp changes nothing
-abbrev pub SeesLine : AllSeen → AllSeen → Option Stamp → Option Call → Place → Type 0
-SeesLine old new None call p = new ≡ old
-SeesLine old new (Some s) call p = SeesOf old new s call p
+abbrev pub SeesLine : AllSeen → AllSeen → Option Stamp → List ℕ → Place → Type 0
+SeesLine old new None line p = new ≡ old
+SeesLine old new (Some s) line p = SeesOf old new s line p
 
 -- an event of a node is held no longer
 pub record ForgetsOf (old new : AllSeen) (name : List ℕ) (event : ℕ × ℕ) : Type 0 where

@@ -1,20 +1,25 @@
 -- The places of lines.
-use Rattle.std.specs.Prelude.{◌≡◌, ◌||◌, ℕ, List, [], Bool, Option, None, Some, max, min, nat_eq, codes, if◌then◌else◌}
+use Rattle.std.specs.Prelude.{◌≡◌, ◌+◌, ◌||◌, ℕ, List, [], Bool, Option, None, Some, max, min, nat_eq, codes, if◌then◌else◌}
 use Rattle.std.specs.List.{starts_with, ends_with}
 use Rattle.std.specs.Map.{lookup}
 use Rattle.std.specs.declared.cmp.Ordering.{Ordering}
 use Rattle.std.specs.Ordering.{nat_cmp, ordering_then, is_eq}
 use Rattle.order_text.specs.Cut.{first_cut}
 use Rattle.order_text.specs.Stamp.{Stamp}
-use Rattle.order_place.specs.declared.call.Call.{Call}
+use Rattle.order_calls.specs.declared.call.Call.{Call}
+use Rattle.order_calls.specs.declared.call.Takes.{Takes}
+use Rattle.order_calls.specs.declared.call.Takes.TheVariants as takes
+use Rattle.order_calls.specs.Known.{Known, is_file_at}
+use Rattle.order_calls.specs.Lines.{HearsIt, deed_of, call_of}
 use Rattle.order_place.specs.declared.clock.Clock.{Clock}
 use Rattle.order_place.specs.declared.places.Place.{Place}
 use Rattle.order_place.specs.Clocks.{clock_after}
 
--- What was seen of a node: its clock, the time before which no call of a process counts, and the one at which each event
--- counts that is held, by its time and its serial number.
+-- What was seen of a node: its clock, the time before which no call of a process counts, the one at which each event counts
+-- that is held, by its time and its serial number, and which descriptors are known to be regular files.
 pub record Seen : Type 0 where
   pub clock : Clock
+  pub files : Known
   pub calls : List (ℕ × ℕ)
   pub events : List ((ℕ × ℕ) × ℕ)
 
@@ -65,9 +70,12 @@ call_at seen pid = lookup (is_pid pid) seen.calls
 abbrev pub event_at : Seen → ℕ × ℕ → Option ℕ
 event_at seen event = lookup (is_event event) seen.events
 
--- a call that may have waited counts at the time of the clock
-abbrev pub own_time : ℕ → ℕ → Bool → ℕ
-own_time clock ms waits = if waits then max ms clock else ms
+-- A call that may have waited counts at the time of the clock, and one that takes what stands in a regular file too, but at
+-- most 4 milliseconds after its entry.
+abbrev pub own_time : ℕ → ℕ → Takes → ℕ
+own_time clock ms takes.Nothing = ms
+own_time clock ms takes.File = max ms (min clock (ms + 4))
+own_time clock ms takes.Awaited = max ms clock
 
 -- not before this time, if there is one
 abbrev pub not_before : ℕ → Option ℕ → ℕ
@@ -76,7 +84,7 @@ not_before time (Some before) = max time before
 
 -- the time at which a call counts: not before its entry, nor before the process's call before it
 abbrev pub call_time : Seen → ℕ → Call → ℕ
-call_time seen ms call = not_before (own_time seen.clock.time ms call.waits) (call_at seen call.pid)
+call_time seen ms call = not_before (own_time seen.clock.time ms call.takes) (call_at seen call.pid)
 
 -- the time at which an event counts that begins with this line
 abbrev pub first_time : Seen → ℕ → Option Call → ℕ
@@ -105,6 +113,7 @@ calls_of seen None event most call pid = calls_after seen call (min (first_time 
 -- A line of an event was seen: the event is held at its time, and its call is the last of the process if it is the first line.
 pub record HoldsEvent (old new : Seen) (event : ℕ × ℕ) (most : ℕ) (call : Option Call) : Type 0 where
   pub clock : new.clock ≡ old.clock
+  pub files : new.files ≡ old.files
   pub calls : (pid : ℕ) → call_at new pid ≡ calls_of old (event_at old event) event most call pid
   pub events : (other : ℕ × ℕ) → event_at new other ≡ (if is_event event other then Some (event_time old event call) else event_at old other)
 
@@ -117,8 +126,19 @@ pub record Sees (old new : Seen) (s : Stamp) (call : Option Call) (at : ℕ) : T
   pub events : (other : ℕ × ℕ) → event_at new other
       ≡ (if is_event (s.ms, s.number) other then Some (event_time old (s.ms, s.number) call) else event_at old other)
 
+-- the call of a line, by what was seen
+abbrev pub call_by : Seen → List ℕ → Option Call
+call_by seen line = call_of (is_file_at seen.files) line
+
+-- A line of this stamp was seen, and counts at this time. Its call is by what was known of descriptors, and what it says of
+-- them is known from then on.
+pub record SeesNext (old new : Seen) (s : Stamp) (line : List ℕ) (at : ℕ) : Type 0 where
+  pub sees : Sees old new s (call_by old line) at
+  pub hears : HearsIt old.files new.files (s.ms, s.number) (deed_of line)
+
 -- an event is held no longer
 pub record Forgets (old new : Seen) (event : ℕ × ℕ) : Type 0 where
   pub clock : new.clock ≡ old.clock
+  pub files : new.files ≡ old.files
   pub calls : (pid : ℕ) → call_at new pid ≡ call_at old pid
   pub events : (other : ℕ × ℕ) → event_at new other ≡ (if is_event event other then None else event_at old other)

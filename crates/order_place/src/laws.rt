@@ -1,5 +1,5 @@
 //! What the places of lines promise, for callers to use. The functions do nothing; their contracts are laws.
-ghost use Rattle.order_place.specs.Laws.{SeesOn, WritesOn, CountsTogether, KeepsOrder, CountsAfterEntry, IsShared};
+ghost use Rattle.order_place.specs.Laws.{SeesOn, WritesOn, CountsTogether, KeepsOrder, CountsAfterEntry, FilesDoNotWait, IsShared};
 
 /// What is known of the processes and events of each node is what was seen of it, the newest first.
 pub fn places_look_back()
@@ -20,6 +20,12 @@ pub fn calls_of_a_process_keep_their_order()
 /// A line counts no earlier than its own time.
 pub fn lines_count_after_their_entry()
     ensures { CountsAfterEntry }
+{}
+
+/// A read of what is known to be a regular file counts at most a tick after its entry, unless its process's call before it
+/// counts later.
+pub fn reads_of_files_do_not_wait()
+    ensures { FilesDoNotWait }
 {}
 
 /// One event moves the clock at most as far as the window past the times of the others.

@@ -2,11 +2,11 @@
 //!
 //! The time that an event bears is that of its call's entry, and its records are written when the call returns. What a
 //! call gives (a write, a fork, an exit) counts at its entry. What it takes (a read, a receive, an accept) it may have
-//! waited for, so it counts at the greatest entry that was seen when its record was written. The calls of a process keep
-//! their order. All lines of an event have the place of its first line.
+//! waited for, so it counts at the greatest entry that was seen when its record was written; but a read of a regular file,
+//! which doesn't wait, at most a tick after its entry. The calls of a process keep their order. All lines of an event have
+//! the place of its first line.
 #![tactic(auto)]
 
-mod call;
 mod clock;
 mod laws;
 mod node;
@@ -15,6 +15,7 @@ mod places;
 pub use clock::{Clock, WINDOW};
 pub use laws::{
     calls_of_a_process_keep_their_order, lines_count_after_their_entry,
-    lines_of_an_event_count_together, places_look_back, the_clock_is_shared,
+    lines_of_an_event_count_together, places_look_back, reads_of_files_do_not_wait,
+    the_clock_is_shared,
 };
 pub use places::{Place, Places};

@@ -1,24 +1,27 @@
 //! What was seen of a node: the times of its processes and of its events.
 ghost use Rattle.std.specs.Prelude.{◌≡◌, ℕ, [], IfOk, OnOk, min};
 ghost use Rattle.order_text.specs.Seen.{stamp_seen};
-ghost use Rattle.order_place.specs.Calls.{call_of};
 ghost use Rattle.order_place.specs.Sights.{StandsFor};
 ghost use Rattle.order_place.specs.Nodes.{fresh, booted};
-ghost use Rattle.order_place.specs.Places.{call_at, Sees, Forgets, HoldsEvent, event_time, first_time, call_time, calls_after};
+ghost use Rattle.order_place.specs.Places.{call_at, own_time, SeesNext, Forgets, HoldsEvent, event_time, first_time, call_time, calls_after};
 
-use crate::call::{Call, call_of};
 use crate::clock::Clock;
 use flow_base::NoMemory;
+use order_calls::{Call, Files, Takes};
 use order_text::Stamp;
 use std::alloc::Global;
 use std::collections::BTreeMap;
 use std::marker::Model;
 
-/// What was seen of a node since it was started: its clock, the time of each process's last call, and the times of the
-/// events that wait.
+/// The milliseconds within which a read of a regular file counts: a tick of the clock by which calls are entered.
+const TICK: u64 = 4;
+
+/// What was seen of a node since it was started: its clock, which descriptors are known to be regular files, the time of each
+/// process's last call, and the times of the events that wait.
 #[derive(Drop)]
 pub struct Node {
     clock: Clock,
+    files: Files,
     calls: BTreeMap<u32, u64>,
     events: BTreeMap<(u64, u32), u64>,
 }
@@ -28,7 +31,12 @@ impl Model for Node {
 
     ghost Value = { Seen };
 
-    ghost view = { λ a. record { clock = a.clock; calls = a.calls.entries; events = a.events.entries } };
+    ghost view = { λ a. record {
+      clock = a.clock;
+      files = a.files;
+      calls = a.calls.entries;
+      events = a.events.entries;
+    } };
 }
 
 impl Node {
@@ -39,6 +47,7 @@ impl Node {
     {
         Node {
             clock: Clock::new(),
+            files: Files::new(alloc),
             calls: BTreeMap::new(alloc),
             events: BTreeMap::new(alloc),
         }
@@ -51,21 +60,23 @@ impl Node {
         self.clock.time
     }
 
-    /// The node was started: what was known of its processes and its clock is so no longer.
+    /// The node was started: what was known of its processes, their descriptors and its clock is so no longer.
     pub fn start(&mut self)
         ensures { self.new ≡ booted self.old }
     {
         self.clock = Clock::new();
+        self.files.clear();
         self.calls.clear();
     }
 
     /// The time at which the next line counts.
     pub fn see(&mut self, line: &[u8], stamp: &Stamp<'_>) -> Result<u64, NoMemory>
         ensures { IfOk result (λ time.
-            Sees self.old self.new (stamp_seen stamp.now) (call_of line.now) time) }
+            SeesNext self.old self.new (stamp_seen stamp.now) line.now time) }
     {
+        let call = self.files.see(line, stamp.ms, stamp.number)?;
         let clock = self.clock.after(stamp.ms, stamp.number);
-        let time = self.time_of(line, stamp, clock.time)?;
+        let time = self.time_of(call, stamp, clock.time)?;
         self.clock = clock;
         Ok(time)
     }
@@ -78,31 +89,30 @@ impl Node {
     }
 
     // The time at which the event of a line counts: that of its first line.
-    fn time_of(&mut self, line: &[u8], stamp: &Stamp<'_>, most: u64) -> Result<u64, NoMemory>
+    fn time_of(&mut self, call: Option<Call>, stamp: &Stamp<'_>, most: u64) -> Result<u64, NoMemory>
         ensures time { IfOk result (λ time. time
-            ≡ event_time self.old (stamp.now.ms, stamp.now.number) (call_of line.now)) }
+            ≡ event_time self.old (stamp.now.ms, stamp.now.number) call) }
         ensures holds { OnOk result (HoldsEvent self.old self.new
-            (stamp.now.ms, stamp.now.number) most (call_of line.now)) }
+            (stamp.now.ms, stamp.now.number) most call) }
     {
         let key = (stamp.ms, stamp.number);
         if let Some(time) = self.events.get(&key) {
             return Ok(*time);
         }
-        let time = self.first_time(line, stamp.ms, most)?;
+        let time = self.first_time(call, stamp.ms, most)?;
         self.events.insert(key, time)?;
         Ok(time)
     }
 
-    // The time at which an event counts that begins with this line. The calls of its process after it count no earlier,
+    // The time at which an event counts that begins with a line of this call. The calls of its process after it count no earlier,
     // as far as the clock has come.
-    fn first_time(&mut self, line: &[u8], ms: u64, most: u64) -> Result<u64, NoMemory>
-        ensures time { IfOk result (λ time. time ≡ first_time self.old ms (call_of line.now)) }
+    fn first_time(&mut self, call: Option<Call>, ms: u64, most: u64) -> Result<u64, NoMemory>
+        ensures time { IfOk result (λ time. time ≡ first_time self.old ms call) }
         ensures calls { OnOk result ((pid : ℕ) → call_at self.new pid
-            ≡ calls_after self.old (call_of line.now)
-            (min (first_time self.old ms (call_of line.now)) most) pid) }
+            ≡ calls_after self.old call (min (first_time self.old ms call) most) pid) }
         ensures same { self.new ≡ record self.old { calls = self.new.calls } }
     {
-        match call_of(line) {
+        match call {
             None => Ok(ms),
             Some(call) => {
                 let time = self.call_time(call, ms);
@@ -116,14 +126,22 @@ impl Node {
     fn call_time(&self, call: Call, ms: u64) -> u64
         ensures { result ≡ call_time self.now ms call }
     {
-        let own = if call.waits {
-            ms.max(self.clock.time)
-        } else {
-            ms
-        };
+        let own = own_time(self.clock.time, ms, call.takes);
         match self.calls.get(&call.pid) {
             Some(before) => own.max(*before),
             None => own,
         }
+    }
+}
+
+// The time at which a call counts by itself: what it may have waited for at the time of the clock, and what stands in a regular
+// file too, but at most a tick after its entry.
+fn own_time(clock: u64, ms: u64, takes: Takes) -> u64
+    ensures { result ≡ own_time clock ms takes }
+{
+    match takes {
+        Takes::Nothing => ms,
+        Takes::File => ms.max(clock.min(ms.saturating_add(TICK))),
+        Takes::Awaited => ms.max(clock),
     }
 }

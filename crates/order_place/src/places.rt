@@ -2,7 +2,6 @@
 ghost use Rattle.std.specs.Prelude.{◌≡◌, ℕ, List, [], Some, false, IfOk, OnOk};
 ghost use Rattle.order_text.specs.Seen.{stamp_seen};
 ghost use Rattle.order_text.specs.Stamp.{stamp_of};
-ghost use Rattle.order_place.specs.Calls.{call_of};
 ghost use Rattle.order_place.specs.Places.{rank_of, node_of, is_boot};
 ghost use Rattle.order_place.specs.Nodes.{is_node, node_at, begun, HasPlace, Keeps, SeesLine, ForgetsOf, StandsForAll};
 
@@ -92,7 +91,7 @@ impl Places {
         ensures place { IfOk result (HasPlace self.old (stamp_of line.now)) }
         ensures last { IfOk result (λ place. self.new.last ≡ place) }
         ensures sees { IfOk result
-            (SeesLine self.old self.new (stamp_of line.now) (call_of line.now)) }
+            (SeesLine self.old self.new (stamp_of line.now) line.now) }
     {
         if let Some(stamp) = read_stamp(line) {
             self.see(line, &stamp)?;
@@ -105,7 +104,7 @@ impl Places {
         ensures place { OnOk result
             (HasPlace self.old (Some (stamp_seen stamp.now)) self.new.last) }
         ensures sees { OnOk result (SeesLine
-            self.old self.new (Some (stamp_seen stamp.now)) (call_of line.now) self.new.last) }
+            self.old self.new (Some (stamp_seen stamp.now)) line.now self.new.last) }
     {
         let name = Bytes::from_slice(self.alloc, node_of(stamp.front))?;
         let mut node = self.take_node(&name);

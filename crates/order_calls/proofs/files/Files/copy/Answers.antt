@@ -1,0 +1,8 @@
+use Rattle.std.proofs.lemmas.Result.{on_ok_weaker}
+use Rattle.order_calls.proofs.FileLemmas.{copied}
+use Rattle.order_calls.proofs.files.Files.copy.Goals as goal
+
+pub returns : goal.returns
+returns c = on_ok_weaker c.set.result
+    (λ b event. copied c.args.self.now c.set.new.self event c.args.pid c.args.from c.args.to _ c.is_file-file.ensures b)
+    c.set.ensures

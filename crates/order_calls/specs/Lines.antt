@@ -1,0 +1,182 @@
+-- What a line says of its call and of descriptors.
+use Rattle.std.specs.Prelude.{◌≡◌, ℕ, ◌==◌, ◌&&◌, ◌||◌, Bool, false, List, [], ◌∷◌, Option, None, Some, option_map, nat_eq, codes, if◌then◌else◌}
+use Rattle.std.specs.List.{list_any, starts_with}
+use Rattle.std.specs.Option.{option_and_then}
+use Rattle.std.specs.Str.{bytes_eq}
+use Rattle.audit_lex.specs.LineClass.{Class, Used, class_of}
+use Rattle.audit_lex.specs.LineFields.{field_in_line}
+use Rattle.audit_lex.specs.Values.{dec32_of, hex32_of}
+use Rattle.audit_lex.specs.declared.fields.Kind.{Kind}
+use Rattle.audit_lex.specs.declared.fields.Kind.TheVariants as kind
+use Rattle.order_calls.specs.declared.call.Call.{Call}
+use Rattle.order_calls.specs.declared.call.Takes.{Takes}
+use Rattle.order_calls.specs.declared.call.Takes.TheVariants as takes
+use Rattle.order_calls.specs.declared.deed.Deed.{Deed}
+use Rattle.order_calls.specs.declared.deed.Deed.TheVariants as deed
+use Rattle.order_calls.specs.Deeds.{Event, Said}
+use Rattle.order_calls.specs.Known.{Known, Hears, is_file_at}
+
+-- whether a word of a line begins as the mode of a regular file does
+abbrev pub mode_at : Bool → List ℕ → Bool → Bool
+mode_at blank rest later = if blank then starts_with nat_eq rest (codes "mode=0100") || later else later
+
+abbrev pub has_file_mode : List ℕ → Bool
+has_file_mode [] = false
+has_file_mode (byte ∷ rest) = mode_at (byte == 32) rest (has_file_mode rest)
+
+-- whether a field of a line has this text
+abbrev pub is_text : List ℕ → Option (List ℕ) → Bool
+is_text text None = false
+is_text text (Some found) = bytes_eq found text
+
+abbrev pub text_in : List ℕ → List ℕ → List ℕ → Bool
+text_in line name text = is_text text (field_in_line line name)
+
+-- the number that a field of a line spells, in decimal or in hex digits
+abbrev pub number_in : List ℕ → List ℕ → Option ℕ
+number_in line name = option_and_then dec32_of (field_in_line line name)
+
+abbrev pub hex_in : List ℕ → List ℕ → Option ℕ
+hex_in line name = option_and_then hex32_of (field_in_line line name)
+
+-- a call of x86-64, and one that has succeeded
+abbrev pub is_native : List ℕ → Bool
+is_native line = text_in line (codes "arch") (codes "c000003e")
+
+abbrev pub is_done : List ℕ → Bool
+is_done line = text_in line (codes "success") (codes "yes")
+
+-- the calls of x86-64 that may wait for what they take: read, readv, accept, recvfrom, recvmsg, accept4, recvmmsg
+abbrev pub waiting : List ℕ
+waiting = 0 ∷ 19 ∷ 43 ∷ 45 ∷ 47 ∷ 288 ∷ 299 ∷ []
+
+-- open, creat, openat, openat2
+abbrev pub opens : ℕ → Bool
+opens number = list_any (nat_eq number) (2 ∷ 85 ∷ 257 ∷ 437 ∷ [])
+
+-- close
+abbrev pub closes : ℕ → Bool
+closes number = number == 3
+
+-- the commands of fcntl that copy a descriptor
+abbrev pub is_copy : Option ℕ → Bool
+is_copy None = false
+is_copy (Some command) = list_any (nat_eq command) (0 ∷ 1030 ∷ [])
+
+-- dup, dup2, dup3, and fcntl with such a command
+abbrev pub copies : ℕ → Option ℕ → Bool
+copies number command = list_any (nat_eq number) (32 ∷ 33 ∷ 292 ∷ []) || (number == 72 && is_copy command)
+
+-- socket, accept, accept4
+abbrev pub opens_socket : ℕ → Bool
+opens_socket number = list_any (nat_eq number) (41 ∷ 43 ∷ 288 ∷ [])
+
+-- clone, fork, vfork, clone3
+abbrev pub begins : ℕ → Bool
+begins number = list_any (nat_eq number) (56 ∷ 57 ∷ 58 ∷ 435 ∷ [])
+
+-- execve, execveat
+abbrev pub runs : ℕ → Bool
+runs number = list_any (nat_eq number) (59 ∷ 322 ∷ [])
+
+-- a copy of one descriptor to another, if both are there
+abbrev pub copies_from : ℕ → Option ℕ → Option ℕ → Option Deed
+copies_from pid (Some from) (Some to) = Some (deed.Copies pid from to)
+copies_from pid _ _ = None
+
+-- what a call did that has succeeded, by its number, its process, its answer and its arguments
+abbrev pub deed_with : ℕ → ℕ → Option ℕ → Option ℕ → Option ℕ → Option Deed
+deed_with number pid answer first second =
+    if opens number then option_map (deed.Opens pid) answer
+    else if closes number then option_map (deed.Closes pid) first
+    else if copies number second then copies_from pid first answer
+    else if opens_socket number then option_map (deed.Closes pid) answer
+    else if begins number then option_map deed.Begins answer
+    else if runs number then Some (deed.Runs pid) else None
+
+-- what the record of a call says, whose process and number are there: the end of a process has no answer
+abbrev pub deed_from : List ℕ → Option ℕ → Option ℕ → Option Deed
+deed_from line (Some pid) (Some number) =
+    if is_native line then
+    if number == 231 then Some (deed.Begins pid)
+    else if is_done line then
+    deed_with number pid (number_in line (codes "exit")) (hex_in line (codes "a0")) (hex_in line (codes "a1"))
+    else None
+    else None
+deed_from line _ _ = None
+
+abbrev pub deed_in : List ℕ → Option Deed
+deed_in line = deed_from line (number_in line (codes "pid")) (number_in line (codes "syscall"))
+
+-- what the record of a path says: the kind of what was opened, if it is the path of that
+abbrev pub path_deed : List ℕ → Option (List ℕ) → Option Deed
+path_deed line None = None
+path_deed line (Some name) =
+    if bytes_eq name (codes "NORMAL") || bytes_eq name (codes "CREATE") then Some (deed.Names (has_file_mode line)) else None
+
+abbrev pub deed_of_path : List ℕ → Option Deed
+deed_of_path line = path_deed line (field_in_line line (codes "nametype"))
+
+-- what a line of a kind says of descriptors
+abbrev pub deed_of_kind : List ℕ → Kind → Option Deed
+deed_of_kind line kind.Syscall = deed_in line
+deed_of_kind line kind.Path = deed_of_path line
+deed_of_kind line kind.Proctitle = Some deed.Ends
+deed_of_kind line kind.Eoe = Some deed.Ends
+deed_of_kind line _ = None
+
+abbrev pub deed_of_class : List ℕ → Class → Option Deed
+deed_of_class line (Used key kind) = deed_of_kind line kind
+deed_of_class line _ = None
+
+-- what a line says of descriptors, if it has at most 65,536 bytes
+abbrev pub deed_of : List ℕ → Option Deed
+deed_of line = deed_of_class line (class_of 65536 line)
+
+-- what a call takes that may wait, from this descriptor: from a regular file it takes what stands there
+abbrev pub takes_from : (ℕ → ℕ → Bool) → ℕ → Option ℕ → Takes
+takes_from files pid None = takes.Awaited
+takes_from files pid (Some fd) = if files pid fd then takes.File else takes.Awaited
+
+-- the call of a call's record, whose process and number are there
+abbrev pub call_from : (ℕ → ℕ → Bool) → List ℕ → Option ℕ → Option ℕ → Option Call
+call_from files line (Some pid) (Some number) =
+    if is_native line && list_any (nat_eq number) waiting
+    then Some (record { pid = pid; takes = takes_from files pid (hex_in line (codes "a0")) })
+    else Some (record { pid = pid; takes = takes.Nothing })
+call_from files line _ _ = None
+
+abbrev pub call_in : (ℕ → ℕ → Bool) → List ℕ → Option Call
+call_in files line = call_from files line (number_in line (codes "pid")) (number_in line (codes "syscall"))
+
+abbrev pub call_of_kind : (ℕ → ℕ → Bool) → List ℕ → Kind → Option Call
+call_of_kind files line kind.Syscall = call_in files line
+call_of_kind files line _ = None
+
+abbrev pub call_of_class : (ℕ → ℕ → Bool) → List ℕ → Class → Option Call
+call_of_class files line (Used key kind) = call_of_kind files line kind
+call_of_class files line _ = None
+
+-- the call that a line is the record of, if it has at most 65,536 bytes, where these descriptors are known to be regular files
+abbrev pub call_of : (ℕ → ℕ → Bool) → List ℕ → Option Call
+call_of files line = call_of_class files line (class_of 65536 line)
+
+-- what a line of an event says, before what was said so far
+abbrev pub saying : Event → Option Deed → List Said
+saying event None = []
+saying event (Some said) = (event, said) ∷ []
+
+-- a line of an event said this, or nothing
+abbrev pub HearsIt : Known → Known → Event → Option Deed → Type 0
+HearsIt old new event None = new ≡ old
+HearsIt old new event (Some said) = Hears old new event said
+
+-- a line of a kind was seen: its call is by what was known before it
+pub record HearsKind (old new : Known) (line : List ℕ) (kind : Kind) (event : Event) (call : Option Call) : Type 0 where
+  pub is : call ≡ call_of_kind (is_file_at old) line kind
+  pub hears : HearsIt old new event (deed_of_kind line kind)
+
+-- a line was seen: its call is by what was known before it
+pub record HearsLine (old new : Known) (line : List ℕ) (event : Event) (call : Option Call) : Type 0 where
+  pub is : call ≡ call_of (is_file_at old) line
+  pub hears : HearsIt old new event (deed_of line)

@@ -1,0 +1,278 @@
+//! What a line says: its call, and what it does to descriptors.
+ghost use Rattle.std.specs.Prelude.{◌≡◌, ◌++◌, List, IfOk, OnOk, nat_eq};
+ghost use Rattle.std.specs.List.{list_any};
+ghost use Rattle.audit_lex.specs.FieldTable.{name_of};
+ghost use Rattle.order_calls.specs.Deeds.{Said};
+ghost use Rattle.order_calls.specs.Known.{is_file_at, StandsFor};
+ghost use Rattle.order_calls.specs.Lines.{text_in, number_in, hex_in, is_native, is_done, opens, closes, copies, copies_from, opens_socket, begins, runs, waiting, deed_with, deed_in, deed_of_path, deed_of_kind, call_in, call_of_kind, takes_from, HearsKind, HearsLine, saying, deed_of};
+
+use crate::call::{Call, Takes};
+use crate::deed::Deed;
+use crate::files::Files;
+use crate::mode::has_file_mode;
+use audit_lex::{Field, Kind, Lexed, UsedLine, dec32, hex32, lex};
+use flow_base::NoMemory;
+
+/// The longest line that is read for its call.
+const LINE: usize = 65_536;
+
+impl Files {
+    /// The call that a line of an event is the record of, by what is known before it. After that what the line says is known.
+    pub fn see(&mut self, line: &[u8], ms: u64, serial: u32) -> Result<Option<Call>, NoMemory>
+        ensures hears { IfOk result (HearsLine self.old self.new line.now (ms, serial)) }
+        ensures stands { OnOk result ((before : List Said) → StandsFor self.old before
+            → StandsFor self.new (saying (ms, serial) (deed_of line.now) ++ before)) }
+    {
+        match lex(line, LINE) {
+            Lexed::Used(used) => self.see_used(&used, ms, serial),
+            _ => Ok(None),
+        }
+    }
+
+    // The call that a used line is the record of.
+    fn see_used(
+        &mut self,
+        used: &UsedLine<'_>,
+        ms: u64,
+        serial: u32,
+    ) -> Result<Option<Call>, NoMemory>
+        ensures hears { IfOk result (HearsKind
+            self.old self.new used.now.line.now used.now.kind (ms, serial)) }
+        ensures stands { OnOk result ((before : List Said) → StandsFor self.old before
+            → StandsFor self.new
+            (saying (ms, serial) (deed_of_kind used.now.line.now used.now.kind) ++ before)) }
+    {
+        let call = call_of_kind(self, used);
+        match deed_of_kind(used) {
+            None => Ok(call),
+            Some(said) => {
+                self.hear(ms, serial, said)?;
+                Ok(call)
+            }
+        }
+    }
+}
+
+// The call that a used line is the record of.
+fn call_of_kind(files: &Files, used: &UsedLine<'_>) -> Option<Call>
+    ensures { result ≡ call_of_kind (is_file_at files.now) used.now.line.now used.now.kind }
+{
+    match used.kind {
+        Kind::Syscall => call_in(files, used),
+        _ => None,
+    }
+}
+
+// The call of a call's record.
+fn call_in(files: &Files, used: &UsedLine<'_>) -> Option<Call>
+    ensures { result ≡ call_in (is_file_at files.now) used.now.line.now }
+{
+    let pid = number_in(used, Field::Pid)?;
+    let number = number_in(used, Field::Syscall)?;
+    if !is_native(used) || !may_wait(number) {
+        return Some(Call {
+            pid,
+            takes: Takes::Nothing,
+        });
+    }
+    Some(Call {
+        pid,
+        takes: takes_from(files, pid, hex_in(used, Field::A0)),
+    })
+}
+
+// What a call takes that may wait, from this descriptor.
+fn takes_from(files: &Files, pid: u32, fd: Option<u32>) -> Takes
+    ensures { result ≡ takes_from (is_file_at files.now) pid fd }
+{
+    match fd {
+        None => Takes::Awaited,
+        Some(fd) => {
+            if files.is_file(pid, fd) {
+                Takes::File
+            } else {
+                Takes::Awaited
+            }
+        }
+    }
+}
+
+// What a used line says of descriptors.
+fn deed_of_kind(used: &UsedLine<'_>) -> Option<Deed>
+    ensures { result ≡ deed_of_kind used.now.line.now used.now.kind }
+{
+    match used.kind {
+        Kind::Syscall => deed_in(used),
+        Kind::Path => deed_of_path(used),
+        Kind::Proctitle | Kind::Eoe => Some(Deed::Ends),
+        _ => None,
+    }
+}
+
+// What the record of a path says: the kind of what was opened, if it is the path of that.
+fn deed_of_path(used: &UsedLine<'_>) -> Option<Deed>
+    ensures { result ≡ deed_of_path used.now.line.now }
+{
+    let name = used.field(Field::Nametype)?;
+    if name == b"NORMAL".as_slice() || name == b"CREATE".as_slice() {
+        return Some(Deed::Names {
+            file: has_file_mode(used.line),
+        });
+    }
+    None
+}
+
+// What the record of a call says.
+fn deed_in(used: &UsedLine<'_>) -> Option<Deed>
+    ensures { result ≡ deed_in used.now.line.now }
+{
+    let pid = number_in(used, Field::Pid)?;
+    let number = number_in(used, Field::Syscall)?;
+    if !is_native(used) {
+        return None;
+    }
+    // The end of a process has no answer.
+    if number == 231 {
+        return Some(Deed::Begins { pid });
+    }
+    if !is_done(used) {
+        return None;
+    }
+    deed_with(
+        number,
+        pid,
+        number_in(used, Field::Exit),
+        hex_in(used, Field::A0),
+        hex_in(used, Field::A1),
+    )
+}
+
+// What a call did that has succeeded, by its number, its process, its answer and its arguments.
+fn deed_with(
+    number: u32,
+    pid: u32,
+    answer: Option<u32>,
+    first: Option<u32>,
+    second: Option<u32>,
+) -> Option<Deed>
+    ensures { result ≡ deed_with number pid answer first second }
+{
+    if opens(number) {
+        return Some(Deed::Opens { pid, fd: answer? });
+    }
+    if closes(number) {
+        return Some(Deed::Closes { pid, fd: first? });
+    }
+    if copies(number, second) {
+        return copies_from(pid, first, answer);
+    }
+    if opens_socket(number) {
+        return Some(Deed::Closes { pid, fd: answer? });
+    }
+    if begins(number) {
+        return Some(Deed::Begins { pid: answer? });
+    }
+    if runs(number) {
+        return Some(Deed::Runs { pid });
+    }
+    None
+}
+
+// A copy of one descriptor to another.
+fn copies_from(pid: u32, from: Option<u32>, to: Option<u32>) -> Option<Deed>
+    ensures { result ≡ copies_from pid from to }
+{
+    Some(Deed::Copies {
+        pid,
+        from: from?,
+        to: to?,
+    })
+}
+
+// open, creat, openat, openat2
+fn opens(number: u32) -> bool
+    ensures { result ≡ opens number }
+{
+    matches!(number, 2 | 85 | 257 | 437)
+}
+
+// close
+fn closes(number: u32) -> bool
+    ensures { result ≡ closes number }
+{
+    number == 3
+}
+
+// dup, dup2, dup3, and fcntl with the commands that copy
+fn copies(number: u32, command: Option<u32>) -> bool
+    ensures { result ≡ copies number command }
+{
+    matches!(number, 32 | 33 | 292) || number == 72 && matches!(command, Some(0 | 1030))
+}
+
+// socket, accept, accept4
+fn opens_socket(number: u32) -> bool
+    ensures { result ≡ opens_socket number }
+{
+    matches!(number, 41 | 43 | 288)
+}
+
+// clone, fork, vfork, clone3
+fn begins(number: u32) -> bool
+    ensures { result ≡ begins number }
+{
+    matches!(number, 56 | 57 | 58 | 435)
+}
+
+// execve, execveat
+fn runs(number: u32) -> bool
+    ensures { result ≡ runs number }
+{
+    matches!(number, 59 | 322)
+}
+
+// Whether a call of this number of x86-64 takes what it may have waited for: read, readv, accept, recvfrom, recvmsg,
+// accept4, recvmmsg.
+fn may_wait(number: u32) -> bool
+    ensures { result ≡ list_any (nat_eq number) waiting }
+{
+    matches!(number, 0 | 19 | 43 | 45 | 47 | 288 | 299)
+}
+
+// Whether a call is one of x86-64.
+fn is_native(used: &UsedLine<'_>) -> bool
+    ensures { result ≡ is_native used.now.line.now }
+{
+    has_text(used, Field::Arch, b"c000003e")
+}
+
+// Whether a call has succeeded.
+fn is_done(used: &UsedLine<'_>) -> bool
+    ensures { result ≡ is_done used.now.line.now }
+{
+    has_text(used, Field::Success, b"yes")
+}
+
+// Whether a field has this text.
+fn has_text(used: &UsedLine<'_>, field: Field, text: &[u8]) -> bool
+    ensures { result ≡ text_in used.now.line.now (name_of field) text.now }
+{
+    match used.field(field) {
+        None => false,
+        Some(found) => found == text,
+    }
+}
+
+// The number that a field spells.
+fn number_in(used: &UsedLine<'_>, field: Field) -> Option<u32>
+    ensures { result ≡ number_in used.now.line.now (name_of field) }
+{
+    dec32(used.field(field)?)
+}
+
+// The number that a field spells in hex digits.
+fn hex_in(used: &UsedLine<'_>, field: Field) -> Option<u32>
+    ensures { result ≡ hex_in used.now.line.now (name_of field) }
+{
+    hex32(used.field(field)?)
+}
