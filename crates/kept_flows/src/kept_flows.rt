@@ -29,7 +29,8 @@ use reach_rows::{Keep, Question, Reducer, verdicts_make_the_rows};
 use reduced_store::Store;
 use row_codec::StoreRow;
 use std::alloc::Global;
-use std::marker::Model;
+use std::marker::{Brand, Model};
+use std::sync::ledger::Blank;
 
 /// Flows in order, of which the rows of a mode are kept.
 #[derive(Drop)]
@@ -90,7 +91,7 @@ impl<R: Reducer, K: Keep> KeptFlows<R, K> {
         first_flows_are_kept();
         let mut reducer = reducer;
         let mut rows = rows;
-        match recall_all(&mut reducer, &mut rows) {
+        match recall_all::<R, K, Brand>(&mut reducer, &mut rows, Blank::new(1)) {
             Ok(()) => Ok(KeptFlows { reducer, rows }),
             Err(fault) => Err(Unrestored { fault, rows }),
         }
@@ -170,7 +171,13 @@ impl<R: Reducer, K: Keep> KeptFlows<R, K> {
         ensures same { self.new.kept ≡ self.old.kept }
         ensures alike { K.alike self.old.keep self.new.keep }
     {
-        answer(alloc, &self.reducer, &mut self.rows, question)
+        answer::<R, K, Brand>(
+            alloc,
+            &self.reducer,
+            &mut self.rows,
+            question,
+            Blank::new(1),
+        )
     }
 
     /// How one known object reached another, by flows no later than `until` in milliseconds: along which path, or that
@@ -193,7 +200,15 @@ impl<R: Reducer, K: Keep> KeptFlows<R, K> {
         ensures same { self.new.kept ≡ self.old.kept }
         ensures alike { K.alike self.old.keep self.new.keep }
     {
-        find_way(alloc, &self.reducer, &mut self.rows, from, to, until)
+        find_way::<R, K, Brand>(
+            alloc,
+            &self.reducer,
+            &mut self.rows,
+            from,
+            to,
+            until,
+            Blank::new(1),
+        )
     }
 }
 

@@ -19,19 +19,24 @@ use flow_base::{EntityId, List, NoMemory};
 use query_walk::{WalkFault, backward, forward};
 use reach_model::{Mode, first_flows_are_kept};
 use reach_rows::{
-    Question, Reducer, Rows, first_flows_are_told, what_is_allowed_is_answerable,
+    Question, Reducer, Rows, Steps, first_flows_are_told, what_is_allowed_is_answerable,
     what_is_allowed_is_answered,
 };
 use std::alloc::Global;
+use std::sync::ledger::{Blank, Ledger};
 
-/// The answer to a question, where the mode that kept the rows allows it.
-pub fn answer<M: Reducer, W: Rows>(
+/// The answer to a question, if the mode that kept the rows allows it. The rows that are read are counted from nothing.
+pub fn answer<M: Reducer, W: Rows, L: Ledger>(
     alloc: Global,
     reducer: &M,
     rows: &mut W,
     question: &Question,
+    blank: Blank,
 ) -> Result<Option<List<EntityId>>, WalkFault>
     requires known { subject question.now < W.known rows.old }
+    requires name { blank.name ≡ L.name }
+    requires parts { blank.parts ≡ L.parts }
+    requires one { blank.parts ≡ 1 }
     ensures exact { IfOk result (λ found. AnswersOver M.mode (W.rows rows.old) question.now found) }
     ensures cause { IsWalkOver W.rows W.faults W.spent rows.old rows.new result }
     ensures same { SameRows W.rows W.count W.known rows.old rows.new }
@@ -46,16 +51,18 @@ pub fn answer<M: Reducer, W: Rows>(
     if !allowed {
         return Ok(None);
     }
-    let ids = found(alloc, reducer.mode(), rows, question)?;
+    let mut steps = Steps::<L>::new(blank);
+    let ids = found(alloc, reducer.mode(), rows, question, &mut steps)?;
     Ok(Some(ids))
 }
 
 /// What is found over the rows, among the objects for which the mode answers.
-fn found<W: Rows>(
+fn found<W: Rows, L: Ledger>(
     alloc: Global,
     mode: Mode,
     rows: &mut W,
     question: &Question,
+    steps: &mut Steps<L>,
 ) -> Result<List<EntityId>, WalkFault>
     requires known { subject question.now < W.known rows.old }
     ensures exact { IfOk result (λ ids. IfSome (W.rows rows.old) (λ R.
@@ -64,16 +71,17 @@ fn found<W: Rows>(
     ensures same { SameRows W.rows W.count W.known rows.old rows.new }
     ensures alike { W.alike rows.old rows.new }
 {
-    let ids = walk(alloc, rows, question)?;
+    let ids = walk(alloc, rows, question, steps)?;
     let those = chosen(alloc, mode, rows, question, ids)?;
     Ok(those)
 }
 
 /// The walk that a question asks for.
-fn walk<W: Rows>(
+fn walk<W: Rows, L: Ledger>(
     alloc: Global,
     rows: &mut W,
     question: &Question,
+    steps: &mut Steps<L>,
 ) -> Result<List<EntityId>, WalkFault>
     requires known { subject question.now < W.known rows.old }
     ensures ascending { IfOk result (λ ids. IsAscending (numbers ids)) }
@@ -84,8 +92,8 @@ fn walk<W: Rows>(
     ensures alike { W.alike rows.old rows.new }
 {
     match *question {
-        Question::Back { of, until } => backward(alloc, rows, of, until),
-        Question::Fore { of, since } => forward(alloc, rows, of, since),
+        Question::Back { of, until } => backward(alloc, rows, of, until, steps),
+        Question::Fore { of, since } => forward(alloc, rows, of, since, steps),
     }
 }
 

@@ -12,6 +12,7 @@ mod plain;
 mod questions;
 mod reducer;
 mod rows;
+mod steps;
 mod vec_rows;
 
 pub use laws::{
@@ -23,4 +24,5 @@ pub use plain::Plain;
 pub use questions::{First, Question, starts_by};
 pub use reducer::Reducer;
 pub use rows::{Keep, Mark, Row, RowFault, Rows};
+pub use steps::Steps;
 pub use vec_rows::VecRows;

@@ -9,7 +9,9 @@ ghost use Rattle.reach_rows.specs.Alike.{GoesAlong};
 ghost use Rattle.reach_rows.specs.Reading.{IsReading};
 
 use crate::questions::First;
+use crate::steps::Steps;
 use flow_base::{EntityId, Flow, How, NoMemory, Stamp};
+use std::sync::ledger::Ledger;
 
 /// What a row keeps of a flow besides its ends.
 #[derive(Clone, Copy, Debug, PartialEq, Eq)]
@@ -100,13 +102,14 @@ pub trait Rows {
         requires { id.0 < known self.now }
         ensures { IfSome (rows self.now) (λ R. IsLastOf (firsts R) (Leaves id.0) result) };
 
-    /// The row at an index. Reading changes no rows.
-    fn row(&mut self, index: u64) -> Result<Row, RowFault>
+    /// The row at an index. Reading changes no rows, and each call counts one step.
+    fn row<L: Ledger>(&mut self, index: u64, steps: &mut Steps<L>) -> Result<Row, RowFault>
         requires { index < count self.old }
         ensures exact { IfOk result (λ row. IfSome (rows self.old) (λ R. IsRowAt R index row)) }
         ensures ends { IfOk result (λ row. (row.from.0 < known self.old) × (row.to.0 < known self.old)) }
         ensures same { (rows self.new ≡ rows self.old) × (count self.new ≡ count self.old) × (known self.new ≡ known self.old) }
         ensures cause { IsReading (rows self.old) (faults self.old) (faults self.new) (spent self.old) (spent self.new) result }
+        ensures step { steps.new ≡ steps.old + 1 }
         ensures alike { alike self.old self.new };
 
     ghost goes_along: { GoesAlong alike };

@@ -9,9 +9,11 @@ ghost use Rattle.reach_rows.specs.InMemory.{InMemory, HasRoom, AreKept};
 use crate::objects::{Object, enter, last_from_of, last_into_of, leave};
 use crate::questions::First;
 use crate::rows::{Keep, Mark, Row, RowFault, Rows};
+use crate::steps::Steps;
 use flow_base::{EntityId, Flow, NoMemory};
 use std::alloc::Global;
 use std::marker::Model;
+use std::sync::ledger::Ledger;
 
 /// Rows in memory, which are always told and never fail to be read.
 #[derive(Drop)]
@@ -77,7 +79,8 @@ impl Rows for VecRows {
         self.objects[id.0 as usize].last_from
     }
 
-    fn row(&mut self, index: u64) -> Result<Row, RowFault> {
+    fn row<L: Ledger>(&mut self, index: u64, steps: &mut Steps<L>) -> Result<Row, RowFault> {
+        steps.tick();
         Ok(self.rows[index as usize])
     }
 

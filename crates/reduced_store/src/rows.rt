@@ -22,11 +22,12 @@ use crate::new_rows::extend_rows;
 use crate::spelling::write_kept;
 use flow_base::{Bytes, EntityId, Flow, List, NoMemory};
 use reach_rows::{
-    First, Keep, Mark, Object, Row, RowFault, Rows, enter, last_from_of, last_into_of, leave,
+    First, Keep, Mark, Object, Row, RowFault, Rows, Steps, enter, last_from_of, last_into_of, leave,
 };
 use row_codec::{KeptRow, StoreRow};
 use std::alloc::Global;
 use std::marker::Model;
+use std::sync::ledger::Ledger;
 
 /// The rows of a store.
 #[derive(Drop)]
@@ -239,7 +240,8 @@ impl Rows for StoreRows {
         self.objects[id.0 as usize].last_from
     }
 
-    fn row(&mut self, index: u64) -> Result<Row, RowFault> {
+    fn row<L: Ledger>(&mut self, index: u64, steps: &mut Steps<L>) -> Result<Row, RowFault> {
+        steps.tick();
         Ok(self.row_at(index))
     }
 

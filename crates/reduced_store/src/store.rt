@@ -28,10 +28,11 @@ use batch_log::{BatchLog, CommitFault, LogFault};
 use flow_base::{Bytes, EntityId, Flow, Limits, List, NoMemory};
 use outside::Disk;
 use reach_model::Mode;
-use reach_rows::{First, Keep, Row, RowFault, Rows};
+use reach_rows::{First, Keep, Row, RowFault, Rows, Steps};
 use row_codec::{StoreRow, write_payload};
 use std::alloc::Global;
 use std::marker::Model;
+use std::sync::ledger::Ledger;
 
 /// A store on a disk: the log of the disk's batches, and the rows. Of the rows it is known what they
 /// were at the last commit: how many there were, and the last marks of those that were extended since.
@@ -252,7 +253,7 @@ impl<D: Disk> Store<D> {
 }
 
 impl<D: Disk> Rows for Store<D> {
-    ghost use Rattle.std.specs.Prelude.{◌≡◌, ◌<◌, length, IfOk, Some};
+    ghost use Rattle.std.specs.Prelude.{◌≡◌, ◌<◌, ◌+◌, length, IfOk, Some};
     ghost use Rattle.reach_model.specs.Numbers.{known};
     ghost use Rattle.reach_model.specs.Rows.{firsts};
     ghost use Rattle.reach_rows.specs.Kept.{IsRowAt};
@@ -291,7 +292,7 @@ impl<D: Disk> Rows for Store<D> {
         self.rows.last_from(id)
     }
 
-    fn row(&mut self, index: u64) -> Result<Row, RowFault>
+    fn row<L: Ledger>(&mut self, index: u64, steps: &mut Steps<L>) -> Result<Row, RowFault>
         requires { index < length self.old.rows.rows }
         ensures exact { IfOk result (IsRowAt self.old.rows.rows index) }
         ensures ends { IfOk result (λ row. (row.from.0 < known (firsts self.old.rows.rows))
@@ -299,8 +300,10 @@ impl<D: Disk> Rows for Store<D> {
         ensures rows { self.new.rows ≡ self.old.rows }
         ensures same { SameBut self.old self.new }
         ensures cause { IsReading (Some self.old.rows.rows) 0 0 ⊥ ⊥ result }
+        ensures step { steps.new ≡ steps.old + 1 }
     {
         let _ = &self.disk;
+        steps.tick();
         Ok(self.rows.row_at(index))
     }
 

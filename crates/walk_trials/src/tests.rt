@@ -1,8 +1,9 @@
 ghost use Rattle.std.specs.Prelude.{◌≡◌, IfOk};
 
 use crate::table::Table;
+use crate::walks::{back, fore, way};
 use flow_base::{EntityId, Flow, How, List, NoMemory, Stamp};
-use query_walk::{WalkFault, backward, forward, path};
+use query_walk::WalkFault;
 use reach_model::Verdict;
 use reach_rows::{Mark, Plain, Reducer, Row};
 use reduce_continuous::Continuous;
@@ -43,12 +44,7 @@ fn table(alloc: Global, written: &[Written], known: u32) -> Result<Table, NoMemo
     for written in written {
         rows.push(row(*written))?;
     }
-    Ok(Table {
-        rows,
-        known,
-        fails: None,
-        faults: 0,
-    })
+    Table::new(alloc, rows, known)
 }
 
 fn are(ids: &List<EntityId>, expected: &[u32]) -> bool {
@@ -70,7 +66,7 @@ fn walks_go_in_the_order_of_first_and_last_flows(rt: HostRuntime) -> Result<(), 
     .as_slice();
     // 0 goes on writing to 1 after 2 has written to 0, so the order of rows isn't that of their last flows.
     let long = [(0, 1, 10, 0, 50, 5), (2, 0, 30, 3, 30, 3)].as_slice();
-    let back: [(&[Written], u32, Option<u64>, &[u32]); 8] = [
+    let backward: [(&[Written], u32, Option<u64>, &[u32]); 8] = [
         (merged, 2, None, [0, 1, 2].as_slice()),
         (merged, 2, Some(30), [0, 1, 2].as_slice()),
         (merged, 2, Some(29), [2].as_slice()),
@@ -80,15 +76,15 @@ fn walks_go_in_the_order_of_first_and_last_flows(rt: HostRuntime) -> Result<(), 
         (long, 1, None, [0, 1].as_slice()),
         (long, 0, None, [0, 2].as_slice()),
     ];
-    for (written, of, until, expected) in back {
+    for (written, of, until, expected) in backward {
         let mut rows = table(alloc, written, 3)?;
         assert!(rt; of < 3);
-        let Ok(found) = backward(alloc, &mut rows, EntityId(of), until) else {
+        let Ok(found) = back(alloc, &mut rows, EntityId(of), until) else {
             return Err(Fail::new("a walk backward failed"));
         };
         assert!(rt; are(&found, expected), "back {of}");
     }
-    let fore: [(&[Written], u32, Option<u64>, &[u32]); 8] = [
+    let forward: [(&[Written], u32, Option<u64>, &[u32]); 8] = [
         (merged, 0, None, [0, 1, 2].as_slice()),
         (merged, 0, Some(20), [0, 1, 2].as_slice()),
         (merged, 0, Some(21), [0, 1].as_slice()),
@@ -98,10 +94,10 @@ fn walks_go_in_the_order_of_first_and_last_flows(rt: HostRuntime) -> Result<(), 
         (long, 2, None, [0, 1, 2].as_slice()),
         (long, 0, None, [0, 1].as_slice()),
     ];
-    for (written, of, since, expected) in fore {
+    for (written, of, since, expected) in forward {
         let mut rows = table(alloc, written, 3)?;
         assert!(rt; of < 3);
-        let Ok(found) = forward(alloc, &mut rows, EntityId(of), since) else {
+        let Ok(found) = fore(alloc, &mut rows, EntityId(of), since) else {
             return Err(Fail::new("a walk forward failed"));
         };
         assert!(rt; are(&found, expected), "fore {of}");
@@ -148,7 +144,7 @@ fn a_path_goes_by_first_flows_of_ascending_places(rt: HostRuntime) -> Result<(),
         let mut rows = table(alloc, written, 3)?;
         assert!(rt; from < 3);
         assert!(rt; to < 3);
-        let Ok(found) = path(alloc, &mut rows, EntityId(from), EntityId(to), until) else {
+        let Ok(found) = way(alloc, &mut rows, EntityId(from), EntityId(to), until) else {
             return Err(Fail::new("a search for a path failed"));
         };
         match (found, expected) {
@@ -163,36 +159,91 @@ fn a_path_goes_by_first_flows_of_ascending_places(rt: HostRuntime) -> Result<(),
 }
 
 #[test]
+fn walks_read_the_rows_of_their_answers_once(rt: HostRuntime) -> Result<(), Fail> {
+    let alloc = rt.alloc();
+    // Three objects flow into 1, and 1 into 4, of which two later rows leave 0 and enter 2.
+    let star = [
+        (0, 1, 10, 0, 10, 0),
+        (2, 1, 20, 1, 20, 1),
+        (3, 1, 30, 2, 30, 2),
+        (1, 4, 40, 3, 40, 3),
+        (0, 2, 50, 4, 50, 4),
+        (0, 2, 60, 5, 60, 5),
+    ]
+    .as_slice();
+    // Back and forth between 0 and 1, and once from 1 to 2 in between.
+    let to_and_fro = [
+        (0, 1, 1, 0, 1, 0),
+        (1, 0, 2, 1, 2, 1),
+        (1, 2, 3, 2, 3, 2),
+        (0, 1, 4, 3, 4, 3),
+        (1, 0, 5, 4, 5, 4),
+    ]
+    .as_slice();
+    // The table, the object, and how many rows enter the objects that reach it and leave the objects that it reaches.
+    let cases: [(&[Written], u32, u64, u64); 8] = [
+        (star, 0, 0, 5),
+        (star, 1, 5, 1),
+        (star, 2, 2, 2),
+        (star, 3, 0, 2),
+        (star, 4, 6, 0),
+        (to_and_fro, 0, 4, 5),
+        (to_and_fro, 1, 4, 5),
+        (to_and_fro, 2, 5, 0),
+    ];
+    for (written, of, into, from) in cases {
+        let mut rows = table(alloc, written, 5)?;
+        assert!(rt; of < 5);
+        assert!(rt; back(alloc, &mut rows, EntityId(of), None).is_ok());
+        assert_eq!(rt; rows.read_once(), Some(into), "back {of}");
+        let mut rows = table(alloc, written, 5)?;
+        assert!(rt; fore(alloc, &mut rows, EntityId(of), None).is_ok());
+        assert_eq!(rt; rows.read_once(), Some(from), "fore {of}");
+        let mut rows = table(alloc, written, 5)?;
+        let other = if of == 0 { 1 } else { 0 };
+        assert!(rt; other < 5);
+        assert!(rt; way(alloc, &mut rows, EntityId(other), EntityId(of), None).is_ok());
+        assert_eq!(rt; rows.read_once(), Some(into), "why {other} {of}");
+    }
+    Ok(())
+}
+
+#[test]
 fn a_fault_of_a_row_is_handed_on_by_its_cause(rt: HostRuntime) -> Result<(), Fail> {
     let alloc = rt.alloc();
     let written = [(0, 1, 10, 0, 10, 0), (1, 2, 20, 1, 20, 1)].as_slice();
     let mut failing = table(alloc, written, 3)?;
     failing.fails = Some(1);
     assert_eq!(rt;
-        backward(alloc, &mut failing, EntityId(0), None).err(),
+        back(alloc, &mut failing, EntityId(2), None).err(),
         Some(WalkFault::StoreFault)
     );
     assert_eq!(rt;
-        forward(alloc, &mut failing, EntityId(0), None).err(),
+        fore(alloc, &mut failing, EntityId(0), None).err(),
         Some(WalkFault::StoreFault)
     );
     assert_eq!(rt;
-        path(alloc, &mut failing, EntityId(1), EntityId(0), None).err(),
+        way(alloc, &mut failing, EntityId(0), EntityId(2), None).err(),
         Some(WalkFault::StoreFault)
     );
     assert_eq!(rt; failing.faults, 3);
+    // The row that fails isn't read for what reaches object 1.
+    assert!(rt; back(alloc, &mut failing, EntityId(1), None).is_ok());
+    let written = [(0, 1, 10, 0, 10, 0), (2, 1, 20, 1, 20, 1)].as_slice();
     let mut bad = table(alloc, written, 2)?;
     assert_eq!(rt;
-        backward(alloc, &mut bad, EntityId(0), None).err(),
+        back(alloc, &mut bad, EntityId(1), None).err(),
         Some(WalkFault::BadStore(1))
     );
     assert_eq!(rt;
-        forward(alloc, &mut bad, EntityId(0), None).err(),
+        way(alloc, &mut bad, EntityId(0), EntityId(1), None).err(),
         Some(WalkFault::BadStore(1))
     );
+    let written = [(0, 2, 10, 0, 10, 0), (0, 1, 20, 1, 20, 1)].as_slice();
+    let mut bad = table(alloc, written, 2)?;
     assert_eq!(rt;
-        path(alloc, &mut bad, EntityId(1), EntityId(0), None).err(),
-        Some(WalkFault::BadStore(1))
+        fore(alloc, &mut bad, EntityId(0), None).err(),
+        Some(WalkFault::BadStore(0))
     );
     Ok(())
 }
@@ -268,18 +319,8 @@ fn merged_rows_answer_as_all_flows_do(rt: HostRuntime) -> Result<(), Fail> {
         let merged = rows_of(alloc, &mut Continuous::new(alloc), steps)?;
         assert_eq!(rt; plain.len(), steps.len());
         assert_eq!(rt; merged.len(), kept);
-        let mut plain = Table {
-            rows: plain,
-            known: 3,
-            fails: None,
-            faults: 0,
-        };
-        let mut merged = Table {
-            rows: merged,
-            known: 3,
-            fails: None,
-            faults: 0,
-        };
+        let mut plain = Table::new(alloc, plain, 3)?;
+        let mut merged = Table::new(alloc, merged, 3)?;
         for of in 0..3 {
             for time in [None, Some(10), Some(15), Some(20), Some(25), Some(30)] {
                 assert!(rt;
@@ -306,10 +347,10 @@ fn agree(
     if of.0 >= merged.known {
         return false;
     }
-    let all_back = backward(alloc, plain, of, time);
-    let few_back = backward(alloc, merged, of, time);
-    let all_fore = forward(alloc, plain, of, time);
-    let few_fore = forward(alloc, merged, of, time);
+    let all_back = back(alloc, plain, of, time);
+    let few_back = back(alloc, merged, of, time);
+    let all_fore = fore(alloc, plain, of, time);
+    let few_fore = fore(alloc, merged, of, time);
     same(&all_back, &few_back) && same(&all_fore, &few_fore)
 }
 

@@ -33,8 +33,8 @@ returns-in-None-clause-exact g c = λ F R e lawful keeps.
     let shown = told (λ R. IsShown (firsts R) from.0 to until c.in_ok-path.field-0) rows c.in_ok-path.ensures.exact R e in
     (kept, nowhere F R lawful from.0 to until mode keeps kept c.in_ok-path.field-0 shown c.in-None.is)
 
-pub returns-in-Some-clause-exact : goal.returns-in-Some-clause-exact
-returns-in-Some-clause-exact g c = λ F R e lawful keeps.
+pub returns-clause-exact : goal.returns-clause-exact
+returns-clause-exact g c = λ F R e lawful keeps.
     let mode = g.M.Reducer.mode in
     let from = c.args.from in
     let to = c.args.to.0 in

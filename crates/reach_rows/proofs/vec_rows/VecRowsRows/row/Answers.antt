@@ -6,7 +6,7 @@ use Rattle.reach_rows.proofs.RowLemmas.{all_rows, kept_ends}
 use Rattle.reach_rows.proofs.vec_rows.VecRowsRows.row.Goals as goal
 
 pub returns-clause-ends : goal.returns-clause-ends
-returns-clause-ends c =
+returns-clause-ends g c =
     let rows = c.self.inside.rows.items in
     let objects = c.self.inside.objects.items in
     let all : length rows ≡ length c.args.self.now.rows = sym (all_rows rows objects c.self.invariant) ∙ ap (λ (m : InMemory). length m.rows) c.self.view_is in
