@@ -11,7 +11,7 @@ use Rattle.std.proofs.lemmas.List.Sums.{passes_at_first, fails_before_first}
 use Rattle.std.proofs.lemmas.List.Folds.{list_all_more}
 use Rattle.std.proofs.Math.Nat.{pow-le-pow_right}
 use Rattle.std.proofs.lemmas.Int.Digits.{digits_value-lt}
-use Rattle.audit_lex.proofs.NumberLemmas.{all_digits}
+use Rattle.audit_lex.proofs.NumberLemmas.{all_digits, digit_at}
 use Rattle.memchr.specs.Find.{is_byte}
 use Rattle.audit_lex.specs.Values.{number_of, are_digits}
 use Rattle.audit_lex.specs.Header.{cut_at, number_then, number_to}
@@ -154,3 +154,17 @@ below_power text place most within few digits =
     let len = length-take-le place text within in
     let power : 10 ^ length front ≤ 10 ^ most = pow-le-pow_right (lit< tt) (omega (arith, len, few)) in
     omega (arith, below, power)
+
+-- digits at the front are digits one by one
+pub digits_in_front : (text : List ℕ) (place : ℕ) → place ≤ length text → are_digits 10 (take place text) ≡ true → (k : ℕ) → k < place → digit_value (get_or text k 0) < 10
+digits_in_front text place within whole k below =
+    let digit = digit_at 10 (take place text) k whole (omega (arith, below, length-take-le place text within)) in
+    omega (arith, digit, ap digit_value (get_or-take place text k 0 below))
+
+-- a value that was read is that of digits
+pub valued : (text : List ℕ) (value : ℕ) → Some value ≡ (if are_digits 10 text then Some (digits_value 10 text) else None) → (are_digits 10 text ≡ true) × (value ≡ digits_value 10 text)
+valued text value is = by (are_digits 10 text) is
+  where
+    by : (b : Bool) → Some value ≡ (if b then Some (digits_value 10 text) else None) → (b ≡ true) × (value ≡ digits_value 10 text)
+    by true e = (refl, cc e)
+    by false e = absurd (cc e)

@@ -13,6 +13,7 @@ mod header;
 mod laws;
 mod lexer;
 mod line_cut;
+mod near;
 mod numbers;
 mod places;
 mod slots;

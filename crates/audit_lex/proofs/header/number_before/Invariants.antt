@@ -1,4 +1,4 @@
-use Rattle.std.proofs.Common.{◌≡◌, ◌<◌, ◌≤◌, ◌^◌, ℕ, get_or, take, true}
+use Rattle.std.proofs.Common.{◌≡◌, ◌<◌, ◌^◌, ℕ, get_or, take, true}
 use Rattle.std.specs.Char.{digit_value}
 use Rattle.std.specs.Str.Parse.{digits_value}
 use Rattle.audit_lex.specs.Values.{are_digits}
@@ -11,5 +11,4 @@ invariant-loop-place l = record {
   small : l.value < 16 ^ l.place;
   digits : (k : ℕ) → k < l.place → digit_value (get_or l.text k 0) < 10;
   whole : are_digits 10 (take l.place l.text) ≡ true;
-  few : l.place ≤ l.most;
 }

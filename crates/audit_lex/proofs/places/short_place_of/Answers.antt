@@ -2,7 +2,7 @@ use Rattle.std.proofs.Common.{sym, length, arith}
 use Rattle.std.proofs.lemmas.Bool.{eq-eqb}
 use Rattle.std.proofs.lemmas.List.Sums.{position_or_len_is}
 use Rattle.memchr.specs.Find.{is_byte}
-use Rattle.audit_lex.proofs.header.near_place_of.Goals as goal
+use Rattle.audit_lex.proofs.places.short_place_of.Goals as goal
 
 pub returns-then-text-place-clause-place : goal.returns-then-text-place-clause-place
 returns-then-text-place-clause-place c =

@@ -1,6 +1,6 @@
 use Rattle.std.proofs.Common.{◌≡◌, ◌<◌, ℕ, get_or, false}
 use Rattle.memchr.specs.Find.{is_byte}
-use Rattle.audit_lex.proofs.header.near_place_of.Given as goal
+use Rattle.audit_lex.proofs.places.short_place_of.Given as goal
 
 -- none of the bytes so far is the one
 abbrev pub invariant-loop-place : goal.invariant-loop-place
