@@ -1,8 +1,6 @@
-use Rattle.std.proofs.Common.{◌≡◌, ◌<◌, ◌≤◌, ◌+◌, ◌-◌, ◌∙◌, sym, ap, arith, ℕ, length, get_or, take, drop, true, Some}
-use Rattle.std.specs.Char.{digit_value}
+use Rattle.std.proofs.Common.{◌+◌, ◌-◌, ◌∙◌, sym, ap, arith, length, take, drop, Some}
 use Rattle.std.specs.Str.Parse.{digits_value}
 use Rattle.std.proofs.lemmas.List.{take_rest}
-use Rattle.audit_lex.specs.Values.{are_digits}
 use Rattle.audit_lex.proofs.HeaderNumbers.{below_power, digits_in_front, found, not_before, valued}
 use Rattle.audit_lex.proofs.header.number_of_usual_len.Goals as goal
 

@@ -1,4 +1,4 @@
-use Rattle.std.proofs.Common.{◌≡◌, ◌≢◌, ℕ, ◌+◌, ◌-◌, ◌<◌, ◌≤◌, ◌%◌, ◌^◌, ◌∙◌, List, Bool, true, false, length, get_or, take, map, not, replicate, cond, eqb, sym, subst, ap, arith, w8, w64}
+use Rattle.std.proofs.Common.{◌≡◌, ◌≢◌, ℕ, ◌+◌, ◌<◌, ◌≤◌, ◌%◌, ◌^◌, ◌∙◌, List, true, false, length, get_or, take, map, not, replicate, cond, eqb, sym, subst, ap, arith, w8, w64}
 use Rattle.std.proofs.lemmas.Simd.{bitmask_splat, none_from_empty_mask, trailing_mask_l, run_in_chunk_le, run_in_chunk_fails, run_in_chunk_stops, length-chunk}
 use Rattle.std.specs.Simd.Lanes.{mask_l, zip2, top}
 use Rattle.std.specs.Int.{trailing_zeros}
