@@ -1,14 +1,19 @@
 -- The record of a line is the one that it spells.
-use Rattle.std.proofs.Common.{◌≡◌, ◌≤◌, ◌∙◌, sym, refl, ap, subst, ℕ, Bool, true, false, List, [], length, arith, Option, Some, if◌then◌else◌}
+use Rattle.std.proofs.Common.{◌≡◌, ◌≤◌, ◌∙◌, sym, refl, ap, subst, ℕ, Bool, true, false, List, [], length, arith, Option, None, Some, if◌then◌else◌}
 use Rattle.std.proofs.lemmas.Grind.{common_steps}
 use Rattle.audit_lex.specs.History.{is_long}
 use Rattle.audit_lex.specs.LineClass.{Class, Used, Other, Blank, Malformed, text_class, class_of}
 use Rattle.audit_lex.specs.declared.faults.LineFault.TheVariants as fault
 use Rattle.audit_lex.specs.declared.fields.Kind.{Kind}
+use Rattle.audit_lex.specs.declared.fields.Kind.TheVariants as kind
 use Rattle.audit_lex.specs.declared.header.EventKey.{EventKey}
 use Rattle.audit_record.specs.Records.{Spells, IsUsed}
+use Rattle.audit_record.specs.declared.types.Body.TheVariants as body
 use Rattle.audit_record.specs.declared.types.Record.{Record}
-use Rattle.audit_record.proofs.SpellingLaws.{one_record, used_spells, spelled_is_used}
+use Rattle.audit_record.proofs.SpellingLaws.{one_record, used_spells, spelled_is_used, spells_where_used}
+use Rattle.record_join.specs.Keys.{EndsAt}
+use Rattle.ingest.specs.Entries.{IsEntered, IsGiven, is_end}
+use Rattle.ingest.specs.declared.entry.Entry.{Entry}
 use Rattle.ingest.specs.LineRecords.{record_by, record_of}
 
 not_used : (line : List ℕ) (class : Class) (made : Record) → text_class line ≡ class → ((key : EventKey) (kind : Kind) → class ≡ Used key kind → ⊥) → Spells line made → ⊥
@@ -56,6 +61,27 @@ module _ (line : List ℕ) where
 
 pub reads_used : (limit : ℕ) (line : List ℕ) (key : EventKey) (kind : Kind) (made : Record) → class_of limit line ≡ Used key kind → Spells line made → record_of limit line ≡ Some made
 reads_used limit line key kind made class spelled = some_if line (is_long limit line) made (used_if line (is_long limit line) key kind class) spelled
+
+-- a line that ends its event spells the record of an end
+pub end_spelled : (line : List ℕ) (key : EventKey) (k : Kind) → text_class line ≡ Used key k → is_end k ≡ true → (item : Record) × Spells line item × EndsAt key item
+end_spelled line key kind.Proctitle is end =
+    (record { key = key; line = line; body = body.Proctitle }, spells_where_used line key kind.Proctitle line body.Proctitle is refl tt, record { key_is = refl; ends = refl })
+end_spelled line key kind.Eoe is end =
+    (record { key = key; line = line; body = body.Eoe }, spells_where_used line key kind.Eoe line body.Eoe is refl tt, record { key_is = refl; ends = refl })
+end_spelled line key kind.Syscall is end = absurd (cc end)
+end_spelled line key kind.Path is end = absurd (cc end)
+end_spelled line key kind.Cwd is end = absurd (cc end)
+end_spelled line key kind.Sockaddr is end = absurd (cc end)
+end_spelled line key kind.FdPair is end = absurd (cc end)
+end_spelled line key kind.Mmap is end = absurd (cc end)
+
+-- of a line that gives the joiner something
+pub given_some : (read : Option Entry) (given : Entry) (said : Option Record) → read ≡ Some given → IsGiven read said → IsEntered given said
+given_some read given said is so = subst (λ (o : Option Entry). IsGiven o said) is so
+
+-- of a line that gives it nothing
+pub given_none : (read : Option Entry) (said : Option Record) → read ≡ None → IsGiven read said → said ≡ None
+given_none read said is so = subst (λ (o : Option Entry). IsGiven o said) is so
 
 short_so : (limit : ℕ) (line : List ℕ) → is_long limit line ≡ false → length line ≤ limit
 short_so limit line e = grind (arith, common_steps, e)

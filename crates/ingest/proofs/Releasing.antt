@@ -166,6 +166,14 @@ not_excess Held b is_not is e = absurd (cc e)
 not_excess Closed b is_not is e = absurd (cc e)
 not_excess Excess b is_not is e = absurd (true≢false (sym is ∙ is_not))
 
+-- an end closes its group
+pub end_taken : (limits : Limits) (s : Joining) (r : Record) → ends_event r ≡ true → Closed ≡ taken_as limits s r
+end_taken limits s r ends = by (ends_event r) ends
+  where
+    by : (b : Bool) → b ≡ true → Closed ≡ (if b then Closed else if is_excess limits (group_of r.key s.waiting) r then Excess else Held)
+    by true e = refl
+    by false e = absurd (cc e)
+
 -- a record has come, and none was dropped
 pub stands_entered : {K : Type 0} (limits : Limits) (joined after : Joined K) (s : Joining) (released : List Event) (item : Record) (t : Taken) → JoinedStandsFor limits joined s released
     → after ≡ record joined { join = after.join } → JoinStandsFor limits after.join (enter limits s item) → t ≡ taken_as limits s item → (t ≡ Excess → ⊥)

@@ -1,4 +1,5 @@
 pub mod LineRecords
+pub mod Entries
 pub mod EventActs
 pub mod Events
 pub mod Counting

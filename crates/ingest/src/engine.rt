@@ -389,7 +389,7 @@ impl<R: Reducer, K: Keep> Ingest<R, K> {
         }
     }
 
-    // Ends a line with these bytes and a line feed, and gives its record to the joiner. Where no memory is found nothing
+    // Ends a line with these bytes and a line feed, and gives the joiner what comes of it. If allocation fails nothing
     // has changed.
     fn join_line(&mut self, part: &[u8]) -> Result<(), NoMemory>
         requires quiet { NothingRipe self.old.joined.join }
@@ -406,8 +406,8 @@ impl<R: Reducer, K: Keep> Ingest<R, K> {
         ensures marked { self.new.joined.tables.marked ≡ self.old.joined.tables.marked }
     {
         match self.reader.read(part)? {
-            Some(item) => {
-                self.joined.enter(item)?;
+            Some(given) => {
+                self.joined.enter(given)?;
                 self.reader.end_used(part);
                 Ok(())
             }
@@ -415,7 +415,7 @@ impl<R: Reducer, K: Keep> Ingest<R, K> {
         }
     }
 
-    // Ends the last line, where it has a byte, and gives its record to the joiner. Where no memory is found nothing has
+    // Ends the last line, if it has a byte, and gives the joiner what comes of it. If allocation fails nothing has
     // changed.
     fn end_last(&mut self) -> Result<(), NoMemory>
         requires quiet { NothingRipe self.old.joined.join }
@@ -428,8 +428,8 @@ impl<R: Reducer, K: Keep> Ingest<R, K> {
         ensures marked { self.new.joined.tables.marked ≡ self.old.joined.tables.marked }
     {
         match self.reader.read(&[])? {
-            Some(item) => {
-                self.joined.enter(item)?;
+            Some(given) => {
+                self.joined.enter(given)?;
                 self.reader.settle_used();
                 Ok(())
             }

@@ -8,6 +8,7 @@ ghost use Rattle.flow_base.specs.declared.limits.Full.{Full};
 ghost use Rattle.reach_model.specs.Rows.{Row};
 ghost use Rattle.record_join.specs.Events.{Joining, count_keys, ripe_key, next_event};
 ghost use Rattle.record_join.specs.History.{start};
+ghost use Rattle.record_join.specs.Keys.{EndsAt};
 ghost use Rattle.record_join.specs.StandsFor.{NothingRipe, WhereStands, event_seen};
 ghost use Rattle.record_join.specs.StandsFor.{StandsFor as JoinStandsFor};
 ghost use Rattle.reach_rows.specs.Asked.{subject};
@@ -28,7 +29,8 @@ ghost use Rattle.ingest.specs.Events.{flows_in, objects_in, taken_in};
 ghost use Rattle.ingest.specs.Faults.{of_refused};
 ghost use Rattle.ingest.specs.Following.{KeepTaken, KeptWith};
 ghost use Rattle.ingest.specs.Following.{IsPlanFor, IsFullWith};
-ghost use Rattle.ingest.specs.GoingOn.{EntersOne, ClosesAll, ReleasesAll, ReleasesNext};
+ghost use Rattle.ingest.specs.GoingOn.{EntersOne, EntersGiven, ClosesAll, ReleasesAll};
+ghost use Rattle.ingest.specs.GoingOn.{ReleasesNext};
 ghost use Rattle.ingest.specs.GoingOn.{OwesRest, StaysJoined};
 ghost use Rattle.ingest.specs.Naming.{named_in, names_in};
 ghost use Rattle.ingest.specs.Owing.{NextPasses};
@@ -39,9 +41,11 @@ ghost use Rattle.ingest.specs.StandsFor.{JoinedStandsFor, WhereJoined, WhereWait
 ghost use Rattle.ingest.specs.declared.stop.StopWhy.TheVariants as why;
 
 use crate::commit::rows_around;
+use crate::entry::Entry;
 use crate::event_counts::EventCounts;
 use crate::stop::StopWhy;
 use acts::flows_of_acts_are_lawful;
+use audit_lex::EventKey;
 use audit_record::Record;
 use batch_log::CommitFault;
 use call_acts::{acts_are_few, acts_of_events_are_admitted};
@@ -167,8 +171,36 @@ impl<R: Reducer, K: Keep> EventFlows<R, K> {
         self.kept.into_rows()
     }
 
-    /// Gives a record to the joiner. Where no memory is found nothing has changed.
-    pub fn enter(&mut self, item: Record) -> Result<(), NoMemory>
+    /// Gives the joiner what a line gave. If allocation fails nothing has changed.
+    pub fn enter(&mut self, given: Entry) -> Result<(), NoMemory>
+        requires quiet { NothingRipe self.old.join }
+        ensures ok { OnOk result (EntersGiven given self.old self.new) }
+        ensures few { OnOk result (OneMore self.old self.new) }
+        ensures err { OnErr result (self.new ≡ self.old) }
+        ensures alike { K.alike self.old.keep self.new.keep }
+        ensures marked { self.new.tables.marked ≡ self.old.tables.marked }
+    {
+        match given {
+            Entry::Record(item) => self.take(item),
+            Entry::End(key) => {
+                self.end(key);
+                Ok(())
+            }
+        }
+    }
+
+    // Gives the joiner the end of an event.
+    fn end(&mut self, key: EventKey)
+        ensures ends { (item : Record) → EndsAt key item → EntersOne item self.old self.new }
+        ensures few { OneMore self.old self.new }
+        ensures alike { K.alike self.old.keep self.new.keep }
+        ensures marked { self.new.tables.marked ≡ self.old.tables.marked }
+    {
+        self.join.end(key);
+    }
+
+    // Gives the joiner a record. If allocation fails nothing has changed.
+    fn take(&mut self, item: Record) -> Result<(), NoMemory>
         requires quiet { NothingRipe self.old.join }
         ensures ok { OnOk result (EntersOne item self.old self.new) }
         ensures few { OnOk result (OneMore self.old self.new) }
@@ -382,7 +414,8 @@ impl<R: Reducer, K: Keep> EventFlows<R, K> {
         requires ripe { WhereStands self.old.join (λ limits s.
             is_some (ripe_key limits s) ≡ true) }
         ensures next { OnOk result (ReleasesNext self.old self.new) }
-        ensures less { OnOk result (length self.old.join.groups ≡ suc (length self.new.join.groups)) }
+        ensures less { OnOk result
+            (length self.old.join.groups ≡ suc (length self.new.join.groups)) }
         ensures few { StaysFew self.old self.new }
         ensures refused { OnErr result (StaysJoined self.old self.new) }
         ensures full { (full : Full) → result ≡ Err (why.Full full)
@@ -401,7 +434,7 @@ impl<R: Reducer, K: Keep> EventFlows<R, K> {
         };
         self.counts.count(event.late, plan.unmapped());
         let _ = self.tables.apply(plan);
-        let _ = self.join.next();
+        let _ = self.join.pass();
         Ok(())
     }
 }

@@ -10,6 +10,7 @@
 mod ask_fault;
 mod commit;
 mod engine;
+mod entry;
 mod event_counts;
 mod event_flows;
 mod laws;

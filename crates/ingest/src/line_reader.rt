@@ -12,6 +12,7 @@ ghost use Rattle.audit_lex.specs.LineClass.{class_of};
 ghost use Rattle.audit_lex.specs.LineCut.{StandsFor as CutStandsFor};
 ghost use Rattle.ingest.specs.Bounds.{EndsLine, KeepsLines};
 ghost use Rattle.ingest.specs.Counting.{total};
+ghost use Rattle.ingest.specs.Entries.{IsGiven};
 ghost use Rattle.ingest.specs.LineRecords.{record_of};
 ghost use Rattle.ingest.specs.LineSteps.{HoldsMore, EndsUsed, EndsOther, SettlesUsed, SettlesOther};
 ghost use Rattle.ingest.specs.LineSteps.{CountsOne};
@@ -21,8 +22,9 @@ ghost use Rattle.ingest.specs.Storing.{moment_of};
 ghost use Rattle.store_check.specs.Conditions.{HasCounts, HasListed, HasTail};
 ghost use Rattle.stored.specs.Moment.{state_at};
 
+use crate::entry::{Entry, is_end};
 use audit_lex::{Lexed, LineCut, LineFault, Tally, lex, lines_are_counted};
-use audit_record::{Record, read_record};
+use audit_record::read_record;
 use flow_base::{Bad, Bytes, Limits, List, NoMemory};
 use row_codec::StateRow;
 use std::alloc::Global;
@@ -181,13 +183,14 @@ impl LineReader {
         Ok(())
     }
 
-    /// The record of the line that ends with these bytes, where it is a used one. A line that has begun was held whole.
-    pub fn read(&self, part: &[u8]) -> Result<Option<Record>, NoMemory>
+    /// What the line that ends with these bytes gives the joiner, if it is a used one. A line that has begun was held
+    /// whole.
+    pub fn read(&self, part: &[u8]) -> Result<Option<Entry>, NoMemory>
         requires no_feed { position_or_len (is_byte 10) part.now ≡ length part.now }
         requires whole { HasNoTail self.now ⊎ (part.now ≡ []) }
         ensures reads { IfOk result (λ r. (limits : Limits) (h : History)
             → ReaderStandsFor limits self.now h
-            → r ≡ record_of limits.line (tail_of h ++ part.now)) }
+            → IsGiven r (record_of limits.line (tail_of h ++ part.now))) }
         ensures nothing { HasNoTail self.now → part.now ≡ [] → result ≡ Ok None }
         ensures two { IfOk result (λ r. IsSome r
             → 2 ≤ length self.now.cut.tail + length part.now) }
@@ -199,8 +202,11 @@ impl LineReader {
         let Lexed::Used(used) = lex(text_of_line(&self.cut, part), self.limits.line) else {
             return Ok(None);
         };
+        if is_end(used.kind) {
+            return Ok(Some(Entry::End(used.key)));
+        }
         let item = read_record(self.alloc, &used)?;
-        Ok(Some(item))
+        Ok(Some(Entry::Record(item)))
     }
 
     /// Ends a used line with these bytes and a line feed.
@@ -277,7 +283,8 @@ pub fn copy_bad(alloc: Global, bad: &[Bad]) -> Result<List<Bad>, NoMemory>
 // A cutter that has given one more line, and holds nothing.
 fn after_line(alloc: Global, cut: &LineCut, limit: usize) -> LineCut
     requires { cut.now.lines < 2 ^ 61 }
-    ensures { result ≡ record { limit = limit; lines = cut.now.lines + 1; tail = []; long = false } }
+    ensures { result
+        ≡ record { limit = limit; lines = cut.now.lines + 1; tail = []; long = false } }
 {
     LineCut::resume(limit, cut.lines() + 1, Bytes::new(alloc), false)
 }

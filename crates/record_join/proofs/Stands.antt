@@ -15,8 +15,8 @@ use Rattle.std.proofs.lemmas.List.Sums.{sum_by_push}
 use Rattle.std.proofs.lemmas.Map.Keys.{IsDistinct-from_sorted, sorted_head, sorted_tail}
 use Rattle.std.proofs.lemmas.Map.Made.{length-from_keys}
 use Rattle.std.proofs.lemmas.Bool.Decides.{nat_tests}
-use Rattle.record_join.specs.Keys.{key_cmp, is_key, is_below, ends_event}
-use Rattle.record_join.specs.Events.{Joining, group_of, waits, is_among, least_key, count_keys, text_of, is_excess, put, enter, saw, taken_as, settled, is_past, is_ripe_at, only_ripe, ripe_key, event_of, without, event_at, left_at, next_event, next_left, let_go, event_time, is_late}
+use Rattle.record_join.specs.Keys.{EndsAt, key_cmp, is_key, is_below, ends_event}
+use Rattle.record_join.specs.Events.{Joining, group_of, waits, is_among, least_key, count_keys, text_of, is_excess, put, enter, saw, taken_as, settled, is_ripe_at, only_ripe, ripe_key, event_of, without, event_at, left_at, next_event, next_left, let_go, event_time, is_late}
 use Rattle.record_join.specs.PutBack.{fresh}
 use Rattle.record_join.specs.StandsFor.{Joiner, StandsFor, NothingRipe, group_at, records_in, shut, grown, is_ripe_group, ripe_first}
 use Rattle.audit_lex.specs.declared.header.EventKey.{EventKey}
@@ -410,6 +410,10 @@ module _ {limits : Limits} {join : Joiner} {s : Joining} (stands : StandsFor lim
   next_stands e es is ripe = subst (λ (t : Joining). StandsFor limits (joiner es (join.text - text_of e.1.records) (let_go join.clock e.0) join.limits) t)
       (sym (ap (left_at s) (first_ripe stands e es is ripe))) (released_stands stands e es is)
 
+  -- where something is ripe, something waits
+  pub never_empty : join.groups ≡ [] → is_some (ripe_key limits s) ≡ true → ⊥
+  never_empty is ripe = true≢false (sym ripe ∙ ap is_some (none_ripe stands is))
+
   pub nothing_ripe : join.groups ≡ [] → None ≡ next_event limits s
   nothing_ripe is = sym (ap (event_at s) (none_ripe stands is))
 
@@ -478,6 +482,15 @@ module _ {limits : Limits} {join : Joiner} {s : Joining} (stands : StandsFor lim
       (by_test (waits r.key s.waiting)
       (λ there. subst (λ (t : Joining). StandsFor limits ended t) (sym (on_true (waits r.key s.waiting) _ _ there)) (end_there there))
       (λ gone. subst (λ (t : Joining). StandsFor limits ended t) (sym (on_false (waits r.key s.waiting) _ _ gone)) (end_gone gone)))
+
+-- the same by the key alone
+pub ended_at : {limits : Limits} {join : Joiner} {s : Joining} → StandsFor limits join s → (key : EventKey) (item : Record) → EndsAt key item
+    → (after : List (EventKey × Group)) → keys_of after ≡ keys_of join.groups
+    → ((q : EventKey) → lookup (is_key q) after ≡ cond (is_key key q) (shut (lookup (is_key q) join.groups)) (lookup (is_key q) join.groups))
+    → StandsFor limits (record join { groups = after; clock = saw join.clock key.ms }) (enter limits s item)
+ended_at {limits} {join} {s} stands key item ends after keys put =
+    subst (λ (k : EventKey). StandsFor limits (record join { groups = after; clock = saw join.clock k.ms }) (enter limits s item)) ends.key_is
+    (end_stands stands item after keys (λ q. put q ∙ ap (λ (k : EventKey). cond (is_key k q) (shut (lookup (is_key q) join.groups)) (lookup (is_key q) join.groups)) (sym ends.key_is)) ends.ends)
 
 -- ---- nothing waits, nothing is ripe
 

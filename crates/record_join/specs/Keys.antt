@@ -1,5 +1,5 @@
 -- Keys, their order, and the kinds of record that joining tells apart.
-use Rattle.std.specs.Prelude.{Bool, true, false}
+use Rattle.std.specs.Prelude.{◌≡◌, Bool, true, false}
 use Rattle.std.specs.declared.cmp.Ordering.{Ordering}
 use Rattle.std.specs.Ordering.{nat_cmp, ordering_then, is_eq, is_lt}
 use Rattle.audit_lex.specs.declared.header.EventKey.{EventKey}
@@ -28,6 +28,11 @@ is_end _ = false
 -- an EOE or a PROCTITLE
 abbrev pub ends_event : Record → Bool
 ends_event r = is_end r.body
+
+-- the record ends the event of this key
+pub record EndsAt (key : EventKey) (item : Record) : Type 0 where
+  pub key_is : item.key ≡ key
+  pub ends : ends_event item ≡ true
 
 -- the body of a record of a call
 abbrev pub is_call_body : Body → Bool

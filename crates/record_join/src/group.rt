@@ -9,6 +9,7 @@ ghost use Rattle.record_join.specs.StandsFor.{records_in, shut, grown};
 ghost use Rattle.audit_lex.specs.declared.header.EventKey.{EventKey};
 
 use crate::kinds::is_call;
+use crate::spare::Spare;
 use audit_lex::EventKey;
 use audit_record::Record;
 use flow_base::{Limits, List, NoMemory};
@@ -35,7 +36,8 @@ pub type Groups = BTreeMap<EventKey, Group>;
 
 /// Whether the group of a record takes no such record any more.
 pub fn is_excess(groups: &Groups, limits: &Limits, item: &Record) -> bool
-    ensures { result ≡ is_excess limits.now (records_in (lookup (is_key item.now.key) groups.now.entries)) item.now }
+    ensures { result ≡ is_excess limits.now
+        (records_in (lookup (is_key item.now.key) groups.now.entries)) item.now }
 {
     match groups.get(&item.key) {
         Some(group) => is_full(group.records.as_slice(), limits, item),
@@ -60,7 +62,9 @@ fn has_call(records: &[Record]) -> bool
 /// Marks the group of a key closed, where it waits.
 pub fn close(groups: &mut Groups, key: &EventKey)
     ensures keys { keys_of groups.new.entries ≡ keys_of groups.old.entries }
-    ensures each { (other : EventKey) → lookup (is_key other) groups.new.entries ≡ (if is_key key.now other then shut (lookup (is_key other) groups.old.entries) else lookup (is_key other) groups.old.entries) }
+    ensures each { (other : EventKey) → lookup (is_key other) groups.new.entries
+        ≡ (if is_key key.now other then shut (lookup (is_key other) groups.old.entries)
+        else lookup (is_key other) groups.old.entries) }
 {
     match groups.get_mut(key) {
         Some(group) => group.closed = true,
@@ -70,7 +74,8 @@ pub fn close(groups: &mut Groups, key: &EventKey)
 
 /// Marks every group closed.
 pub fn close_all(groups: &mut Groups)
-    ensures { groups.new.entries ≡ map (λ e. (e.0, record e.1 { closed = true })) groups.old.entries }
+    ensures { groups.new.entries
+        ≡ map (λ e. (e.0, record e.1 { closed = true })) groups.old.entries }
 {
     // `retain` is the walk whose contract says what was written.
     groups.retain(|_, group| {
@@ -79,9 +84,16 @@ pub fn close_all(groups: &mut Groups)
     });
 }
 
-/// Puts a record into the group of its key, which is made where it doesn't wait.
-pub fn hold(alloc: Global, groups: &mut Groups, item: Record) -> Result<(), NoMemory>
-    ensures each { OnOk result ((key : EventKey) → lookup (is_key key) groups.new.entries ≡ (if is_key item.key key then Some (grown (lookup (is_key key) groups.old.entries) item) else lookup (is_key key) groups.old.entries)) }
+/// Puts a record into the group of its key, which is made if it doesn't wait: its list has the room that is spare.
+pub fn hold(
+    alloc: Global,
+    groups: &mut Groups,
+    spare: &mut Spare,
+    item: Record,
+) -> Result<(), NoMemory>
+    ensures each { OnOk result ((key : EventKey) → lookup (is_key key) groups.new.entries
+        ≡ (if is_key item.key key then Some (grown (lookup (is_key key) groups.old.entries) item)
+        else lookup (is_key key) groups.old.entries)) }
     ensures ascend { IsStrictlySortedBy key_cmp (keys_of groups.new.entries) }
     ensures err { OnErr result (groups.new.entries ≡ groups.old.entries) }
 {
@@ -92,7 +104,7 @@ pub fn hold(alloc: Global, groups: &mut Groups, item: Record) -> Result<(), NoMe
             Err(fault) => Err(fault),
         },
         None => {
-            let mut records = List::new(alloc);
+            let mut records = spare.take(alloc);
             records.push(item)?;
             let group = Group {
                 closed: false,

@@ -1,15 +1,18 @@
 //! The joiner: groups that wait in the order of their keys, and what is released of them.
-ghost use Rattle.std.specs.Prelude.{◌≡◌, ◌↔◌, false, OnOk, OnErr, IfOk, Some, None, option_map, OnSome, IfNone, is_some, length, suc};
+ghost use Rattle.std.specs.Prelude.{◌≡◌, ◌↔◌, false, OnOk, OnErr, IfOk, Some, None, option_map, OnSome, IfNone, is_some, length, suc, true};
 ghost use Rattle.record_join.specs.Events.{enter, taken_as, settled, ripe_key, next_event, next_left, count_keys};
 ghost use Rattle.record_join.specs.History.{start};
+ghost use Rattle.record_join.specs.Keys.{EndsAt};
 ghost use Rattle.record_join.specs.PutBack.{fresh};
 ghost use Rattle.record_join.specs.StandsFor.{NothingRipe, StandsFor, WhereStands, event_seen, ripe_first};
+ghost use Rattle.audit_record.specs.declared.types.Record.{Record};
 
 use crate::clock::JoinClock;
 use crate::event::{Event, EventView, Taken};
 use crate::group::{Group, Groups, close, close_all, hold, is_excess, text_without};
 use crate::kinds::ends_event;
 use crate::parts::Parts;
+use crate::spare::Spare;
 use audit_lex::EventKey;
 use audit_record::Record;
 use flow_base::{Limits, NoMemory};
@@ -26,6 +29,7 @@ pub struct Join {
     text: usize,
     clock: JoinClock,
     limits: Limits,
+    spare: Spare,
 }
 
 impl Model for Join {
@@ -64,6 +68,7 @@ impl Join {
             text: 0,
             clock,
             limits: *limits,
+            spare: Spare::new(alloc),
         }
     }
 
@@ -92,15 +97,17 @@ impl Join {
     /// is lost: its caller keeps the line. Ends and records in excess need no memory.
     pub fn take(&mut self, item: Record) -> Result<Taken, NoMemory>
         requires nothing { NothingRipe self.old }
-        ensures ok { IfOk result (λ taken. WhereStands self.old (λ limits s. taken ≡ taken_as limits s item)) }
-        ensures stands { OnOk result (WhereStands self.old (λ limits s. StandsFor limits self.new (enter limits s item))) }
+        ensures ok { IfOk result (λ taken. WhereStands self.old (λ limits s.
+            taken ≡ taken_as limits s item)) }
+        ensures stands { OnOk result (WhereStands self.old (λ limits s.
+            StandsFor limits self.new (enter limits s item))) }
         ensures err { OnErr result (self.new ≡ self.old) }
-        ensures memory { OnErr result (WhereStands self.old (λ limits s. taken_as limits s item ≡ Taken.Held)) }
+        ensures memory { OnErr result (WhereStands self.old (λ limits s.
+            taken_as limits s item ≡ Taken.Held)) }
     {
         let key = item.key;
         if ends_event(&item) {
-            close(&mut self.groups, &key);
-            self.clock.see(key.ms);
+            self.end(key);
             return Ok(Taken::Closed);
         }
         if is_excess(&self.groups, &self.limits, &item) {
@@ -109,10 +116,20 @@ impl Join {
         }
         // The sum is exact, so that it never drifts from the lines that wait: they were within the limit.
         let text = self.text + item.line.as_slice().len();
-        hold(self.alloc, &mut self.groups, item)?;
+        hold(self.alloc, &mut self.groups, &mut self.spare, item)?;
         self.text = text;
         self.clock.see(key.ms);
         Ok(Taken::Held)
+    }
+
+    /// Takes the end of the event of a key, as `take` does the record of an end. It says no more than its key, so that no
+    /// record need be made of it. It needs no memory.
+    pub fn end(&mut self, key: EventKey)
+        ensures { (item : Record) → EndsAt key item
+            → WhereStands self.old (λ limits s. StandsFor limits self.new (enter limits s item)) }
+    {
+        close(&mut self.groups, &key);
+        self.clock.see(key.ms);
     }
 
     /// Whether an event can be released.
@@ -125,7 +142,8 @@ impl Join {
 
     /// Lends the event that is released next.
     pub fn peek(&self) -> Option<EventView<'_>>
-        ensures { WhereStands self.now (λ limits s. option_map event_seen result ≡ next_event limits s) }
+        ensures { WhereStands self.now (λ limits s.
+            option_map event_seen result ≡ next_event limits s) }
     {
         match self.least_ripe() {
             Some((key, group)) => Some(EventView {
@@ -141,7 +159,8 @@ impl Join {
     /// Releases the least group, where it is ripe.
     pub fn next(&mut self) -> Option<Event>
         ensures event { WhereStands self.old (λ limits s. result ≡ next_event limits s) }
-        ensures stands { WhereStands self.old (λ limits s. StandsFor limits self.new (next_left limits s)) }
+        ensures stands { WhereStands self.old (λ limits s.
+            StandsFor limits self.new (next_left limits s)) }
         ensures some { OnSome result (length self.old.groups ≡ suc (length self.new.groups)) }
         ensures none { IfNone result (self.new ≡ self.old) }
         ensures nothing { IfNone result (NothingRipe self.new) }
@@ -149,7 +168,32 @@ impl Join {
         if !self.ripe() {
             return None;
         }
-        let (key, group) = self.groups.pop_first()?;
+        Some(self.release())
+    }
+
+    /// Passes over the event that is released next, of which there is one. The room of its list of records is kept for the
+    /// next group.
+    pub fn pass(&mut self)
+        requires ripe { WhereStands self.old (λ limits s. is_some (ripe_key limits s) ≡ true) }
+        ensures stands { WhereStands self.old (λ limits s.
+            StandsFor limits self.new (next_left limits s)) }
+        ensures less { length self.old.groups ≡ suc (length self.new.groups) }
+    {
+        let event = self.release();
+        self.spare.keep(event.records);
+    }
+
+    // Releases the least group, which is ripe.
+    fn release(&mut self) -> Event
+        requires ripe { WhereStands self.old (λ limits s. is_some (ripe_key limits s) ≡ true) }
+        ensures event { WhereStands self.old (λ limits s. Some result ≡ next_event limits s) }
+        ensures stands { WhereStands self.old (λ limits s.
+            StandsFor limits self.new (next_left limits s)) }
+        ensures less { length self.old.groups ≡ suc (length self.new.groups) }
+    {
+        let Some((key, group)) = self.groups.pop_first() else {
+            unreachable!()
+        };
         let event = Event {
             key,
             ms: self.clock.time_of(key),
@@ -158,7 +202,7 @@ impl Join {
         };
         self.text = text_without(self.text, event.records.as_slice());
         self.clock.release(key);
-        Some(event)
+        event
     }
 
     /// Marks every waiting group closed.
@@ -170,7 +214,8 @@ impl Join {
 
     /// The least group, where it is ripe.
     fn least_ripe(&self) -> Option<(&EventKey, &Group)>
-        ensures { option_map (λ p. (p.0.now, p.1.now)) result ≡ ripe_first self.now self.now.groups }
+        ensures { option_map (λ p. (p.0.now, p.1.now)) result
+            ≡ ripe_first self.now self.now.groups }
     {
         let (key, group) = self.groups.first_key_value()?;
         let crowded = self.groups.len() > self.limits.groups || self.text > self.limits.text;

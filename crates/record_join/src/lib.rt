@@ -18,6 +18,7 @@ mod kinds;
 mod laws;
 mod parts;
 mod releases;
+mod spare;
 
 pub use clock::JoinClock;
 pub use event::{Event, EventView, Taken};

@@ -1,22 +1,27 @@
-use Rattle.std.proofs.Common.{refl}
-use Rattle.ingest.proofs.FewActs.{few_at, few_entered}
-use Rattle.ingest.proofs.Releasing.{in_time_entered, joined_at, not_excess, stands_entered}
+use Rattle.std.proofs.Common.{◌≡◌, subst}
+use Rattle.audit_lex.specs.declared.header.EventKey.{EventKey}
+use Rattle.audit_record.specs.declared.types.Record.{Record}
+use Rattle.record_join.specs.Keys.{EndsAt}
+use Rattle.ingest.specs.Entries.{IsEntryOf}
+use Rattle.ingest.specs.GoingOn.{EntersOne, EntersGiven}
+use Rattle.ingest.specs.Parts.{Joined}
+use Rattle.ingest.specs.declared.entry.Entry.{Entry}
+use Rattle.ingest.specs.declared.entry.Entry.TheVariants as entry
+use Rattle.ingest.proofs.Answered.{on_ok_so}
 use Rattle.ingest.proofs.event_flows.EventFlows.enter.Goals as goal
 
-pub invariant_of-self-then-eq : goal.invariant_of-self-then-eq
-invariant_of-self-then-eq g c = in_time_entered _ _ _ _ _ c.self.invariant c.args.item (c.in_ok-taken.ensures.stands _ c.self.invariant.s c.self.invariant.join_is)
+-- a record that was given has entered
+record_given : {K : Type 0} (given : Entry) (made : Record) (old new : Joined K) → given ≡ entry.Record made → EntersOne made old new → EntersGiven given old new
+record_given given made old new is enters = λ item of. subst (λ (r : Record). EntersOne r old new) (subst (λ (e : Entry). IsEntryOf e item) is of) enters
 
-pub invariant_of-self-else-eq : goal.invariant_of-self-else-eq
-invariant_of-self-else-eq g c = in_time_entered _ _ _ _ _ c.self.invariant c.args.item (c.in_ok-taken.ensures.stands _ c.self.invariant.s c.self.invariant.join_is)
+-- an end that was given has entered
+end_given : {K : Type 0} (given : Entry) (key : EventKey) (old new : Joined K) → given ≡ entry.End key → ((item : Record) → EndsAt key item → EntersOne item old new) → EntersGiven given old new
+end_given given key old new is enters = λ item of. enters item (subst (λ (e : Entry). IsEntryOf e item) is of)
 
-pub returns-then-eq-clause-few : goal.returns-then-eq-clause-few
-returns-then-eq-clause-few g c = λ records f. few_entered _ _ records c.args.item (few_at _ _ records c.self.view_is f) c.in_ok-taken.ensures.stands refl
+pub returns-in-Record-clause-ok : goal.returns-in-Record-clause-ok
+returns-in-Record-clause-ok g c =
+    on_ok_so c.take.result (EntersOne c.in-Record.item c.args.self.now c.take.new.self) (EntersGiven c.args.given c.args.self.now c.take.new.self)
+    (record_given c.args.given c.in-Record.item c.args.self.now c.take.new.self c.in-Record.is) c.take.ensures.ok
 
-pub returns-else-eq-clause-few : goal.returns-else-eq-clause-few
-returns-else-eq-clause-few g c = λ records f. few_entered _ _ records c.args.item (few_at _ _ records c.self.view_is f) c.in_ok-taken.ensures.stands refl
-
-pub returns-else-eq-clause-ok : goal.returns-else-eq-clause-ok
-returns-else-eq-clause-ok g c = λ limits s released stands few.
-    let own = joined_at limits _ _ s released c.self.view_is stands in
-    stands_entered limits _ _ s released c.args.item c.in_ok-taken.taken own refl (c.in_ok-taken.ensures.stands limits s own.join) (c.in_ok-taken.ensures.ok limits s own.join)
-    (not_excess c.in_ok-taken.taken c.eq.result c.if-eq.false c.eq.ensures)
+pub returns-in-End-clause-ok : goal.returns-in-End-clause-ok
+returns-in-End-clause-ok g c = end_given c.args.given c.in-End.key _ _ c.in-End.is c.end.ensures.ends

@@ -4,7 +4,7 @@ use Rattle.record_join.specs.StandsFor.{event_seen}
 use Rattle.ingest.specs.Events.{taken_in}
 use Rattle.ingest.proofs.FewActs.{few_at, acts_room, acts_then, few_next, few_still}
 use Rattle.ingest.proofs.Releasing.{joined_at, marked_seen}
-use Rattle.ingest.proofs.Following.{same_err, same_some, ripe_so, never_none, on_some, has_taken, may_come, stands_still, full_then, stands_next, same_event, length_seen, in_time_by}
+use Rattle.ingest.proofs.Following.{same_err, same_some, ripe_so, never_none, has_taken, may_come, stands_still, full_then, stands_next, same_event, length_seen, in_time_by}
 use Rattle.ingest.proofs.Together.{together_at, in_time_followed, in_time_refused}
 use Rattle.ingest.proofs.event_flows.EventFlows.follow.Goals as goal
 
@@ -31,6 +31,9 @@ returns-in-Err-clause-full g c = λ full is limits s released stands.
     let next = c.in-Some.ensures limits s own.join in
     (event_seen c.in-Some.event, sym next, full_then limits c.self.inside.tables.limits released (event_seen c.in-Some.event) (Some full) own.limits_are (c.in-Err.ensures.full full (ap Err (same_err _ _ is)) (taken_in limits released) has))
 
+pub pass-requires : goal.pass-requires
+pass-requires g c = record { ripe = λ limits s stands. ripe_so limits _ _ s c.self.view_is c.requires.ripe stands }
+
 pub apply-requires-clause-safe : goal.apply-requires-clause-safe
 apply-requires-clause-safe g c = c.in-Ok.ensures.safe
 
@@ -41,7 +44,7 @@ invariant_of-self-2 g c =
     let next = c.in-Some.ensures _ w.s w.join_is in
     let bounds = c.apply.ensures.limits _ c.in-Ok.ensures.limits in
     in_time_by _ _ _ _ _ bounds.limits_are
-    (in_time_followed _ _ _ _ _ _ _ _ event c.in-Ok.plan w next (c.next.ensures.stands _ w.s w.join_is) c.in-Ok.ensures.room c.apply.ensures.grown c.apply.ensures.safe bounds c.in-Ok.ensures.goes_on)
+    (in_time_followed _ _ _ _ _ _ _ _ event c.in-Ok.plan w next (c.pass.ensures.stands _ w.s w.join_is) c.in-Ok.ensures.room c.apply.ensures.grown c.apply.ensures.safe bounds c.in-Ok.ensures.goes_on)
 
 pub returns-clause-next : goal.returns-clause-next
 returns-clause-next g c = λ limits s released event stands few next.
@@ -51,7 +54,7 @@ returns-clause-next g c = λ limits s released event stands few next.
     let may = may_come c.acts_of_events_are_admitted.ensures limits _ s released seen own peeked in
     let event_is : seen ≡ event = same_some _ _ (peeked ∙ next) in
     same_event limits _ _ released seen event event_is
-    (stands_next limits _ _ s released seen own peeked (c.apply.ensures.limits _ c.in-Ok.ensures.limits).limits_are (c.next.ensures.stands limits s own.join) refl
+    (stands_next limits _ _ s released seen own peeked (c.apply.ensures.limits _ c.in-Ok.ensures.limits).limits_are (c.pass.ensures.stands limits s own.join) refl
     (c.count.ensures released seen own.counts few refl (c.unmapped.ensures ∙ c.in-Ok.ensures.unmapped))
     (c.apply.ensures.next text_of (taken_in limits released) _ (c.in-Ok.ensures.same (taken_in limits released) may.has).tables_are (c.in-Ok.ensures.plan (taken_in limits released) may.has))
     (c.apply.ensures.marks text_of (taken_in limits released) _ (c.in-Ok.ensures.same (taken_in limits released) may.has).marked (c.in-Ok.ensures.plan (taken_in limits released) may.has))
@@ -60,8 +63,7 @@ returns-clause-next g c = λ limits s released event stands few next.
 
 pub returns-clause-less : goal.returns-clause-less
 returns-clause-less g c =
-    let w = c.self.invariant in
-    length_seen _ _ _ c.self.view_is (on_some c.next.result _ _ (c.next.ensures.event _ w.s w.join_is ∙ sym (c.in-Some.ensures _ w.s w.join_is)) c.next.ensures.some)
+    length_seen _ _ _ c.self.view_is c.pass.ensures.less
 
 pub take_event-requires-clause-few : goal.take_event-requires-clause-few
 take_event-requires-clause-few g c =
@@ -76,7 +78,7 @@ pub returns-clause-few : goal.returns-clause-few
 returns-clause-few g c = λ records f.
     let event = event_seen c.in-Some.event in
     let own = few_at _ _ records c.self.view_is f in
-    few_next _ _ records own event (c.in-Some.ensures own.limits own.s own.join) (c.next.ensures.stands own.limits own.s own.join)
+    few_next _ _ records own event (c.in-Some.ensures own.limits own.s own.join) (c.pass.ensures.stands own.limits own.s own.join)
     (acts_then _ _ _ _ (length event.records) c.in-Ok.ensures.room.acts c.apply.ensures.grown.acts c.in-Ok.ensures.acts)
 
 pub take_event-requires-clause-limits : goal.take_event-requires-clause-limits
