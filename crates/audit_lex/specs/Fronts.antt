@@ -11,11 +11,11 @@ use Rattle.audit_lex.specs.declared.fronts.Token.{Token}
 use Rattle.audit_lex.specs.declared.fronts.Front.{Front}
 use Rattle.audit_lex.specs.declared.usual.Usual.{Usual}
 
--- the token that was lent, where it has a name
+-- the token that was borrowed, if it has a name
 abbrev pub token_seen : Token → Option NameValue
 token_seen token = if length token.value.now == 0 then None else Some (record { name = token.name.now; value = drop 1 token.value.now })
 
--- the value that a place is offered, where it is the one that was found
+-- the value that a place is offered, if it is the one that was found
 abbrev pub offered_from : Option ℕ → List ℕ → ℕ → Option (List ℕ)
 offered_from None bytes place = None
 offered_from (Some here) bytes place = if here == place then slot_value bytes else None
@@ -24,7 +24,7 @@ offered_from (Some here) bytes place = if here == place then slot_value bytes el
 abbrev pub offered_at : Front → ℕ → Option (List ℕ)
 offered_at front place = offered_from front.place front.value.now place
 
--- the name at the front of the text is of this length, has an `=` behind it, and this place in the table
+-- the name that the text begins with is of this length, has an `=` after it, and this place in the table
 pub record IsUsual (kind : Kind) (text : List ℕ) (usual : Usual) : Type 0 where
   pub len : name_len text ≡ usual.len
   pub named : usual.len < word_len text
@@ -35,7 +35,7 @@ pub record IsUsual (kind : Kind) (text : List ℕ) (usual : Usual) : Type 0 wher
 abbrev pub is_name_byte : ℕ → Bool
 is_name_byte byte = not (byte == 32 || byte == 61)
 
--- a name of this field, or of none, and an `=` behind it
+-- a name of this field, or of none, and an `=` after it
 pub record IsNameFront (front : List ℕ) (called : Option Field) : Type 0 where
   pub some : 0 < length front
   pub name : list_all is_name_byte (take (length front - 1) front) ≡ true

@@ -1,4 +1,4 @@
--- What lent lines say.
+-- What borrowed lines say.
 use Rattle.std.specs.Prelude.{◌≡◌, ℕ, List, ⊤}
 use Rattle.audit_lex.specs.LineClass.{Class, Used, Other, Blank, Malformed}
 use Rattle.audit_lex.specs.declared.lexer.Lexed.{Lexed}
@@ -11,7 +11,7 @@ class_seen lexed.Other = Other
 class_seen lexed.Blank = Blank
 class_seen (lexed.Malformed fault) = Malformed fault
 
--- a used line is lent whole
+-- a used line is borrowed whole
 abbrev pub LendsLine : Lexed → List ℕ → Type 0
 LendsLine (lexed.Used used) line = used.line.now ≡ line
 LendsLine _ line = ⊤

@@ -38,7 +38,7 @@ value_fault value.Bytes field = fault.Text field
 value_fault value.Word field = fault.Text field
 value_fault _ field = fault.Number field
 
--- the fault of a field by its rule, where there is one
+-- the fault of a field by its rule, if there is one
 abbrev pub fault_of : Rule → Option (List ℕ) → Option LineFault
 fault_of rule None = if rule.must then Some (fault.Missing rule.field) else None
 fault_of rule (Some value) = if spells rule.value value then None else Some (value_fault rule.value rule.field)

@@ -22,16 +22,16 @@ field_in_line line name = option_and_then (λ raw. field_of raw name) (raw_part_
 abbrev pub needed : {A : Type 0} → (List ℕ → Option A) → List ℕ → Field → Option A
 needed reads line field = option_and_then reads (field_in_line line (name_of field))
 
--- what a value spells, where there is one: `Some None` where there is none
+-- what a value spells, if there is one: `Some None` if there is none
 abbrev pub reads_if_there : {A : Type 0} → (List ℕ → Option A) → Option (List ℕ) → Option (Option A)
 reads_if_there reads None = Some None
 reads_if_there reads (Some value) = option_map Some (reads value)
 
--- what a field that may be left out spells: `Some None` where it isn't there
+-- what a field that may be left out spells: `Some None` if it isn't there
 abbrev pub offered : {A : Type 0} → (List ℕ → Option A) → List ℕ → Field → Option (Option A)
 offered reads line field = reads_if_there reads (field_in_line line (name_of field))
 
--- what a text spells, where there is one; one that is absent by its word is as one that isn't there
+-- what a text spells, if there is one; one that is absent by its word is as one that isn't there
 abbrev pub text_if_there : Option (List ℕ) → Option (Option (List ℕ))
 text_if_there None = Some None
 text_if_there (Some value) = text_of value

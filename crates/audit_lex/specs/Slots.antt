@@ -8,7 +8,7 @@ use Rattle.audit_lex.specs.Tokens.{NameValue, value_in, field_of}
 use Rattle.audit_lex.specs.declared.fields.Rule.{Rule}
 use Rattle.audit_lex.specs.declared.slots.Found.{Found}
 
--- the value of a slot, which stands behind an `=`: an empty slot has none
+-- the value of a slot, which stands after an `=`: an empty slot has none
 abbrev pub slot_value : List ℕ → Option (List ℕ)
 slot_value bytes = if length bytes == 0 then None else Some (drop 1 bytes)
 

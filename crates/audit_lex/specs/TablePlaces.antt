@@ -5,7 +5,7 @@ use Rattle.audit_lex.specs.declared.fields.Kind.TheVariants as kind
 use Rattle.audit_lex.specs.declared.fields.Field.{Field}
 use Rattle.audit_lex.specs.declared.fields.Field.TheVariants as field
 
--- the kind whose table asks for a field, and its place there, where it has a slot
+-- the kind whose table asks for a field, and its place there, if it has a slot
 abbrev pub home : Field → Option (Kind × ℕ)
 home field.Arch = Some (kind.Syscall, 0)
 home field.Syscall = Some (kind.Syscall, 1)
@@ -30,7 +30,7 @@ home field.Fd0 = Some (kind.FdPair, 0)
 home field.Fd1 = Some (kind.FdPair, 1)
 home field.Fd = Some (kind.Mmap, 0)
 
--- the place at home, where that is this kind
+-- the place at home, if that is this kind
 abbrev pub place_at : Kind → Option (Kind × ℕ) → Option ℕ
 place_at kind.Syscall (Some (kind.Syscall, place)) = Some place
 place_at kind.Path (Some (kind.Path, place)) = Some place

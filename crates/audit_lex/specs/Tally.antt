@@ -59,7 +59,7 @@ abbrev pub is_malformed : Class → Bool
 is_malformed (Malformed f) = true
 is_malformed _ = false
 
--- a line as it is listed, where it is malformed
+-- a line as it is listed, if it is malformed
 abbrev pub bad_of : ℕ → Class → List Bad
 bad_of number (Malformed f) = record { line = number; fault = fault_number f } ∷ []
 bad_of number _ = []

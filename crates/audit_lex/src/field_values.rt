@@ -1,6 +1,6 @@
 //! The fields of a raw part.
 //!
-//! The raw part is read once, from the front. What its kind's table asks for is kept on the way, so that the search
+//! The raw part is read once, from its beginning. What its kind's table asks for is kept on the way, so that the search
 //! for faults and the readers of a used line find it without reading the line again.
 ghost use Rattle.std.specs.Prelude.{◌≡◌, ℕ, None, option_map};
 ghost use Rattle.std.specs.List.{slice_index_or};

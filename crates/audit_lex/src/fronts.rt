@@ -1,4 +1,4 @@
-//! What stands at the front of a text: a token, and what its kind's table makes of it.
+//! What a text begins with: a token, and what its kind's table makes of it.
 ghost use Rattle.std.specs.Prelude.{◌≡◌, ◌≢◌, ◌<◌, ◌≤◌, ◌↔◌, ℕ, [], Some, length, drop, slice_index, IfSome};
 ghost use Rattle.std.specs.Bool.{IsTrue};
 ghost use Rattle.std.specs.List.{slice_index_or};
@@ -13,7 +13,7 @@ use crate::table_places::place_named;
 use crate::tokens::{len_of_name, len_of_value};
 use crate::usual::{number_behind, usual_name};
 
-/// A token, and the text behind it. Where it has no name, its value is empty.
+/// A token, and the text after it. If it has no name, its value is empty.
 #[derive(Clone, Copy)]
 pub(crate) struct Token<'a> {
     pub(crate) name: &'a [u8],
@@ -22,7 +22,7 @@ pub(crate) struct Token<'a> {
     pub(crate) rest: &'a [u8],
 }
 
-/// The token at the front of a text as a table takes it, and the text behind it.
+/// The first token of a text as a table takes it, and the text after it.
 #[derive(Clone, Copy)]
 pub(crate) struct Front<'a> {
     /// The place at which the table asks for it.
@@ -48,7 +48,7 @@ pub(crate) fn past_spaces(text: &[u8]) -> &[u8]
     b""
 }
 
-/// The token at the front of a text that doesn't begin with a space.
+/// The first token of a text that doesn't begin with a space.
 pub(crate) fn token_at(text: &[u8]) -> Token<'_>
     requires some { 0 < length text.now }
     requires begins { slice_index text.now 0 ≢ 32 }
@@ -83,7 +83,7 @@ fn is_value(text: &[u8]) -> bool
     }
 }
 
-/// The front of a text that doesn't begin with a space. The name that usually comes next is tried first.
+/// What a text begins with that doesn't begin with a space. The name that usually comes next is tried first.
 pub(crate) fn front_of(kind: Kind, next: usize, text: &[u8]) -> Front<'_>
     requires some { 0 < length text.now }
     requires begins { slice_index text.now 0 ≢ 32 }

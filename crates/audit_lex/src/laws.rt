@@ -29,7 +29,7 @@ pub fn lines_stay()
     ensures few { (history : History) → length (lines_of history) ≤ length history }
 {}
 
-/// Bytes without a line feed go behind the tail, and a line feed behind them ends it as a line.
+/// Bytes without a line feed are appended to the tail, and a line feed after them ends it as a line.
 pub fn line_feeds_end_lines()
     ensures lines { (history : History) (part : List ℕ) → position_or_len (is_byte 10) part ≡ length part
         → lines_of (with_bytes history part) ≡ lines_of history }
@@ -48,7 +48,7 @@ pub fn settles_end_tails()
     ensures twice { (history : History) → cuts_of (history ++ Settle ∷ Settle ∷ []) ≡ cuts_of (history ++ Settle ∷ []) }
 {}
 
-/// A header is read exactly where the line can be written with it.
+/// A header is read exactly if the line can be written with it.
 pub fn headers_are_written()
     ensures read { (line : List ℕ) (head : Head) → IsHeaded line head → head_of line ≡ Some head }
     ensures written { (line : List ℕ) (head : Head) → head_of line ≡ Some head → IsHeaded line head }
@@ -60,22 +60,22 @@ pub fn tokens_are_written()
     ensures written { (raw : List ℕ) → (pieces : List Piece) × ArePieces pieces × (raw ≡ pieces_text pieces) }
 {}
 
-/// A line is used exactly where it can be written with a header and tokens that spell each field of its kind.
+/// A line is used exactly if it can be written with a header and tokens that spell each field of its kind.
 pub fn used_lines_are_written()
     ensures { (line : List ℕ) (key : EventKey) (kind : Kind) → (text_class line ≡ Used key kind) ↔ IsUsedLine line key kind }
 {}
 
-/// A line has a class exactly where it can be written as one of that class, so it has one class and one fault at most.
+/// A line has a class exactly if it can be written as one of that class, so it has one class and one fault at most.
 pub fn lines_have_one_class()
     ensures { (limit : ℕ) (line : List ℕ) (class : Class) → (class_of limit line ≡ class) ↔ IsOfClass limit line class }
 {}
 
-/// The fields of a used line can be read, but for those that it may leave out.
+/// The fields of a used line can be read, except those that it may leave out.
 pub fn used_lines_are_readable()
     ensures { (line : List ℕ) (key : EventKey) (kind : Kind) → text_class line ≡ Used key kind → IsReadable kind line }
 {}
 
-/// The fields of a used line of a system call can be read, but for those that it may leave out.
+/// The fields of a used line of a system call can be read, except those that it may leave out.
 pub fn used_syscalls_are_readable()
     ensures text { (line : List ℕ) (key : EventKey) → text_class line ≡ Used key kind.Syscall → ReadableSyscall line }
     ensures line { (limit : ℕ) (line : List ℕ) (key : EventKey) → class_of limit line ≡ Used key kind.Syscall → ReadableSyscall line }

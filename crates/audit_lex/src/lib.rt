@@ -1,6 +1,6 @@
 //! The lines of a log, and what each of them is.
 //!
-//! `LineCut` cuts lines out of pieces of any size. `lex` gives the class of a line, and lends a used one with its
+//! `LineCut` cuts lines out of pieces of any size. `lex` gives the class of a line, and borrows a used one with its
 //! fields; `Tally` counts the classes. What a field's value spells is given by the readers, from `dec32` to `yesno`.
 //! The definitions are functions of the bytes of a line, and the laws say of them how such lines are written.
 #![tactic(auto)]

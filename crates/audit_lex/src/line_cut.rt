@@ -78,7 +78,7 @@ impl LineCut {
         self.lines
     }
 
-    /// The bytes after the last line feed, where they aren't too many.
+    /// The bytes after the last line feed, if they aren't too many.
     pub fn tail(&self) -> &[u8]
         ensures { result.now ≡ self.now.tail }
     {
@@ -92,7 +92,7 @@ impl LineCut {
         self.long
     }
 
-    /// Takes bytes up to and with the next line feed, or all. Where no memory is found nothing has
+    /// Takes bytes up to and with the next line feed, or all. If allocation fails, nothing has
     /// changed.
     pub fn next(&mut self, piece: &[u8]) -> Result<(usize, Option<Line>), NoMemory>
         requires { self.old.lines < 2 ^ 61 }
@@ -115,7 +115,7 @@ impl LineCut {
         Ok((end + 1, Some(line)))
     }
 
-    /// The last line, where bytes stand after the last line feed.
+    /// The last line, if bytes stand after the last line feed.
     pub fn finish(&mut self) -> Option<Line>
         requires { self.old.lines < 2 ^ 61 }
         ensures line { (history : History) → StandsFor self.old history
@@ -133,7 +133,7 @@ impl LineCut {
         Some(self.cut())
     }
 
-    // Puts bytes without a line feed behind the tail.
+    // Appends bytes without a line feed to the tail.
     fn extend(&mut self, part: &[u8]) -> Result<(), NoMemory>
         requires { position_or_len (is_byte 10) part.now ≡ length part.now }
         ensures stands { IfOk result (λ _. (history : History) → StandsFor self.old history

@@ -50,7 +50,7 @@ impl<'a> Slots<'a> {
         end
     }
 
-    /// Fills the slot where it is empty.
+    /// Fills the slot if it is empty.
     pub(crate) fn offer(&mut self, place: usize, value: &'a [u8])
         requires place { place < 11 }
         requires some { 0 < length value.now }
@@ -129,7 +129,7 @@ impl<'a> Found<'a> {
     }
 }
 
-// The value of a slot, where it holds one.
+// The value of a slot, if it holds one.
 fn value_of_slot(slot: &[u8]) -> Option<&[u8]>
     ensures { option_map (λ value. value.now) result ≡ slot_value slot.now }
 {

@@ -18,7 +18,7 @@ pub(crate) fn place_named(kind: Kind, name: &[u8]) -> Option<usize>
     }
 }
 
-/// The place of a field in the kind's table, where it has a slot there.
+/// The place of a field in the kind's table, if it has a slot there.
 pub(crate) fn place_of_field(kind: Kind, field: Field) -> Option<usize>
     ensures { result ≡ place_in kind field }
 {
@@ -28,7 +28,7 @@ pub(crate) fn place_of_field(kind: Kind, field: Field) -> Option<usize>
     }
 }
 
-// The kind whose table asks for the field, and its place there, where it has a slot.
+// The kind whose table asks for the field, and its place there, if it has a slot.
 pub(crate) fn home_of(field: Field) -> Option<(Kind, usize)>
     ensures { result ≡ home field }
 {

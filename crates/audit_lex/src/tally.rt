@@ -33,7 +33,7 @@ impl Tally {
         }
     }
 
-    /// Counts a line of this class. Where no memory is found nothing has changed.
+    /// Counts a line of this class. If allocation fails, nothing has changed.
     pub fn count(&mut self, number: u64, class: &Lexed<'_>, shown: usize) -> Result<(), NoMemory>
         requires { self.old.used + self.old.other + self.old.blank + self.old.malformed < 2 ^ 60 }
         ensures ok { OnOk result (self.new ≡ one_counted shown self.old (record { number = number; class = class_seen class.now })) }

@@ -1,4 +1,4 @@
-//! A used line, lent.
+//! A used line, borrowed.
 //!
 //! Its fields are slices of the line; which one a name means is a matter of the line alone.
 ghost use Rattle.std.specs.Prelude.{◌≡◌, Some, option_map};

@@ -17,7 +17,7 @@ pub(crate) struct Usual {
     pub(crate) place: Option<usize>,
 }
 
-/// The name at the front of a text, where it is the one of this number in the kernel's order.
+/// The name that a text begins with, if it is the name of this number in the kernel's order.
 pub(crate) fn usual_name(kind: Kind, number: usize, text: &[u8]) -> Option<Usual>
     ensures { IfSome result (IsUsual kind text.now) }
 {
@@ -29,7 +29,7 @@ pub(crate) fn usual_name(kind: Kind, number: usize, text: &[u8]) -> Option<Usual
     }
 }
 
-/// The number of the name that usually comes behind the field at this place of the kind's table. It is tried first, so a
+/// The number of the name that usually comes after the field at this place of the kind's table. It is tried first, so a
 /// wrong number costs a comparison and changes nothing.
 pub(crate) fn number_behind(kind: Kind, place: usize) -> usize {
     match kind {
@@ -90,7 +90,7 @@ fn usual_in_path(number: usize, text: &[u8]) -> Option<Usual>
     }
 }
 
-// The name at the front of a text, where these bytes begin it: a name and an `=`. The field is that of the name.
+// The name that a text begins with, if these bytes begin it: a name and an `=`. The field is that of the name.
 fn begins(kind: Kind, front: &[u8], field: Option<Field>, text: &[u8]) -> Option<Usual>
     requires { IsNameFront front.now field }
     ensures { IfSome result (IsUsual kind text.now) }
@@ -104,7 +104,7 @@ fn begins(kind: Kind, front: &[u8], field: Option<Field>, text: &[u8]) -> Option
     })
 }
 
-// The place of a field in the kind's table, where there is a field.
+// The place of a field in the kind's table, if there is a field.
 fn place_of_some(kind: Kind, field: Option<Field>) -> Option<usize>
     ensures { result ≡ option_and_then (place_in kind) field }
 {

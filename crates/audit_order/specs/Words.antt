@@ -27,7 +27,7 @@ abbrev pub switch_value : List ℕ → ℕ → Words → Option (ℕ × Words)
 switch_value name usual [] = Some (usual, [])
 switch_value name usual (word ∷ rest) = if is_word word name then number_first rest else Some (usual, word ∷ rest)
 
--- bounds of so many seconds and so many units of 2^20 bytes
+-- bounds of this many seconds and this many units of 2^20 bytes
 abbrev pub bounds_of : ℕ → ℕ → Bounds
 bounds_of seconds megabytes = record { window = seconds * 1000; memory = megabytes * 1048576 }
 

@@ -7,7 +7,7 @@ use order_text::{Stamp, is_one_line};
 use std::alloc::Global;
 use std::marker::Model;
 
-/// The line that ends an event, which is added where the log has none.
+/// The line that ends an event, which is added if the log has none.
 #[derive(Drop)]
 pub struct End {
     line: Bytes,

@@ -10,7 +10,7 @@ use crate::taker::Taker;
 use audit_lex::{Line, LineCut};
 use outside::{Sink, Source};
 
-/// The longest line: a longer one doesn't fit into memory. As many lines don't either.
+/// The longest line: a longer one doesn't fit into memory. Nor do as many lines.
 pub const MOST: usize = 1 << 60;
 
 // Takes a line that was cut out of the log.

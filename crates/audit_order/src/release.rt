@@ -1,4 +1,4 @@
-//! Lines that are written since their turn has come.
+//! Lines that are written because it is their turn.
 ghost use Rattle.std.specs.Prelude.{◌≡◌, ◌+◌, ◌-◌, ◌<◌, ◌≤◌, ◌^◌, ◌∷◌, [], false, length, OnOk, IfErr};
 ghost use Rattle.outside.specs.Cause.{Rose};
 ghost use Rattle.audit_order.specs.Halts.{HasCauses, GoesUp};
@@ -44,7 +44,7 @@ fn release_least<O: Sink>(sorter: &mut Sorter, sink: &mut O) -> Result<(), Halt>
     flush_much(sorter, sink)
 }
 
-// Makes room for so many bytes: the least places are written first.
+// Makes room for this many bytes: the least places are written first.
 fn make_room<O: Sink>(sorter: &mut Sorter, sink: &mut O, more: u64) -> Result<(), Halt>
     ensures goes { OnOk result
         (Goes (O.written sink.old) sorter.old (O.written sink.new) sorter.new) }
@@ -86,7 +86,7 @@ fn release_past<O: Sink>(sorter: &mut Sorter, sink: &mut O) -> Result<(), Halt>
 impl Taker for Sorter {
     ghost stands = { Sorts };
 
-    // The line waits for its turn, and lines whose turn has come are written.
+    // The line waits for its turn, and lines whose turn it is are written.
     fn take_line<O: Sink>(&mut self, sink: &mut O, line: Bytes) -> Result<(), Halt> {
         let place = self.places.place_of(line.as_slice())?;
         release_before(self, sink, place.starts)?;

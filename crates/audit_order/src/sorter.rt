@@ -180,7 +180,7 @@ pub fn hold(sorter: &mut Sorter, place: Place, line: Bytes) -> Result<(), NoMemo
     })
 }
 
-/// Whether too many bytes wait with so many more.
+/// Whether too many bytes wait with this many more.
 pub fn is_over(queue: &Queue, memory: u64, more: u64) -> bool
     ensures some { result ≡ true → 0 < length queue.now.waits }
     ensures room { result ≡ false → queue.now.bytes ≤ memory }

@@ -77,7 +77,7 @@ node=a type=EOE msg=audit(5.000:7): \n\
 node=b type=SYSCALL msg=audit(5.000:7): arch=c000003e syscall=1 a0=4 a1=0 a2=1 a3=0 ppid=1 pid=10\n\
 node=b type=PROCTITLE msg=audit(5.000:7): proctitle=\"b\"\n";
 
-// A node is started anew with its clock behind. A read then doesn't count at the time from before.
+// A node is started anew with its clock set back. A read then doesn't count at the time from before.
 const STARTED: &[u8] =
     b"type=SYSCALL msg=audit(9.000:8): arch=c000003e syscall=1 a0=4 a1=0 a2=1 a3=0 ppid=1 pid=10\n\
 type=SYSTEM_BOOT msg=audit(5.000:1): pid=1\n\

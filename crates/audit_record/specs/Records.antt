@@ -28,7 +28,7 @@ use Rattle.audit_record.specs.declared.types.Record.{Record}
 abbrev pub Says : {A : Type 0} → (List ℕ → Option A) → Option (List ℕ) → A → Type 0
 Says reads value a = option_and_then reads value ≡ Some a
 
--- a value that may be left out spells this; where it isn't there, this is nothing
+-- a value that may be left out spells this; if it isn't there, this is nothing
 abbrev pub MaySay : {A : Type 0} → (List ℕ → Option A) → Option (List ℕ) → Option A → Type 0
 MaySay reads value a = reads_if_there reads value ≡ Some a
 
@@ -46,7 +46,7 @@ pub record SpellsSyscall (value : Field → Option (List ℕ)) (call : Syscall) 
   pub pid : Says dec32_of (value field.Pid) call.pid
   pub exe : text_if_there (value field.Exe) ≡ Some call.exe
 
--- the file, where both numbers are there
+-- the file, if both numbers are there
 abbrev pub file_from : Option ℕ → Option Device → Option FileId
 file_from (Some ino) (Some device) = Some (record { device = device; ino = ino })
 file_from _ _ = None

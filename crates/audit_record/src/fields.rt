@@ -64,7 +64,7 @@ pub fn needed_handle(used: &UsedLine<'_>, field: Field) -> u32
     number
 }
 
-/// `yes` or `no`, where it is there.
+/// `yes` or `no`, if it is there.
 pub fn offered_yesno(used: &UsedLine<'_>, field: Field) -> Option<bool>
     requires { IsSome (offered yesno_of used.now.line.now field) }
     ensures { offered yesno_of used.now.line.now field ≡ Some result }
@@ -72,7 +72,7 @@ pub fn offered_yesno(used: &UsedLine<'_>, field: Field) -> Option<bool>
     yesno(used.field(field)?)
 }
 
-/// A signed number, where it is there.
+/// A signed number, if it is there.
 pub fn offered_signed(used: &UsedLine<'_>, field: Field) -> Option<i64>
     requires { IsSome (offered signed_of used.now.line.now field) }
     ensures { offered signed_of used.now.line.now field ≡ Some result }
@@ -80,7 +80,7 @@ pub fn offered_signed(used: &UsedLine<'_>, field: Field) -> Option<i64>
     signed(used.field(field)?)
 }
 
-/// A number of 64 bits, where it is there.
+/// A number of 64 bits, if it is there.
 pub fn offered_dec64(used: &UsedLine<'_>, field: Field) -> Option<u64>
     requires { IsSome (offered dec64_of used.now.line.now field) }
     ensures { offered dec64_of used.now.line.now field ≡ Some result }
@@ -88,7 +88,7 @@ pub fn offered_dec64(used: &UsedLine<'_>, field: Field) -> Option<u64>
     dec64(used.field(field)?)
 }
 
-/// A device, where it is there.
+/// A device, if it is there.
 pub fn offered_device(used: &UsedLine<'_>, field: Field) -> Option<Device>
     requires { IsSome (offered device_of used.now.line.now field) }
     ensures { offered device_of used.now.line.now field ≡ Some result }

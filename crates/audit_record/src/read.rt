@@ -94,7 +94,7 @@ fn read_path(alloc: Global, used: &UsedLine<'_>) -> Result<PathItem, NoMemory>
     })
 }
 
-// The file, where both numbers are there.
+// The file, if both numbers are there.
 fn file_of(inode: Option<u64>, device: Option<Device>) -> Option<FileId>
     ensures { result ≡ file_from inode device }
 {

@@ -36,7 +36,7 @@ pub fn needed_text(
     }
 }
 
-/// A text, where it is there.
+/// A text, if it is there.
 pub fn text_where_offered(
     alloc: Global,
     used: &UsedLine<'_>,

@@ -5,7 +5,7 @@
 use audit_lex::EventKey;
 use flow_base::{Bytes, FileId};
 
-/// A system call. `success` and `exit` aren't there where the call didn't return.
+/// A system call. `success` and `exit` aren't there if the call didn't return.
 #[derive(PartialEq, Eq, Drop)]
 pub struct Syscall {
     pub arch: u32,
@@ -31,7 +31,7 @@ pub enum NameKind {
     Unknown,
 }
 
-/// A path of a call. The file is there where the line has its inode and its device.
+/// A path of a call. The file is there if the line has its inode and its device.
 #[derive(PartialEq, Eq, Drop)]
 pub struct PathItem {
     pub item: u32,

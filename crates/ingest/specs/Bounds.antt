@@ -36,7 +36,7 @@ StaysFew old new = (records : ℕ) → IsFew records old → IsFew records new
 abbrev pub OneMore : {K : Type 0} → Joined K → Joined K → Type 0
 OneMore old new = (records : ℕ) → IsFew records old → IsFew (records + 1) new
 
--- so many bytes apart from the tail's were taken, and the bytes can be counted
+-- this many bytes apart from the tail's were taken, and the bytes can be counted
 pub record Pays (more : ℕ) (old new : Reader) : Type 0 where
   pub paid : more + (old.bytes + length new.cut.tail) ≤ new.bytes + length old.cut.tail
   pub within : new.bytes ≤ 2 ^ 60

@@ -35,7 +35,7 @@ pub record AreAround (text : List ℕ → List ℕ) (most : ℕ) (m0 m : Moment)
   pub entities_are : entities ≡ map Entity batch.entities
   pub others_are : others ≡ other_rows batch ++ rows_at_end m groups
 
--- whatever moments they lead from and to, these are the rows around those of flows, where so many names of an object are kept
+-- whatever moments they lead from and to, these are the rows around those of flows, if this many names of an object are kept
 abbrev pub ArePut : ℕ → Tables → Joiner → StateRow → (entities others : List StoreRow) → Type 0
 ArePut most tables join state entities others =
     (text : List ℕ → List ℕ) (m0 m : Moment) → Lead text tables join state m0 m → AreAround text most m0 m entities others

@@ -8,7 +8,7 @@ use Rattle.ingest.specs.Events.{events_of, state_of}
 use Rattle.ingest.specs.Parts.{Engine}
 use Rattle.ingest.specs.StandsFor.{ReaderStandsFor, JoinedStandsFor}
 
--- the last line has ended, and its record has entered where it has one; once all is closed, what is released then are the
+-- the last line has ended, and its record has entered if it has one; once all is closed, what is released then are the
 -- events that the settle adds
 pub record EndsLast {K : Type 0} (limits : Limits) (engine : Engine K) (h : History) : Type 0 where
   pub reader : ReaderStandsFor limits engine.reader (h ++ Settle ∷ [])

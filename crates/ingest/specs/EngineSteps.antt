@@ -37,7 +37,7 @@ SettlesUp old new = (limits : Limits) (h : History)
 
 -- ---- to a stop within a piece
 
--- this stop is where the history stops within these bytes
+-- this stop is if the history stops within these bytes
 abbrev pub StopsIn : {K : Type 0} → List ℕ → Engine K → Stop → Type 0
 StopsIn piece old stop = (limits : Limits) (h : History)
     → StandsFor limits old h → StopsFor limits h piece stop

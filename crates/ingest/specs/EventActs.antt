@@ -6,7 +6,7 @@ use Rattle.acts.specs.declared.act.Act.{Act}
 use Rattle.call_acts.specs.Acts.{event_acts}
 use Rattle.call_acts.specs.Acts as table
 
--- the acts of an event, the oldest first
+-- the acts of an event, oldest first
 abbrev pub acts_of_event : Limits → Event → List Act
 acts_of_event limits event = event_acts limits.path event.records
 

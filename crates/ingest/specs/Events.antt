@@ -34,7 +34,7 @@ abbrev pub settle_tells : Step → List Told
 settle_tells (Byte b) = []
 settle_tells Settle = Settles ∷ []
 
--- one more step tells the record of the line that it ends, and then the settle, where it is one
+-- one more step tells the record of the line that it ends, and then the settle, if it is one
 abbrev pub tells_at : Limits → History → Step → List Told
 tells_at limits before step = lines_tell limits (lines_since before (before ++ step ∷ [])) ++ settle_tells step
 
@@ -43,7 +43,7 @@ abbrev pub tells_after : Limits → History → History → List Told
 tells_after limits before [] = []
 tells_after limits before (step ∷ more) = tells_at limits before step ++ tells_after limits (before ++ step ∷ []) more
 
--- what came of a history, the oldest first: the records of its used lines, and its settles
+-- what came of a history, oldest first: the records of its used lines, and its settles
 abbrev pub told_of : Limits → History → List Told
 told_of limits h = tells_after limits [] h
 
@@ -53,7 +53,7 @@ told_of limits h = tells_after limits [] h
 abbrev pub state_of : Limits → History → Joining
 state_of limits h = state limits start (told_of limits h)
 
--- the events that a history has released, the oldest first
+-- the events that a history has released, oldest first
 abbrev pub events_of : Limits → History → List Event
 events_of limits h = events limits start (told_of limits h)
 
@@ -67,11 +67,11 @@ released_at limits before step = events limits (state_of limits before) (tells_a
 abbrev pub taken_at : (ms serial : ℕ) → Act → Taken
 taken_at ms serial act = record { act = act; ms = ms; serial = serial }
 
--- the acts of an event, the oldest first, each at the event's effective time
+-- the acts of an event, oldest first, each at the event's effective time
 abbrev pub taken_by : Limits → Event → List Taken
 taken_by limits event = map (taken_at event.ms event.key.serial) (acts_of_event limits event)
 
--- the acts of events, the newest first
+-- the acts of events, newest first
 abbrev pub taken_in : Limits → List Event → List Taken
 taken_in limits events = reverse (flat_map (taken_by limits) events)
 

@@ -29,7 +29,7 @@ pub record MayComeAt (ms : ℕ) (tables : Tables) (kept : KeptFlows) (taken : Li
   pub rise : TimesNeverFall taken
   pub no_later : latest taken ≤ ms
 
--- the acts of an event, the newest first
+-- the acts of an event, newest first
 abbrev pub turned_by : Limits → Event → List Taken
 turned_by limits event = turned event.ms event.key.serial (acts_of_event limits event)
 

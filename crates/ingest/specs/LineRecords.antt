@@ -10,6 +10,6 @@ abbrev pub record_by : (line : List ℕ) (class : Class) → text_class line ≡
 record_by line (Used key kind) is = Some (used_spells line key (kind, is)).0
 record_by line _ is = None
 
--- the record that a line spells, where it is a used one that isn't longer than a line may be
+-- the record that a line spells, if it is a used one that isn't longer than a line may be
 abbrev pub record_of : ℕ → List ℕ → Option Record
 record_of limit line = record_by (short_text limit line) (text_class (short_text limit line)) refl

@@ -1,4 +1,4 @@
--- What an engine stands for that may owe events: where one was refused, it and all that is ripe behind it stay in the
+-- What an engine stands for that may owe events: if one was refused, it and all that is ripe after it stay in the
 -- joiner.
 use Rattle.std.specs.Prelude.{◌≡◌, ◌≤◌, ◌<◌, ◌⊎◌, ◌+◌, ◌++◌, ◌∷◌, [], ⊤, ℕ, List, length, take, Some}
 use Rattle.flow_base.specs.declared.limits.Limits.{Limits}
@@ -54,7 +54,7 @@ pub record OwesFor {K : Type 0} (limits : Limits) (engine : Engine K) (h : Histo
   pub stands : MayOwe limits engine h
   pub by : OwesBy limits stands.rest stands.done cause
 
--- the byte behind those that were done would pass the limit of bytes
+-- the byte after those that were done would pass the limit of bytes
 pub record InputPasses (limits : Limits) (h : History) (piece : List ℕ) (done : ℕ) (full : Full) : Type 0 where
   pub more : done < length piece
   pub all : bytes_in h + done ≡ limits.input

@@ -13,7 +13,7 @@ abbrev pub done_in : {T : Type 0} → List ℕ → Result T Stop → ℕ
 done_in piece (Ok value) = length piece
 done_in piece (Err stop) = stop.done
 
--- so many bytes more are counted, up to the end of the counter
+-- this many bytes more are counted, up to the end of the counter
 abbrev pub count_on : ℕ → ℕ → ℕ
 count_on part more = min (part + more) (2 ^ 64 - 1)
 

@@ -33,7 +33,7 @@ IsQuestion (ask.Show id) = ⊤
 IsQuestion ask.Stat = ⊤
 IsQuestion _ = ⊥
 
--- the counts after a history, of whose flows so many rows are kept
+-- the counts after a history, of whose flows this many rows are kept
 abbrev pub counts_of : Limits → History → ℕ → Counts
 counts_of limits h kept = record {
   blank = (tally_in limits h).blank;
@@ -53,7 +53,7 @@ counts_of limits h kept = record {
   waiting = count_keys (state_of limits h).waiting;
 }
 
--- so many rows are those that the mode keeps of the flows
+-- this many rows are those that the mode keeps of the flows
 abbrev pub KeepsSoMany : Mode → List Flow → ℕ → Type 0
 KeepsSoMany kind flows n = (rows : List Row) × Keeps kind flows rows × (n ≡ length rows)
 
@@ -69,7 +69,7 @@ SaysAnswers kind flows (question.Back of until) (reply.Sources named ids) = (kin
 SaysAnswers kind flows (question.Fore of since) (reply.Fore named ids) = (named ≡ of) × AreAnswers kind flows (question.Fore of since) ids
 SaysAnswers kind flows asked _ = ⊥
 
--- Of the objects so many are known. A question about another one is refused, and then one that the mode doesn't answer.
+-- Of the objects this many are known. A question about another one is refused, and then one that the mode doesn't answer.
 abbrev pub AnswersQuestion : Mode → (known : ℕ) → List Flow → Question → Reply → Type 0
 AnswersQuestion kind known flows asked reply.Unknown = known ≤ subject asked
 AnswersQuestion kind known flows asked reply.NotKept = (subject asked < known) × ¬ IsAnswerable kind flows asked
@@ -80,7 +80,7 @@ abbrev pub way_by : Option (List Flow) → Way
 way_by None = way.Nowhere
 way_by (Some path) = way.Along path
 
--- Of the objects so many are known. A question why about another one is refused, and then one that the mode doesn't answer. Else
+-- Of the objects this many are known. A question why about another one is refused, and then one that the mode doesn't answer. Else
 -- the reply names both objects in their order, and has a path from the first to the second, or says that there is none.
 abbrev pub AnswersWhy : Mode → (known : ℕ) → List Flow → (from to : EntityId) → Option ℕ → Reply → Type 0
 AnswersWhy kind known flows from to until reply.Unknown = (known ≤ from.0) ⊎ (known ≤ to.0)

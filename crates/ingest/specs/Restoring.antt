@@ -54,7 +54,7 @@ pub record IsRemade (limits : Limits) (state : StateRow) (rows : List StoreRow) 
   pub counted : HasCountsOf rows parts.tables
   pub unmarked : parts.tables.marked ≡ None
 
--- a store as it is opened on a disk that tells its bytes: what was read of them, of which a crash leaves no others, is saved
+-- a store as it is opened on a disk that is observable: what was read of them, of which a crash leaves no others, is saved
 pub record IsOpen {D : Type 0} (state : D → DiskState) (limits : Limits) (opened : Opened D) : Type 0 where
   pub told : (state opened.store.disk).told
   pub read : IsStoreRead limits (state opened.store.disk).reads (opened.store.log, found_of opened)

@@ -17,7 +17,7 @@ use Rattle.ingest.specs.PartTaken.{StandsWith}
 use Rattle.ingest.specs.Parts.{Engine}
 use Rattle.ingest.specs.Storing.{IsCommitFor, StoresHistory}
 
--- The disk reads as a store of the history, with so many bytes of this part of a log, and a crash leaves no other batches. The saved
+-- The disk reads as a store of the history, with this many bytes of this part of a log, and a crash leaves no other batches. The saved
 -- rows are those of the history's flows, and the tables have their mark after its acts.
 pub record IsSaved {D : Type 0} (state : D → DiskState) (limits : Limits) (mode : Mode) (engine : Engine (OnDisk D)) (h : History) (part : ℕ) : Type 0 where
   pub stores : StoresHistory limits mode (state engine.joined.keep.disk).reads h part

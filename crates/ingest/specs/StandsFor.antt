@@ -42,7 +42,7 @@ pub record IsHeld (cut : Cutter) : Type 0 where
   pub short : length cut.tail ≤ cut.limit
   pub none : cut.long ≡ true → cut.tail ≡ []
 
--- Each line that ended or began took a byte, each that ended was counted, few are listed, and there may be so many bytes. So no
+-- Each line that ended or began took a byte, each that ended was counted, few are listed, and there may be this many bytes. So no
 -- count comes to its end, whatever the reader stands for.
 pub record IsWithin (limits : Limits) (cut : Cutter) (tally : Tally) (bytes : ℕ) : Type 0 where
   pub line : cut.limit ≡ limits.line

@@ -50,7 +50,7 @@ pub record Stops (limits : Limits) (h : History) (full : Full) : Type 0 where
   pub fits : Fits limits front
   pub passes : PassesAt limits front step full
 
--- the step past the limit is the byte behind those that were done, or the last byte of them
+-- the step past the limit is the byte after those that were done, or the last byte of them
 abbrev pub StopsHere : Limits → History → List ℕ → ℕ → Full → Type 0
 StopsHere limits h piece done full =
     ((done < length piece) × (bytes_in h + done ≡ limits.input) × Fits limits (with_bytes h (take done piece)) × (full ≡ input_full limits))
@@ -61,7 +61,7 @@ abbrev pub StopsBy : Limits → History → List ℕ → ℕ → StopWhy → Typ
 StopsBy limits h piece done why.NoMemory = ⊤
 StopsBy limits h piece done (why.Full full) = Stops limits (with_bytes h piece) full × StopsHere limits h piece done full
 
--- how an engine stops within a piece, having done so many bytes of it
+-- how an engine stops within a piece, having done this many bytes of it
 pub record StopsFor (limits : Limits) (h : History) (piece : List ℕ) (stop : Stop) : Type 0 where
   pub within : stop.done ≤ length piece
   pub by : StopsBy limits h piece stop.done stop.why

@@ -43,7 +43,7 @@ IsCommitFor limits mode h0 p0 h p rows =
 abbrev pub HasSince : Moment → Moment → Type 0
 HasSince m0 m = (since : List Taken) × (m.taken ≡ since ++ m0.taken)
 
--- The bytes store this history, of which no limit is passed, with so many of its bytes in this part of a log. Bytes without a batch
+-- The bytes store this history, of which no limit is passed, with this many of its bytes in this part of a log. Bytes without a batch
 -- store the history of nothing.
 pub record StoresHistory (limits : Limits) (mode : Mode) (bytes : List ℕ) (h : History) (part : ℕ) : Type 0 where
   pub store : IsStoreFor limits mode bytes h part

@@ -19,7 +19,7 @@ pub record IsBefore (flows ms : ℕ) (f : Flow) : Type 0 where
 abbrev pub AreBefore : (flows ms : ℕ) → Option (List Row) → Type 0
 AreBefore flows ms told = (R : List Row) → told ≡ Some R → (f : Flow) → IsFlowOf R f → IsBefore flows ms f
 
--- The kept flows know so many objects, are no more than so many flows, and come before the next place and no later than this.
+-- The kept flows know this many objects, are no more than this many flows, and come before the next place and no later than this.
 pub record AreKeptOf (objects flows ms : ℕ) (kept : KeptFlows) : Type 0 where
   pub known : kept.objects ≡ objects
   pub counted : kept.count ≤ flows

@@ -7,7 +7,7 @@ use flow_base::NoMemory;
 use query_walk::WalkFault;
 use report_json::Reply;
 
-/// Why the engine gives no answer: the store of rows failed, at this place of it stands no row, or no memory was found.
+/// Why the engine gives no answer: the store of rows failed, at this place of it stands no row, or an allocation failed.
 #[derive(Clone, Copy, Debug, PartialEq, Eq)]
 pub enum AskFault {
     StoreFault,

@@ -69,8 +69,8 @@ use std::marker::Model;
 
 /// The engine: it takes a log piece by piece, and answers questions at any time.
 ///
-/// Where it stops, for want of memory or at a limit, it stands for the bytes that were done. An event that was refused is
-/// owed, with all that is ripe behind it, and the next call tries it again before anything else.
+/// If it stops, for want of memory or at a limit, it stands for the bytes that were done. An event that was refused is
+/// owed, with all that is ripe after it, and the next call tries it again before anything else.
 #[derive(Drop)]
 pub struct Ingest<R: Reducer, K: Keep> {
     alloc: Global,
@@ -135,7 +135,7 @@ impl<R: Reducer, K: Keep> Ingest<R, K> {
         result
     }
 
-    /// Releases what is owed, then ends the last line, where it has a byte, and releases all that waits.
+    /// Releases what is owed, then ends the last line, if it has a byte, and releases all that waits.
     pub fn settle(&mut self) -> Result<(), StopWhy>
         ensures ok { OnOk result (SettlesTo self.old self.new) }
         ensures again { OnOk result (SettlesUp self.old self.new) }
@@ -299,7 +299,7 @@ impl<R: Reducer, K: Keep> Ingest<R, K> {
         Ok(())
     }
 
-    // Takes bytes of a piece up to and with a line feed, and what comes of the line that they end. It says how many
+    // Takes bytes of a piece up to and with a line feed, and does what the line that they end asks for. It says how many
     // bytes it took.
     fn feed_line(&mut self, piece: &[u8]) -> Result<usize, Stop>
         requires quiet { NothingRipe self.old.joined.join }
@@ -604,7 +604,7 @@ fn end_of_line(piece: &[u8]) -> usize
     }
 }
 
-// The same stop, so many bytes later.
+// The same stop, this many bytes later.
 fn later(done: usize, stop: Stop) -> Stop
     requires fits { done + stop.done < 2 ^ 63 }
     ensures { result ≡ record { done = done + stop.done; why = stop.why } }

@@ -236,8 +236,8 @@ impl<R: Reducer, K: Keep> EventFlows<R, K> {
         self.join.settle();
     }
 
-    /// Releases all that is ripe. It stops at an event that would pass a limit, or for which no memory is found: this one
-    /// and those behind it are owed.
+    /// Releases all that is ripe. It stops at an event that would pass a limit, or for which allocation fails: this event
+    /// and those after it are owed.
     pub fn release(&mut self) -> Result<(), StopWhy>
         requires few { IsBounded self.old }
         ensures quiet { OnOk result (NothingRipe self.new.join) }
@@ -312,7 +312,7 @@ impl<R: Reducer, K: Keep> EventFlows<R, K> {
         self.tables.acts()
     }
 
-    /// How far joining has come.
+    /// How far joining got.
     pub fn clock(&self) -> JoinClock
         ensures { WhereWaiting self.now (λ limits s released. result ≡ s.clock) }
     {
@@ -408,7 +408,7 @@ impl<R: Reducer, K: Keep> EventFlows<R, K> {
         }
     }
 
-    // Follows the event that is released next. Where it is refused nothing has changed.
+    // Follows the event that is released next. If it is refused, nothing has changed.
     fn follow(&mut self) -> Result<(), StopWhy>
         requires few { IsBounded self.old }
         requires ripe { WhereStands self.old.join (λ limits s.
@@ -478,7 +478,7 @@ impl<R: Reducer, D: Disk> EventFlows<R, Store<D>> {
     }
 }
 
-// Works out what an event does, with all the memory for it, and takes its flows in. Where it is refused nothing has changed,
+// Works out what an event does, with all the memory for it, and takes its flows in. If it is refused, nothing has changed,
 // and the tables say the same as before in any case.
 fn take_event<R: Reducer, K: Keep>(
     alloc: Global,

@@ -33,7 +33,7 @@ pub fn fronts_fit()
         → Fits limits (front ++ back) → Fits limits front }
 {}
 
-/// The record of a line is the one that it spells, where it isn't too long.
+/// The record of a line is the record that it spells, if the line isn't too long.
 pub fn lines_spell_records()
     ensures { (limit : ℕ) (line : List ℕ) (made : Record)
         → (record_of limit line ≡ Some made) ↔ ((length line ≤ limit) × Spells line made) }

@@ -156,7 +156,7 @@ impl LineReader {
         self.cut.long()
     }
 
-    /// Whether no byte of a line has come.
+    /// Whether no byte of a line was taken.
     pub fn is_between_lines(&self) -> bool
         ensures yes { result ≡ true → HasNoTail self.now }
         ensures no { result ≡ false → HasNoTail self.now → ⊥ }
@@ -164,7 +164,7 @@ impl LineReader {
         self.cut.tail().is_empty() && !self.cut.long()
     }
 
-    /// Takes bytes without a line feed. Where no memory is found nothing has changed.
+    /// Takes bytes without a line feed. If allocation fails, nothing has changed.
     pub fn hold(&mut self, part: &[u8]) -> Result<(), NoMemory>
         requires room { self.old.bytes + length part.now ≤ self.old.limits.input }
         requires no_feed { position_or_len (is_byte 10) part.now ≡ length part.now }
@@ -225,7 +225,7 @@ impl LineReader {
         self.cut = after_line(self.alloc, &self.cut, self.limits.line);
     }
 
-    /// Ends a line that isn't used with these bytes and a line feed. Where no memory is found nothing has changed.
+    /// Ends a line that isn't used with these bytes and a line feed. If allocation fails, nothing has changed.
     pub fn end_other(&mut self, part: &[u8]) -> Result<(), NoMemory>
         requires room { self.old.bytes + (length part.now + 1) ≤ self.old.limits.input }
         requires no_feed { position_or_len (is_byte 10) part.now ≡ length part.now }
@@ -254,7 +254,7 @@ impl LineReader {
         self.cut = after_line(self.alloc, &self.cut, self.limits.line);
     }
 
-    /// Ends another last line, where it has a byte. Where no memory is found nothing has changed.
+    /// Ends another last line, if it has a byte. If allocation fails, nothing has changed.
     pub fn settle_other(&mut self) -> Result<(), NoMemory>
         ensures limits { self.new.limits ≡ self.old.limits }
         ensures bytes { self.new.bytes ≡ self.old.bytes }
@@ -289,7 +289,7 @@ fn after_line(alloc: Global, cut: &LineCut, limit: usize) -> LineCut
     LineCut::resume(limit, cut.lines() + 1, Bytes::new(alloc), false)
 }
 
-// Counts the line that ends with these bytes. Where no memory is found nothing has changed.
+// Counts the line that ends with these bytes. If allocation fails, nothing has changed.
 fn count_line(
     limits: &Limits,
     cut: &LineCut,
@@ -321,7 +321,7 @@ fn class_of_line<'a>(cut: &'a LineCut, part: &'a [u8], limit: usize) -> Lexed<'a
     lex(text_of_line(cut, part), limit)
 }
 
-// The text of the line that ends with these bytes, where it isn't too long.
+// The text of the line that ends with these bytes, if it isn't too long.
 fn text_of_line<'a>(cut: &'a LineCut, part: &'a [u8]) -> &'a [u8]
     requires whole { ((cut.now.tail ≡ []) × (cut.now.long ≡ false)) ⊎ (part.now ≡ []) }
     ensures { result.now ≡ cut.now.tail ++ part.now }

@@ -16,7 +16,7 @@ use record_join::Join;
 use row_codec::{StateRow, StoreRow};
 use std::alloc::Global;
 
-/// Why an engine wasn't made again: what waits isn't sound, which is told with the place of the batch that says it; it is sound, and the
+/// Why an engine wasn't made again: what waits isn't sound, with the place of the batch that says it; it is sound, and the
 /// bytes that the store has taken are past the limit; or an allocation failed.
 #[derive(Clone, Copy, Debug, PartialEq, Eq)]
 pub enum RestoreFault {

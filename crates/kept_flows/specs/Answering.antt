@@ -23,7 +23,7 @@ pub record AreAnswers (mode : Mode) (F : List Flow) (question : Question) (ids :
   pub ascend : IsAscending (numbers ids)
   pub exact : (x : ℕ) → Contains (numbers ids) x ↔ (IsAnsweredFor mode F question x × IsAnswer question F x)
 
--- the answers where the mode answers the question, and none exactly where it doesn't
+-- the answers if the mode answers the question, and none exactly if it doesn't
 abbrev pub AnswersFor : Mode → List Flow → Question → Option (List EntityId) → Type 0
 AnswersFor mode F question None = ¬ IsAnswerable mode F question
 AnswersFor mode F question (Some ids) = IsAnswerable mode F question × AreAnswers mode F question ids

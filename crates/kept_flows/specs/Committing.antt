@@ -11,8 +11,8 @@ use Rattle.row_codec.specs.Payload.{IsPayload}
 use Rattle.row_codec.specs.declared.rows.StoreRow.{StoreRow}
 use Rattle.reduced_store.specs.OnDisk.{OnDisk, UnlessNoMemory, payload_between, rows_between}
 
--- One batch holds the rows since the last commit, between those in front and those behind. A crash at any moment leaves the batches
--- from before, or these and the new one. Where nothing was written nothing has changed, and the rows are as before in any case.
+-- One batch holds the rows since the last commit, between those before and those after. A crash at any moment leaves the batches
+-- from before, or these and the new one. If nothing was written nothing has changed, and the rows are as before in any case.
 pub record CommitsRows {D : Type 0} (state : D → DiskState) (faults : D → ℕ) (spent : D → Type 0) (mode : Mode) (front back : List StoreRow)
     (old new : OnDisk D) (result : Result ⊤ CommitFault) : Type 0 where
   pub payload : UnlessNoMemory result (IsPayload mode (rows_between old front back) (payload_between old mode front back))
@@ -30,7 +30,7 @@ pub record CommitsRows {D : Type 0} (state : D → DiskState) (faults : D → �
   pub saved : OnOk result (new.saved ≡ new.rows.rows)
   pub unsaved : OnErr result (new.saved ≡ old.saved)
 
--- no commit has failed on the disk of the store, and the disk, if it tells its bytes, has the batches that the store's log says
+-- no commit has failed on the disk of the store, and the disk, if it is observable, has the batches that the store's log says
 pub record CanCommit {D : Type 0} (state : D → DiskState) (store : OnDisk D) : Type 0 where
   pub usable : store.log.usable ≡ true
   pub stands : (state store.disk).told → (payloads : List (List ℕ)) × LogHas store.log payloads (state store.disk).reads

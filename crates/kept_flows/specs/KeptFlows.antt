@@ -9,7 +9,7 @@ use Rattle.query_walk.specs.declared.fault.WalkFault.{WalkFault}
 use Rattle.query_walk.specs.Fault.{IsWalk}
 use Rattle.query_walk.specs.Walks.{AreEndsBelow}
 
--- a mode, the rows that are kept where they are told, and how many rows and objects there are
+-- a mode, the rows that are kept if they are observable, and how many rows and objects there are
 pub record KeptFlows : Type 0 where
   pub mode : Mode
   pub told : Option (List Row)
@@ -61,13 +61,13 @@ SameFaults faults spent old new = (faults new ≡ faults old) × (spent old ↔ 
 abbrev pub HasCauses : {K T : Type 0} → (faults : K → ℕ) → (spent : K → Type 0) → (old new : OverRows K) → Result T WalkFault → Type 0
 HasCauses faults spent old new result = IsWalk old.kept.told (faults old.keep) (faults new.keep) (spent old.keep) (spent new.keep) result
 
--- the rows R are told: there are so many of them, with so many objects
+-- the rows R are observable: there are this many of them, with this many objects
 pub record AreTold (told : Option (List Row)) (count objects : ℕ) (R : List Row) : Type 0 where
   pub rows : told ≡ Some R
   pub counted : length R ≡ count
   pub objects_known : known (firsts R) ≡ objects
 
--- so many rows, whose last flows lie between so many objects
+-- this many rows, whose last flows lie between this many objects
 pub record AreCounted (R : List Row) (count objects : ℕ) : Type 0 where
   pub counted : length R ≡ count
   pub ends : AreEndsBelow objects (lasts R)

@@ -18,7 +18,7 @@ pub record IsNextOf (F : List Flow) (f : Flow) : Type 0 where
   pub numbered : IsNumbered (F ++ f ∷ [])
   pub few_objects : beyond f < 2 ^ 32
 
--- there is room for so many flows, or for more
+-- there is room for this many flows, or for more
 abbrev pub HasRoomFor : (room : ℕ → Type 0) → ℕ → Type 0
 HasRoomFor room n = (m : ℕ) × (n ≤ m) × room m
 

@@ -213,7 +213,7 @@ impl<R: Reducer, K: Keep> KeptFlows<R, K> {
 }
 
 impl<R: Reducer, D: Disk> KeptFlows<R, Store<D>> {
-    /// Puts the rows since the last commit on the disk of the store that keeps them, in one batch between rows in front and rows
+    /// Puts the rows since the last commit on the disk of the store that keeps them, in one batch between rows before and rows
     /// behind.
     ///
     /// `StoreFault` means that a call on the disk failed: the batch may be there or not, and the disk has to be opened again. After

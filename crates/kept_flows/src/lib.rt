@@ -1,7 +1,7 @@
 //! The flows of a log, kept as the rows of a mode.
 //!
 //! A reducer decides of each flow that comes whether it makes a row, goes on with one or is dropped, and the rows hold
-//! what is kept. Together they stand for all flows: each answer to a question that the mode allows is the one over all
+//! what is kept. Together they stand for all flows: each answer to a question that the mode allows is the answer over all
 //! flows, which are kept nowhere.
 #![tactic(auto)]
 

@@ -17,7 +17,7 @@ use std::sync::ledger::{Blank, Ledger};
 pub enum Way {
     /// The mode doesn't answer by which path this object reaches others.
     NotKept,
-    /// No path leads from the one object to the other.
+    /// No path leads from the first object to the second.
     Nowhere,
     /// Along these flows, in their order. They are none if the two objects are the same.
     Along(List<Flow>),

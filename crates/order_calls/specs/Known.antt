@@ -49,7 +49,7 @@ pub record Hears (old new : Known) (event : Event) (said : Deed) : Type 0 where
   pub opens : (other : Event) → opened_at new other ≡ opened_after (opened_at old) event said other
   pub files : (p n : ℕ) → is_file_at new p n ≡ is_file_after (opened_at old) (is_file_at old) event said p n
 
--- what is kept is what lines said, the newest first
+-- what is kept is what lines said, newest first
 pub record StandsFor (known : Known) (said : List Said) : Type 0 where
   pub opens : (event : Event) → opened_at known event ≡ opened_in said event
   pub files : (p n : ℕ) → is_file_at known p n ≡ is_file_in said p n

@@ -157,7 +157,7 @@ abbrev pub call_of_class : (ℕ → ℕ → Bool) → List ℕ → Class → Opt
 call_of_class files line (Used key kind) = call_of_kind files line kind
 call_of_class files line _ = None
 
--- the call that a line is the record of, if it has at most 65,536 bytes, where these descriptors are known to be regular files
+-- the call that a line is the record of, if it has at most 65,536 bytes, if these descriptors are known to be regular files
 abbrev pub call_of : (ℕ → ℕ → Bool) → List ℕ → Option Call
 call_of files line = call_of_class files line (class_of 65536 line)
 

@@ -66,7 +66,7 @@ pub record ForgetsOf (old new : AllSeen) (name : List ℕ) (event : ℕ × ℕ) 
   pub forgets : Forgets (node_at old name) (node_at new name) event
   pub others : (other : List ℕ) → is_node name other ≡ false → node_at new other ≡ node_at old other
 
--- what was seen of one node, of what was seen of all, the newest first
+-- what was seen of one node, of what was seen of all, newest first
 abbrev pub sights_of : List ℕ → List (List ℕ × Sight) → List Sight
 sights_of name [] = []
 sights_of name ((of, sight) ∷ before) = if is_node of name then sight ∷ sights_of name before else sights_of name before

@@ -15,7 +15,7 @@ pub data Sight : Type 0 where
   Wrote : ℕ × ℕ → Sight
   Started : Sight
 
--- the greatest time that a line of another serial number bore, of what was seen since the start, the newest first
+-- the greatest time that a line of another serial number bore, of what was seen since the start, newest first
 abbrev pub others_in : List Sight → ℕ → ℕ
 others_in [] serial = 0
 others_in (Saw s line time ∷ before) serial = if serial == s.number then others_in before serial else max (others_in before serial) s.ms
@@ -66,7 +66,7 @@ call_in (Saw s line time ∷ before) pid =
 call_in (Wrote event ∷ before) pid = call_in before pid
 call_in (Started ∷ before) pid = None
 
--- what is known is what was seen, the newest first
+-- what is known is what was seen, newest first
 pub record StandsFor (seen : Seen) (sights : List Sight) : Type 0 where
   pub clock : seen.clock.time ≡ clock_in sights
   pub others : (serial : ℕ) → others_at seen.clock serial ≡ others_in sights serial

@@ -1,7 +1,7 @@
 //! What the places of lines promise, for callers to use. The functions do nothing; their contracts are laws.
 ghost use Rattle.order_place.specs.Laws.{SeesOn, WritesOn, CountsTogether, KeepsOrder, CountsAfterEntry, FilesDoNotWait, IsShared};
 
-/// What is known of the processes and events of each node is what was seen of it, the newest first.
+/// What is known of the processes and events of each node is what was seen of it, newest first.
 pub fn places_look_back()
     ensures sees { SeesOn }
     ensures writes { WritesOn }

@@ -105,7 +105,7 @@ impl Node {
     }
 
     // The time at which an event counts that begins with a line of this call. The calls of its process after it count no earlier,
-    // as far as the clock has come.
+    // as far as the clock got.
     fn first_time(&mut self, call: Option<Call>, ms: u64, most: u64) -> Result<u64, NoMemory>
         ensures time { IfOk result (λ time. time ≡ first_time self.old ms call) }
         ensures calls { OnOk result ((pid : ℕ) → call_at self.new pid

@@ -1,4 +1,4 @@
--- A stamp that is lent.
+-- A stamp that is borrowed.
 use Rattle.order_text.specs.Stamp as text
 use Rattle.order_text.specs.declared.stamp.Stamp.{Stamp}
 

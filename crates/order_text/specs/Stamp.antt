@@ -49,7 +49,7 @@ number_of text = if list_all is_stamp_byte text then dec32_of text else None
 abbrev pub ends_as_header : List ℕ → Bool
 ends_as_header front = nat_le 9 (length front) && bytes_eq (drop (length front - 9) front) (codes "msg=audit")
 
--- the parts of a line, where the texts spell a time and a number
+-- the parts of a line, if the texts spell a time and a number
 abbrev pub stamp_from : List ℕ → List ℕ → List ℕ → List ℕ → Option ℕ → Option ℕ → Option Stamp
 stamp_from front time serial rest (Some ms) (Some number) =
     Some (record { front = front; time = time; serial = serial; rest = rest; ms = ms; number = number })

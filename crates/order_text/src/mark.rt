@@ -39,7 +39,7 @@ fn write_stamped(
     out.append(line)
 }
 
-// Appends the line of a stamp with this time, and the mark that keeps the one before.
+// Appends the line of a stamp with this time, and the mark that keeps the time before.
 fn write_raised(out: &mut Bytes, time: &[u8], ms: u64, stamp: &Stamp<'_>) -> Result<(), NoMemory>
     ensures { IfOk result (λ _. out.new
         ≡ out.old ++ line_of (raised (stamp_seen stamp.now) time.now ms)) }

@@ -32,7 +32,7 @@ pub fn read_stamp(line: &[u8]) -> Option<Stamp<'_>>
     stamp_with(front, time, serial, rest)
 }
 
-// The parts of a line, where the texts spell a time and a number.
+// The parts of a line, if the texts spell a time and a number.
 fn stamp_with<'a>(
     front: &'a [u8],
     time: &'a [u8],
@@ -84,7 +84,7 @@ fn ms_in(seconds: &[u8], millis: &[u8]) -> Option<u64>
     ms_with(dec64(seconds), dec32(millis))
 }
 
-// Milliseconds, where both numbers are there and the seconds are few enough.
+// Milliseconds, if both numbers are there and the seconds are few enough.
 fn ms_with(seconds: Option<u64>, millis: Option<u32>) -> Option<u64>
     ensures { result ≡ ms_from seconds millis }
 {

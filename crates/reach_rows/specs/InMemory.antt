@@ -7,17 +7,17 @@ use Rattle.reach_rows.specs.Objects.{AreObjects}
 use Rattle.reach_rows.specs.declared.objects.Object.{Object}
 use Rattle.reach_rows.specs.declared.rows.Row.{Row as KeptRow}
 
--- the rows, and room for so many more of them and for so many more objects
+-- the rows, and room for this many more of them and for this many more objects
 pub record InMemory : Type 0 where
   pub rows : List Row
   pub rows_room : ℕ
   pub objects_room : ℕ
 
--- room for so many flows: a row each and two objects
+-- room for this many flows: a row each and two objects
 abbrev pub HasRoom : InMemory → ℕ → Type 0
 HasRoom m n = (n ≤ m.rows_room) × (2 * n ≤ m.objects_room)
 
--- the links of a row behind the first flows K of the rows before it
+-- the links of a row after the first flows K of the rows before it
 pub record HasLinks (K : List Flow) (row : KeptRow) : Type 0 where
   pub before_to : IsLastOf K (Enters row.to.0) row.before_to
   pub before_from : IsLastOf K (Leaves row.from.0) row.before_from

@@ -65,7 +65,7 @@ pub record ComesAfter (R : List Row) (f : Flow) : Type 0 where
   pub first_times : (r : Row) → Contains R r → time r.first ≤ time f
   pub last_times : (r : Row) → Contains R r → time r.last ≤ time f
 
--- f goes on with the numbering of so many objects: its ends differ, each is known or the next one, its source before its
+-- f goes on with the numbering of this many objects: its ends differ, each is known or the next one, its source before its
 -- target, and the objects can be counted in 32 bits
 pub record GoesOn (count : ℕ) (f : Flow) : Type 0 where
   pub ends_differ : source f ≢ target f
@@ -78,7 +78,7 @@ abbrev pub GoOn : ℕ → List Flow → Type 0
 GoOn count [] = ⊤
 GoOn count (f ∷ more) = GoesOn count f × GoOn (max count (beyond f)) more
 
--- how many objects are known after these flows, where so many were known before them
+-- how many objects are known after these flows, if this many were known before them
 abbrev pub known_after : ℕ → List Flow → ℕ
 known_after count [] = count
 known_after count (f ∷ more) = known_after (max count (beyond f)) more

@@ -11,7 +11,7 @@ abbrev pub IsStartBy : First → Option ℕ → Type 0
 IsStartBy first None = ⊤
 IsStartBy first (Some since) = since ≤ first.at.ms
 
--- what full mode answers of an object with this first flow: all that reaches it, and what it reaches where no flow of it is
+-- what full mode answers of an object with this first flow: all that reaches it, and what it reaches if no flow of it is
 -- left out
 abbrev pub IsAllowedInFull : Question → First → Type 0
 IsAllowedInFull (Back of until) first = ⊤

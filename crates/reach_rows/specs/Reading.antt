@@ -4,8 +4,8 @@ use Rattle.reach_model.specs.Rows.{Row}
 use Rattle.reach_rows.specs.declared.rows.RowFault.{RowFault}
 use Rattle.reach_rows.specs.declared.rows.RowFault.TheVariants.{StoreFault, BadStore}
 
--- One reading of rows. The count of faults doesn't fall, and spent rows stay spent. A store fault comes only where the count
--- rose or the rows are spent, and a bad store only where the rows aren't told.
+-- One reading of rows. The count of faults doesn't fall, and spent rows stay spent. A store fault comes only if the count
+-- rose or the rows are spent, and a bad store only if the rows aren't observable.
 pub record IsReading {T : Type 0} (told : Option (List Row)) (before now : ℕ) (was_spent spent : Type 0) (result : Result T RowFault) : Type 0 where
   pub later : before ≤ now
   pub stays : was_spent → spent

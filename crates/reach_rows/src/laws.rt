@@ -2,7 +2,7 @@
 //!
 //! `allowed` looks at one first flow, a walk goes over rows, and a verdict looks at rows. These laws turn what they say
 //! into what holds of all flows: an allowed question is one that the mode's laws speak of, its answer over the rows is
-//! the one over the flows, and the rows that grow by the verdicts are those that the mode keeps.
+//! the answer over the flows, and the rows that grow by the verdicts are those that the mode keeps.
 ghost use Rattle.std.specs.Prelude.{◌↔◌, ◌<◌, ◌≤◌, ◌^◌, ℕ, List, [], ◌∷◌, ◌++◌, length};
 ghost use Rattle.flow_base.specs.declared.types.Flow.{Flow};
 ghost use Rattle.reach_model.specs.declared.modes.Mode.{Mode};

@@ -1,8 +1,8 @@
 //! Questions, the rows that answer them, and the traits that the modes and the stores of rows have: a `Reducer` decides
-//! what becomes of each flow, and a `Keep` holds the rows that come of it.
+//! what becomes of each flow, and a `Keep` holds the resulting rows.
 //!
 //! A row stands for the flows of one pair of objects from a first one to a last one. Contracts see the rows of an
-//! object as a list, where the object tells them, and a reducer as tables that stand for such a list. So a mode's
+//! object as a list, if the object is observable, and a reducer as tables that stand for such a list. So a mode's
 //! proof never speaks of where rows are kept, and a search over rows never speaks of a mode.
 #![tactic(auto)]
 

@@ -61,7 +61,7 @@ pub fn leave(objects: &mut Vec<Object>, flow: &Flow, row: u64)
     }
 }
 
-/// Takes a row in at the object that its flow enters, after the one that it leaves.
+/// Takes a row in at the object that its flow enters, after the object that it leaves.
 pub fn enter(objects: &mut Vec<Object>, flow: &Flow, row: u64)
     requires known { target flow.now ≤ vec_len objects.old }
     requires room { vec_len objects.old < vec_capacity objects.old }

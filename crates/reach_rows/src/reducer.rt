@@ -40,7 +40,7 @@ pub trait Reducer {
     fn allowed(&self, question: &Question, first: First) -> bool
         ensures { IsTrue result ↔ IsAllowed mode question.now first };
 
-    /// The verdict on a flow. It is the mode's where the flow's ends differ.
+    /// The verdict on a flow. It is the mode's verdict if the flow's ends differ.
     fn decide(&self, flow: &Flow) -> Verdict
         ensures verdict { (R : List ARow) → stands_for self.now R → source flow.now ≢ target flow.now → IsVerdictByRows mode R flow.now result }
         ensures fits { (R : List ARow) → holds self.now R → FitsRows R flow.now result };

@@ -1,4 +1,4 @@
-//! Rows, and the traits of what lends and keeps them.
+//! Rows, and the traits of what reads and keeps them.
 ghost use Rattle.std.specs.Prelude.{◌≡◌, ◌↔◌, ◌+◌, ◌<◌, ◌∷◌, ◌++◌, [], ℕ, List, Option, max, length, IfOk, IfSome, OnOk, slice_index_or};
 ghost use Rattle.std.specs.Option.{option_map, ForSome};
 ghost use Rattle.reach_model.specs.declared.modes.Verdict.TheVariants as Verdict;
@@ -55,9 +55,9 @@ pub enum RowFault {
     BadStore(u64),
 }
 
-/// Rows that are lent one by one.
+/// Rows that are read one by one.
 pub trait Rows {
-    /// The rows, where they are told.
+    /// The rows, if they are observable.
     ghost rows: { Self → Option (List ARow) };
 
     /// How many there are.
@@ -117,17 +117,17 @@ pub trait Rows {
 
 /// Rows that grow.
 pub trait Keep: Rows {
-    /// There is room for so many flows.
+    /// There is room for this many flows.
     ghost has_room: { Self → ℕ → Type 0 };
 
-    /// Makes room for so many more flows.
+    /// Makes room for this many more flows.
     fn reserve(&mut self, flows: usize) -> Result<(), NoMemory>
         ensures room { OnOk result (has_room self.new flows) }
         ensures same { (Self.rows self.new ≡ Self.rows self.old) × (Self.count self.new ≡ Self.count self.old) × (Self.known self.new ≡ Self.known self.old) }
         ensures faults { (Self.faults self.new ≡ Self.faults self.old) × (Self.spent self.old ↔ Self.spent self.new) }
         ensures alike { Self.alike self.old self.new };
 
-    /// Puts a row last whose first and last flow are this one.
+    /// Appends a row whose first and last flow are this one.
     fn add(&mut self, flow: &Flow)
         requires room { (n : ℕ) × has_room self.old (n + 1) }
         requires numbered { GoesOn (Self.known self.old) flow.now }

@@ -15,7 +15,7 @@ use std::alloc::Global;
 use std::marker::Model;
 use std::sync::ledger::Ledger;
 
-/// Rows in memory, which are always told and never fail to be read.
+/// Rows in memory, which are always observable and never fail to be read.
 #[derive(Drop)]
 pub struct VecRows {
     rows: Vec<Row>,

@@ -39,16 +39,16 @@ event_time clock key = max clock.effective key.ms
 abbrev pub let_go : JoinClock → EventKey → JoinClock
 let_go clock key = record clock { released = Some (greater_key clock.released key); effective = event_time clock key }
 
--- a key is late where one above it was released
+-- a key is late if one above it was released
 abbrev pub is_above : Option EventKey → EventKey → Bool
 is_above None key = false
 is_above (Some released) key = is_below key released
 
--- an event of this key is late, where it is released now
+-- an event of this key is late, if it is released now
 abbrev pub is_late : JoinClock → EventKey → Bool
 is_late clock key = is_above clock.released key
 
--- a time is past where a record more than so many milliseconds above it was seen
+-- a time is past if a record more than this many milliseconds above it was seen
 abbrev pub is_past : Option ℕ → ℕ → Bool
 is_past None ms = false
 is_past (Some seen) ms = nat_lt PATIENCE (seen - ms)
@@ -99,7 +99,7 @@ text_of records = sum_by (λ r. length r.line) records
 abbrev pub is_excess : Limits → List Record → Record → Bool
 is_excess limits group r = not (nat_lt (length group) limits.records) || (is_call r && list_any is_call group)
 
--- closes a key where it waits
+-- closes a key if it waits
 abbrev pub close : Joining → EventKey → Joining
 close s key = if waits key s.waiting then record s { closed = key ∷ s.closed } else s
 
@@ -134,12 +134,12 @@ is_ripe_at limits s key =
     is_among key s.closed || is_past s.clock.seen key.ms
     || nat_lt limits.groups (count_keys s.waiting) || nat_lt limits.text (text_of s.waiting)
 
--- a key, where the group of it is ripe
+-- a key, if the group of it is ripe
 abbrev pub only_ripe : Limits → Joining → Option EventKey → Option EventKey
 only_ripe limits s None = None
 only_ripe limits s (Some key) = if is_ripe_at limits s key then Some key else None
 
--- the key of the least group, where that is ripe
+-- the key of the least group, if that is ripe
 abbrev pub ripe_key : Limits → Joining → Option EventKey
 ripe_key limits s = only_ripe limits s (least_key s.waiting)
 
@@ -155,20 +155,20 @@ without s key = record s {
   clock = let_go s.clock key;
 }
 
--- the event of a key, where there is one to release
+-- the event of a key, if there is one to release
 abbrev pub event_at : Joining → Option EventKey → Option Event
 event_at s None = None
 event_at s (Some key) = Some (event_of s key)
 
--- what is left once the group of a key is released, where there is one to release
+-- what is left once the group of a key is released, if there is one to release
 abbrev pub left_at : Joining → Option EventKey → Joining
 left_at s None = s
 left_at s (Some key) = without s key
 
--- the event that is released next; none where the least group isn't ripe
+-- the event that is released next; none if the least group isn't ripe
 abbrev pub next_event : Limits → Joining → Option Event
 next_event limits s = event_at s (ripe_key limits s)
 
--- what is left then; where the least group isn't ripe, the same
+-- what is left then; if the least group isn't ripe, the same
 abbrev pub next_left : Limits → Joining → Joining
 next_left limits s = left_at s (ripe_key limits s)

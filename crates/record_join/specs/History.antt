@@ -19,12 +19,12 @@ pub data Step : Type 0 where
 abbrev pub start : Joining
 start = record { waiting = []; closed = []; clock = record { seen = None; released = None; effective = 0 }; excess = 0 }
 
--- the releases while the least group is ripe, at most so many
+-- the releases while the least group is ripe, at most this many
 abbrev pub released : ℕ → Limits → Joining → List Event
 released zero limits s = []
 released (suc n) limits s = option_to_list (next_event limits s) ++ released n limits (next_left limits s)
 
--- what is left after at most so many releases
+-- what is left after at most this many releases
 abbrev pub left : ℕ → Limits → Joining → Joining
 left zero limits s = s
 left (suc n) limits s = left n limits (next_left limits s)
@@ -80,7 +80,7 @@ pub record HoldsAll (steps : List Step) (events : List Event) : Type 0 where
 abbrev pub greatest_time : List Event → ℕ
 greatest_time events = fold (λ t e. max t e.key.ms) 0 events
 
--- an event's time is the greatest among its own and those of the events before it, it is late where one
+-- an event's time is the greatest among its own and those of the events before it, it is late if one
 -- before it has a greater key, and the times never fall
 pub record IsDated (events : List Event) : Type 0 where
   pub times : (before after : List Event) (e : Event) → events ≡ before ++ e ∷ after → e.ms ≡ greatest_time (before ++ e ∷ [])

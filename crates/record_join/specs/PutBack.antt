@@ -29,7 +29,7 @@ abbrev pub closing : EventKey → List Record → List Record
 closing key [] = []
 closing key (r ∷ records) = record { key = key; line = r.line; body = Eoe } ∷ []
 
--- the records of the groups, and an end behind those that are closed
+-- the records of the groups, and an end after those that are closed
 abbrev pub put_back : List (EventKey × Group) → List Record
 put_back groups = flat_map (λ e. e.1.records ++ (if e.1.closed then closing e.0 e.1.records else [])) groups
 

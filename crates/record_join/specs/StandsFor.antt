@@ -19,7 +19,7 @@ pub record Joiner : Type 0 where
   pub clock : JoinClock
   pub limits : Limits
 
--- the group of a key, where it waits
+-- the group of a key, if it waits
 abbrev pub group_at : Joining → EventKey → Option Group
 group_at s key =
     if waits key s.waiting then Some (record { closed = is_among key s.closed; records = group_of key s.waiting })
@@ -44,7 +44,7 @@ pub record Stands (join : Joiner) : Type 0 where
   pub lists : Joining
   pub stands : StandsFor limits join lists
 
--- an event that is lent
+-- an event that is borrowed
 abbrev pub event_seen : EventView → Event
 event_seen view = record { key = view.key; ms = view.ms; late = view.late; records = view.records.now }
 
@@ -71,7 +71,7 @@ is_ripe_group join key group =
     group.closed || is_past join.clock.seen key.ms
     || nat_lt join.limits.groups (length join.groups) || nat_lt join.limits.text join.text
 
--- the first group, where it is ripe
+-- the first group, if it is ripe
 abbrev pub ripe_first : Joiner → List (EventKey × Group) → Option (EventKey × Group)
 ripe_first join [] = None
 ripe_first join (e ∷ rest) = if is_ripe_group join e.0 e.1 then Some e else None

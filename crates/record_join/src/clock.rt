@@ -1,4 +1,4 @@
-//! How far joining has come: what was seen, what was released, and the effective time, which never falls.
+//! How far joining got: what was seen, what was released, and the effective time, which never falls.
 ghost use Rattle.std.specs.Prelude.{◌≡◌};
 ghost use Rattle.record_join.specs.Events.{saw, let_go, event_time, is_late, is_past};
 
@@ -37,14 +37,14 @@ impl JoinClock {
         };
     }
 
-    /// The effective time of an event of this key, where it is the next.
+    /// The effective time of an event of this key, if it is the next.
     pub fn time_of(&self, key: EventKey) -> u64
         ensures { result ≡ event_time self.now key }
     {
         self.effective.max(key.ms)
     }
 
-    /// Whether an event of this key is late, where it is the next.
+    /// Whether an event of this key is late, if it is the next.
     pub fn is_late(&self, key: EventKey) -> bool
         ensures { result ≡ is_late self.now key }
     {

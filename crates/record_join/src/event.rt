@@ -4,7 +4,7 @@ use audit_lex::EventKey;
 use audit_record::Record;
 use flow_base::List;
 
-/// What was done with a record: it waits in its group, it closed its group where that waits, or it was dropped.
+/// What was done with a record: it waits in its group, it closed its group if that waits, or it was dropped.
 #[derive(Clone, Copy, Debug, PartialEq, Eq)]
 pub enum Taken {
     Held,
@@ -13,7 +13,7 @@ pub enum Taken {
 }
 
 /// The records of a key in the order of arrival. `ms` is the effective time, which never falls from an event to the
-/// next; the event is late where an event of a greater key was released before.
+/// next; the event is late if an event of a greater key was released before.
 #[derive(Drop)]
 pub struct Event {
     pub key: EventKey,
@@ -22,7 +22,7 @@ pub struct Event {
     pub records: List<Record>,
 }
 
-/// An event, lent.
+/// An event, borrowed.
 #[derive(Drop)]
 pub struct EventView<'a> {
     pub key: EventKey,

@@ -16,14 +16,14 @@ use flow_base::{Limits, List, NoMemory};
 use std::alloc::Global;
 use std::collections::BTreeMap;
 
-/// The waiting records of a key, and whether its end has come.
+/// The waiting records of a key, and whether its end has arrived.
 #[derive(Drop)]
 pub struct Group {
     pub closed: bool,
     pub records: List<Record>,
 }
 
-/// A group, lent.
+/// A group, borrowed.
 #[derive(Drop)]
 pub struct GroupView<'a> {
     pub key: EventKey,
@@ -45,7 +45,7 @@ pub fn is_excess(groups: &Groups, limits: &Limits, item: &Record) -> bool
     }
 }
 
-/// Whether so many records are enough, or have their call where this is another.
+/// Whether this many records are enough, or they have their call and this is another.
 fn is_full(records: &[Record], limits: &Limits, item: &Record) -> bool
     ensures { result ≡ is_excess limits.now records.now item.now }
 {
@@ -59,7 +59,7 @@ fn has_call(records: &[Record]) -> bool
     records.iter().any(|item| is_call(item))
 }
 
-/// Marks the group of a key closed, where it waits.
+/// Marks the group of a key closed, if it waits.
 pub fn close(groups: &mut Groups, key: &EventKey)
     ensures keys { keys_of groups.new.entries ≡ keys_of groups.old.entries }
     ensures each { (other : EventKey) → lookup (is_key other) groups.new.entries

@@ -56,8 +56,8 @@ impl Join {
         Join::resume(alloc, limits, clock)
     }
 
-    /// A joiner without groups that has come as far as another. Its groups are put back by `take` of their records, and
-    /// of an EOE behind those that were closed.
+    /// A joiner without groups that got as far as another. Its groups are put back by `take` of their records, and
+    /// of an EOE after those that were closed.
     pub fn resume(alloc: Global, limits: &Limits, clock: JoinClock) -> Join
         ensures stands { StandsFor limits.now result (fresh clock) }
         ensures nothing { NothingRipe result }
@@ -72,7 +72,7 @@ impl Join {
         }
     }
 
-    /// How far joining has come.
+    /// How far joining got.
     pub fn clock(&self) -> JoinClock
         ensures { result ≡ self.now.clock }
     {
@@ -140,7 +140,7 @@ impl Join {
         self.least_ripe().is_some()
     }
 
-    /// Lends the event that is released next.
+    /// Borrows the event that is released next.
     pub fn peek(&self) -> Option<EventView<'_>>
         ensures { WhereStands self.now (λ limits s.
             option_map event_seen result ≡ next_event limits s) }
@@ -156,7 +156,7 @@ impl Join {
         }
     }
 
-    /// Releases the least group, where it is ripe.
+    /// Releases the least group, if it is ripe.
     pub fn next(&mut self) -> Option<Event>
         ensures event { WhereStands self.old (λ limits s. result ≡ next_event limits s) }
         ensures stands { WhereStands self.old (λ limits s.
@@ -212,7 +212,7 @@ impl Join {
         close_all(&mut self.groups);
     }
 
-    /// The least group, where it is ripe.
+    /// The least group, if it is ripe.
     fn least_ripe(&self) -> Option<(&EventKey, &Group)>
         ensures { option_map (λ p. (p.0.now, p.1.now)) result
             ≡ ripe_first self.now self.now.groups }

@@ -1,4 +1,4 @@
-//! What joining asks of a record: whether it ends its event, and whether it is the one of a call.
+//! What joining asks of a record: whether it ends its event, and whether it is that of a call.
 ghost use Rattle.std.specs.Prelude.{◌≡◌};
 ghost use Rattle.record_join.specs.Keys.{ends_event, is_call};
 

@@ -6,7 +6,7 @@ ghost use Rattle.record_join.specs.PutBack.{IsSound, entered, fresh, put_back};
 ghost use Rattle.record_join.specs.StandsFor.{Joiner, StandsFor};
 ghost use Rattle.flow_base.specs.declared.limits.Limits.{Limits};
 
-/// Where a list of steps ends with a settle and all was in order, each event holds the records of
+/// If a list of steps ends with a settle and all was in order, each event holds the records of
 /// its key in the order of arrival, no record is missing, and the keys ascend.
 pub fn settled_events_hold_all()
     ensures { (limits : Limits) (steps : List Step) → IsInOrder limits steps → HoldsAll steps (events limits start steps) }

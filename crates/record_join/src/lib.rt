@@ -2,7 +2,7 @@
 //!
 //! Records of one event share a key: its time and its serial. They come one by one and mixed with those of other
 //! events, so they wait in groups, one for each key. The least group is released as an event once it is ripe: its end
-//! has come (an EOE or a PROCTITLE), a record more than two seconds above it was seen, or more waits than the limits
+//! has arrived (an EOE or a PROCTITLE), a record more than two seconds above it was seen, or more waits than the limits
 //! allow. What is released stays released: a record that comes for its key later makes a new group, whose event may
 //! then be late.
 //!

@@ -6,7 +6,7 @@ use audit_lex::EventKey;
 use std::collections::btree_map::Iter;
 use std::marker::Model;
 
-/// The waiting groups that weren't lent yet, the least key first.
+/// The waiting groups that weren't given out yet, least key first.
 #[derive(Drop)]
 pub struct Parts<'a> {
     rest: Iter<'a, EventKey, Group>,
@@ -30,7 +30,7 @@ impl<'a> Parts<'a> {
         Parts { rest }
     }
 
-    /// Lends the next group.
+    /// Borrows the next group.
     pub fn next(&mut self) -> Option<GroupView<'a>>
         ensures some { IfSome result (λ view. self.old ≡ (view.key, record { closed = view.closed; records = view.records.now }) ∷ self.new) }
         ensures none { IsNone result ↔ (self.old ≡ []) }

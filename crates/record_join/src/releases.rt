@@ -9,7 +9,7 @@ use audit_record::Record;
 use flow_base::{Limits, List, NoMemory};
 use std::alloc::Global;
 
-/// Puts the events that are ripe behind those found. Where no memory is found, the event that was released last is lost,
+/// Appends the events that are ripe to those found. If allocation fails, the event that was released last is lost,
 /// so what was taken has to be taken again by another joiner.
 pub fn release_ripe(join: &mut Join, found: &mut List<Event>) -> Result<(), NoMemory>
     ensures stands { OnOk result (WhereStands join.old (λ limits s. StandsFor limits join.new (left_after limits s))) }

@@ -9,7 +9,7 @@ use Rattle.reach_rows.specs.Alike.{GoesAlong}
 use Rattle.reach_rows.specs.Objects.{AreObjects}
 use Rattle.reach_rows.specs.declared.objects.Object.{Object}
 
--- the rows, whether they are lawful, and room for so many more of them and for so many more objects
+-- the rows, whether they are lawful, and room for this many more of them and for this many more objects
 pub record Held : Type 0 where
   pub rows : List Row
   pub lawful : Bool
@@ -21,7 +21,7 @@ abbrev pub told_if : Bool → List Row → Option (List Row)
 told_if true R = Some R
 told_if false R = None
 
--- room for so many flows: a row each and two objects
+-- room for this many flows: a row each and two objects
 abbrev pub HasRoom : Held → ℕ → Type 0
 HasRoom h n = (n ≤ h.rows_room) × (2 * n ≤ h.objects_room)
 

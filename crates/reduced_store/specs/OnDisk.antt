@@ -17,7 +17,7 @@ use Rattle.reach_rows.specs.Alike.{GoesAlong}
 use Rattle.reduced_store.specs.Held.{Held, HasRoom}
 use Rattle.reduced_store.specs.Saving.{IsSince}
 
--- its disk, the log of the disk's batches, its rows, the rows as the last commit left them, and room to list so many rows
+-- its disk, the log of the disk's batches, its rows, the rows as the last commit left them, and room to list this many rows
 -- that are extended
 pub record OnDisk (D : Type 0) : Type 0 where
   pub disk : D
@@ -26,12 +26,12 @@ pub record OnDisk (D : Type 0) : Type 0 where
   pub saved : List Row
   pub listing_room : ℕ
 
--- The rows are lawful, and the first so many are those of the last commit, of which these earlier last marks are listed.
+-- The rows are lawful, and the first this many are those of the last commit, of which these earlier last marks are listed.
 pub record AreLawfulSince (count : ℕ) (find : ℕ → Option Mark) (held : Held) : Type 0 where
   pub lawful : held.lawful ≡ true
   pub since : IsSince count find held.rows
 
--- room for so many flows, each of which may add a row or extend one
+-- room for this many flows, each of which may add a row or extend one
 abbrev pub HasRoomFor : {D : Type 0} → OnDisk D → ℕ → Type 0
 HasRoomFor store n = HasRoom store.rows n × (n ≤ store.listing_room)
 

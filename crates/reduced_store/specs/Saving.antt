@@ -10,7 +10,7 @@ use Rattle.row_codec.specs.declared.rows.StoreRow.TheVariants.{Kept, Extend}
 use Rattle.store_check.specs.Store.{extended}
 use Rattle.stored.specs.Batch.{Ascends, kept_from, extends_from, fresh}
 
--- the earlier last marks of some rows, each with its row's index, and room for so many more
+-- the earlier last marks of some rows, each with its row's index, and room for this many more
 pub record Listed : Type 0 where
   pub all : List (ℕ × Mark)
   pub spare : ℕ
@@ -51,7 +51,7 @@ extend_if (Some was) i mark = if was.at.place == mark.at.place then [] else Exte
 abbrev pub extends_over : (ℕ → Option Mark) → List Row → List StoreRow
 extends_over find R = map Extend (extends_from 0 (put_back find 0 R) R)
 
--- The first so many rows are those of the last commit. Those after them have, with their earlier last marks, the last
+-- The first this many rows are those of the last commit. Those after them have, with their earlier last marks, the last
 -- flow that they had at first, and no row that isn't there is listed.
 pub record IsSince (count : ℕ) (find : ℕ → Option Mark) (R : List Row) : Type 0 where
   pub within : count ≤ length R

@@ -35,7 +35,7 @@ impl Earlier {
         }
     }
 
-    /// Makes room for so many more rows.
+    /// Makes room for this many more rows.
     pub fn reserve(&mut self, rows: usize) -> Result<(), NoMemory>
         ensures same { self.new.all ≡ self.old.all }
         ensures room { OnOk result (rows ≤ self.new.spare) }

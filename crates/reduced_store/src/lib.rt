@@ -1,7 +1,7 @@
 //! The rows of a store, and opening a disk as a store.
 //!
 //! A disk is read batch by batch (`read_store`): its bytes as batches, each payload as rows, and each
-//! batch against all batches before it. What comes of it are the kept rows (`StoreRows`), from which
+//! batch against all batches before it. The result are the kept rows (`StoreRows`), from which
 //! questions are answered and to which a reducer adds, and the rows from which tables are filled.
 //!
 //! A `Store` is a disk with its log and its rows. Beside them it keeps how many rows there were at the

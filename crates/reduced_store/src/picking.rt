@@ -39,7 +39,7 @@ pub fn move_after(
     Ok(())
 }
 
-// Puts a row last where it belongs.
+// Appends a row to the list to which it belongs.
 fn put(
     row: StoreRow,
     tables: &mut List<StoreRow>,

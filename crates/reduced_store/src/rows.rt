@@ -63,7 +63,7 @@ impl StoreRows {
         }
     }
 
-    /// Makes room for so many more flows.
+    /// Makes room for this many more flows.
     pub(crate) fn make_room(&mut self, flows: usize) -> Result<(), NoMemory>
         ensures room { OnOk result (HasRoom self.new flows) }
         ensures same { (self.new.rows ≡ self.old.rows) × (self.new.lawful ≡ self.old.lawful) }
@@ -124,7 +124,7 @@ impl StoreRows {
         Ok(())
     }
 
-    /// Puts a row last whose first and last flow are this one.
+    /// Appends a row whose first and last flow are this one.
     pub(crate) fn push(&mut self, flow: &Flow)
         requires room { (n : ℕ) × HasRoom self.old (n + 1) }
         requires numbered { GoesOn (known (firsts self.old.rows)) flow.now }

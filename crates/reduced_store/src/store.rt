@@ -70,7 +70,7 @@ impl<D: Disk> Store<D> {
     /// Opens a disk as a store, of the mode that is asked for if one is. It makes one sync, so that
     /// nothing of an earlier run is pending, and then only reads. A refusal hands the disk back.
     ///
-    /// `WrongMode` means that the disk has batches of another mode than the one asked for. A disk
+    /// `WrongMode` means that the disk has batches of another mode than was asked for. A disk
     /// without a batch is a store of any mode.
     pub fn open_on(
         alloc: Global,
@@ -364,7 +364,7 @@ impl<D: Disk> Keep for Store<D> {
     }
 }
 
-// Makes a store of what was found, unless it is of another mode than the one asked for.
+// Makes a store of what was found, unless it is of another mode than was asked for.
 fn admit<D: Disk>(
     alloc: Global,
     asked: Option<Mode>,
@@ -403,7 +403,7 @@ fn admit<D: Disk>(
     }
 }
 
-// The fault of a disk whose mode isn't the one asked for.
+// The fault of a disk whose mode isn't the mode asked for.
 fn clash(kept: Option<Mode>, asked: Option<Mode>) -> Option<OpenFault>
     ensures { MatchOption result (Agree kept asked) (IsWrong kept asked) }
 {
