@@ -3,7 +3,7 @@ ghost use Rattle.std.specs.Prelude.{◌≡◌, IfOk};
 ghost use Rattle.audit_order.specs.Lines.{IsEnd, SpellsEnd};
 
 use flow_base::{Bytes, NoMemory};
-use order_text::{Stamp, is_one_line};
+use order_text::{Stamp, is_one_line, read_stamp};
 use std::alloc::Global;
 use std::marker::Model;
 
@@ -33,8 +33,19 @@ impl End {
         self.line.as_slice()
     }
 
-    /// The line that ends the event of a call, if this is the stamp of a call's record.
-    pub fn of_call(alloc: Global, stamp: &Stamp<'_>) -> Result<Option<End>, NoMemory> {
+    /// The line that ends the event of a call, if this is a call's record.
+    pub fn of_line(alloc: Global, line: &[u8]) -> Result<Option<End>, NoMemory> {
+        if !line.starts_with(b"type=SYSCALL ") && !line.starts_with(b"node=") {
+            return Ok(None);
+        }
+        match read_stamp(line) {
+            None => Ok(None),
+            Some(stamp) => End::of_call(alloc, &stamp),
+        }
+    }
+
+    // The line that ends the event of a call, if this is the stamp of a call's record.
+    fn of_call(alloc: Global, stamp: &Stamp<'_>) -> Result<Option<End>, NoMemory> {
         match stamp.front.strip_suffix(b"type=SYSCALL msg=audit") {
             None => Ok(None),
             Some(node) => {
@@ -67,10 +78,4 @@ fn end_line(alloc: Global, node: &[u8], time: &[u8], serial: &[u8]) -> Result<By
     line.append(serial)?;
     line.append(b"): ")?;
     Ok(line)
-}
-
-/// Whether a record ends its event.
-pub fn ends_event(stamp: &Stamp<'_>) -> bool {
-    stamp.front.ends_with(b"type=PROCTITLE msg=audit")
-        || stamp.front.ends_with(b"type=EOE msg=audit")
 }

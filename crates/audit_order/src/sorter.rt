@@ -6,12 +6,11 @@ ghost use Rattle.audit_order.specs.Tally.{is_of, tally_with};
 
 use crate::bounds::Bounds;
 use crate::counts::{Counts, Tally};
-use crate::end::{End, ends_event};
+use crate::end::End;
 use crate::writer::Writer;
 use flow_base::{Bytes, NoMemory};
 use order_place::{Place, Places};
 use order_queue::{Queue, Waiting};
-use order_text::read_stamp;
 use std::alloc::Global;
 
 /// The event whose lines are written now, and the line that ends it, if it is a call's event without an end so far.
@@ -124,13 +123,13 @@ fn is_of(turn: &Turn, item: &Waiting) -> bool
 }
 
 // The line of a call's record owes an end, and a line that ends the event is one.
-fn note_end(turn: &mut Turn, alloc: Global, line: &[u8]) -> Result<(), NoMemory> {
-    if let Some(stamp) = read_stamp(line) {
-        if ends_event(&stamp) {
-            turn.end = None;
-        } else if let Some(end) = End::of_call(alloc, &stamp)? {
-            turn.end = Some(end);
-        }
+fn note_end(turn: &mut Turn, alloc: Global, item: &Waiting) -> Result<(), NoMemory> {
+    if item.rank > 0 {
+        turn.end = None;
+        return Ok(());
+    }
+    if let Some(end) = End::of_line(alloc, item.line.as_slice())? {
+        turn.end = Some(end);
     }
     Ok(())
 }
@@ -144,7 +143,7 @@ fn write_item(sorter: &mut Sorter, item: &Waiting) -> Result<(), NoMemory>
     ensures bounds { sorter.new.bounds ≡ sorter.old.bounds }
 {
     turn_to(sorter, item)?;
-    note_end(&mut sorter.turn, sorter.alloc, item.line.as_slice())?;
+    note_end(&mut sorter.turn, sorter.alloc, item)?;
     sorter.writer.write(item.line.as_slice())
 }
 

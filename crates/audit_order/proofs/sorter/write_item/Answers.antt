@@ -8,6 +8,6 @@ pub returns-clause-gives : goal.returns-clause-gives
 returns-clause-gives c = on_ok_weaker c.write.result
     (λ w before now waits lines s.
     gives c.turn_to.new.sorter.writer c.write.new.self c.args.item.now.line
-    (subst (λ (l : List ℕ). Writes c.turn_to.new.sorter.writer c.write.new.self l) c.as_slice-2.ensures w)
+    (subst (λ (l : List ℕ). Writes c.turn_to.new.sorter.writer c.write.new.self l) c.as_slice.ensures w)
     before now waits lines (c.in_ok-turn_to.ensures.keeps before now (c.args.item.now.line ∷ waits) lines s))
     c.write.ensures
