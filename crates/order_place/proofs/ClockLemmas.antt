@@ -7,13 +7,13 @@ use Rattle.order_calls.specs.declared.call.Call.{Call}
 use Rattle.order_calls.specs.declared.call.Takes.{Takes}
 use Rattle.order_calls.specs.declared.call.Takes.TheVariants as takes
 use Rattle.order_calls.specs.declared.deed.Deed.{Deed}
-use Rattle.order_calls.specs.Deeds.{Said, is_file_in}
-use Rattle.order_calls.specs.Known.{Known, is_file_at, StandsFor as Stands}
+use Rattle.order_calls.specs.Deeds.{Said}
+use Rattle.order_calls.specs.Known.{Known, StandsFor as Stands}
 use Rattle.order_calls.specs.Lines.{saying, deed_of, call_of, HearsIt}
 use Rattle.order_calls.proofs.FileLemmas.{heard}
 use Rattle.order_place.specs.declared.clock.Clock.{Clock}
 use Rattle.order_place.specs.Clocks.{others_at, time_after, clock_after}
-use Rattle.order_place.specs.Places.{Seen, Sees, SeesNext, call_by, is_pid, is_event, call_at, event_at, own_time, not_before, call_time, first_time, time_or, event_time, calls_of}
+use Rattle.order_place.specs.Places.{Seen, SeesNext, call_by, is_pid, is_event, call_at, event_at, own_time, not_before, call_time, first_time, time_or, event_time, calls_of}
 use Rattle.order_place.specs.Sights.{Sight, Saw, Wrote, Started, others_in, clock_in, event_in, call_in, said_in, call_after, begun_or, StandsFor}
 use Rattle.order_place.proofs.PlaceLemmas.{first_same}
 

@@ -9,7 +9,6 @@ use Rattle.std.specs.Cmp.Lexicographic.{slice_cmp}
 use Rattle.std.proofs.lemmas.Map.Lookups.{exact_bytes}
 use Rattle.std.proofs.lemmas.Bool.Decides.{nat_tests}
 use Rattle.order_text.specs.Stamp.{Stamp}
-use Rattle.order_calls.specs.Known.{nothing}
 use Rattle.order_place.specs.declared.places.Place.{Place}
 use Rattle.order_place.specs.Clocks.{others_at}
 use Rattle.order_place.specs.Places.{Seen, SeesNext, Forgets, node_of, is_boot}

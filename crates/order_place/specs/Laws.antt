@@ -1,5 +1,5 @@
 -- What holds of the place of a line by what was seen.
-use Rattle.std.specs.Prelude.{◌≡◌, ◌≤◌, ◌+◌, ◌++◌, ℕ, List, ◌∷◌, Option, None, Some}
+use Rattle.std.specs.Prelude.{◌≡◌, ◌≤◌, ◌+◌, ◌++◌, ℕ, List, ◌∷◌, None, Some}
 use Rattle.order_text.specs.Stamp.{Stamp}
 use Rattle.order_calls.specs.declared.call.Call.{Call}
 use Rattle.order_calls.specs.declared.call.Takes.TheVariants as takes

@@ -1,4 +1,4 @@
-use Rattle.std.proofs.Common.{◌∙◌, sym, ap}
+use Rattle.std.proofs.Common.{sym, ap}
 use Rattle.order_place.specs.Places.{Seen}
 use Rattle.order_place.proofs.PlaceLemmas.{called}
 use Rattle.order_place.proofs.node.Node.first_time.Goals as goal
