@@ -4,7 +4,7 @@ use Rattle.report_json.specs.declared.ask.Ask.TheVariants as ask
 use Rattle.report_json.specs.Replies.{text_of}
 use Rattle.dialogue.specs.Dialogue.{after, begin}
 use Rattle.dialogue.proofs.TalkLemmas.{appends_none}
-use Rattle.dialogue.proofs.SaveLemmas.{in_memory}
+use Rattle.dialogue.proofs.SaveLemmas.{causes_later, in_memory}
 use Rattle.audit_cli.proofs.BackLemmas.{taken, nothing_left, take_stops, settle_stops, last_said, last_cut, quiet_halt, cut_halt}
 use Rattle.audit_cli.proofs.back.back.Goals as goal
 
@@ -90,3 +90,8 @@ returns-clause-whole g c = λ limits bytes small h.
     let settled = c.in_ok-_settled.ensures.moves start limits _ at in
     let asked = c.in_ok-reply.ensures.moves start limits _ settled in
     asked.stands_at.told ∙ ap Some (nothing_left g.R.Reducer.mode limits bytes small at.stands_at.stands.fits)
+
+pub returns-in_err-say-clause-causes : goal.returns-in_err-say-clause-causes
+returns-in_err-say-clause-causes g c =
+    let p = err_from_is_err_and c.from_residual-in_err-say.result c.from_residual-in_err-say.ensures.1 in
+    rw (p.1, p.2) (causes_later _ _ _ _ _ _ _ c.in_err-say.field-0.0 (λ none. absurd none) (λ rose. rose) (λ none. none) c.in_err-say.ensures.causes)
