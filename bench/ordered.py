@@ -2,14 +2,17 @@
 
     bench/ordered.py [LOG..]
 
-Of each log: the status is 0; the lines of the answer, with the marks of raised times undone, are the lines of the log and EOE lines, in some order;
-each of those EOE lines is of an event that has a call; the times in the answer never fall; `--report` counts the events, the added ends and the raised
-times that the answer has, also if no line may wait; and `--undo` writes the lines of the answer, and those of the log, with their marks undone. The events
-of small logs made by hand stand in the order that the documents say, those with reads of regular files too, and are late where it says so. Other words have the status 2 and write nothing.
+Of each log: the status is 0; the lines of the answer, with their marks undone, are the lines of the log and EOE lines, in some order;
+each of those EOE lines is of an event that has a call; the times in the answer never fall; each line of it is the line of the log as the rules rewrite it
+(by the plain reading of `plain_rules.py`, too) and with the greatest time before it; `--report` counts the events, the added ends, the rewritten lines and the raised
+times that the answer has, also if no line may wait; and `--undo` writes the lines of the answer, and those of the log, with their marks undone. The calls
+of the 32-bit gate become those that the kernel's own tables name, if these are on the machine. The events
+of small logs made by hand stand in the order that the documents say, those with reads of regular files too, and are late where it says so; and as many of their lines are rewritten as it says. Other words have the status 2 and write nothing.
 Without a LOG the checks go over the examples, over
 generated logs, and over logs that were made to be odd. Prints what isn't so, and ends with status 1 if there is any.
 """
 import collections
+import functools
 import itertools
 import json
 import re
@@ -17,10 +20,26 @@ import subprocess
 import sys
 from pathlib import Path
 
+from plain_rules import Rules
+
 TOP = Path(__file__).resolve().parent.parent
 PROGRAM = TOP / 'crates/audit_order/out/audit_order'
 STAMP = re.compile(rb'^([^(]*msg=audit)\((\d{1,15}\.\d{3}):(\d{1,10})\)(.*)$', re.S)
-MARK = re.compile(rb'^(.*)\x1dWAS=\{ audit\(([0-9.]+):[0-9]+\) \}$', re.S)
+MARK = re.compile(rb'^(.*)\x1dWAS=\{ audit\(([^:\x1d]*):([^\x1d]*)$', re.S)
+PART = re.compile(rb'^[^)]*\) (\d{1,10}) (.*) \}$', re.S)
+CALL_32 = re.compile(rb'^: arch=40000003 syscall=(\d{1,10}) ')
+KERNEL_ADDRESS = re.compile(rb'^: saddr=1000[^ \x1d]{4}00000000[^ \x1d]*')
+TABLES = [Path('/usr/include/x86_64-linux-gnu/asm') / name for name in ('unistd_32.h', 'unistd_64.h')]
+TABLES_ARE_THERE = all(it.exists() for it in TABLES)
+# The calls that the main program follows, by the kernel's names for the 64-bit gate; and 32-bit calls that have another name there.
+FOLLOWED = '''read pread64 readv preadv preadv2 recvfrom recvmsg write pwrite64 writev pwritev pwritev2 sendto sendmsg sendfile tee splice copy_file_range open creat
+    openat openat2 close dup dup2 dup3 fcntl pipe socketpair pipe2 socket bind connect accept accept4 execve execveat fork vfork clone3 clone exit_group truncate
+    chmod chown lchown fchownat fchmodat ftruncate fchmod fchown rename link renameat linkat renameat2 rmdir unlink unlinkat mkdir symlink mknod mkdirat mknodat
+    symlinkat'''.split()
+RENAMED = {'mmap2': 'mmap', **{name: name.removesuffix('32') for name in ('chown32', 'lchown32', 'fchown32')},
+           **{name: name.removesuffix('64') for name in ('truncate64', 'ftruncate64', 'fcntl64', 'sendfile64')}}
+# The words that turn rules off.
+RULES = ('--no-join', '--shared-connections', '--no-names', '--no-compat')
 END = re.compile(rb'^(.*)type=EOE msg=audit\((\d+\.\d{3}):(\d+)\): $', re.S)
 
 ODD = {
@@ -30,21 +49,27 @@ ODD = {
     'two boots': b'type=SYSCALL msg=audit(900.000:9): arch=c000003e syscall=1\ntype=SYSCALL msg=audit(1000.000:1): arch=c000003e syscall=1\n',
     'two nodes': b'node=a type=SYSCALL msg=audit(5.000:7): syscall=1\nnode=b type=SYSCALL msg=audit(5.000:7): syscall=1\n',
     'marks of its own': b'type=PATH msg=audit(2.000:1): name="a"\x1dWAS={ audit(1.000:1) }\ntype=PATH msg=audit(1.000:2): name="b"\x1dUID="x"\n',
+    'marks with a part': b'type=PATH msg=audit(2.000:1): a\x1dWAS={ audit(1.000:1) 99 : b }\ntype=PATH msg=audit(1.000:2): a\x1dWAS={ audit(1.000:2) x : b }\n',
+    'lines to rewrite': b'type=SYSCALL msg=audit(2.000:1): arch=40000003 syscall=4 per=8 a0=1\ntype=SYSCALL msg=audit(1.000:2): arch=40000003 syscall=102 a0=1\n'
+                        b'type=SOCKADDR msg=audit(2.000:1): saddr=100000000000000000000000\x1dSADDR={ fam=netlink }\x1dWAS={ audit(1.000:1) 1 x }\n'
+                        b'type=SOCKADDR msg=audit(1.000:2): saddr=1000\ntype=SOCKADDR msg=audit(1.000:2): saddr=10000000D204000000000000\n'
+                        b'type=SECCOMP msg=audit(1.000:3): arch=40000003 syscall=4 per=8\ntype=SYSCALL msg=audit(3.000:4): arch=40000003 syscall=003 per=8\n'
+                        b'type=SYSCALL msg=audit(3.000:5): arch=40000003 syscall=3',
     'malformed lines': b'\x00\xff\ntype=SYSCALL msg=audit(x:1)\n(((:)))\ntype=SYSCALL msg=audit(1.00:1): x\nmsg=audit(99999999999999999999.000:1)\n',
     'a time far ahead': b'type=PATH msg=audit(999999999999999.999:1): a\ntype=PATH msg=audit(1.000:2): b\n',
 }
 
 
-def call(at, serial, number, pid, more='', node='', a0=3, answer=1, done='yes', path=''):
+def call(at, serial, number, pid, more='', node='', a0=3, a1=0, answer=1, done='yes', path='', cwd='', parent=1, arch='c000003e'):
     """The records of an event with one call."""
-    kind = f'arch=c000003e syscall={number} success={done} exit={answer} a0={a0} a1=0 a2=1 a3=0 items=0 ppid=1 pid={pid} comm="p" exe="/p"'
-    rest = [('SOCKADDR', more)] * bool(more) + [('PATH', path)] * bool(path) + [('EOE', '')]
+    kind = f'arch={arch} syscall={number} success={done} exit={answer} a0={a0} a1={a1} a2=1 a3=0 items=0 ppid={parent} pid={pid} comm="p" exe="/p"'
+    rest = [('SOCKADDR', more)] * bool(more) + [('CWD', f'cwd="{cwd}"')] * bool(cwd) + [('PATH', path)] * bool(path) + [('EOE', '')]
     return ''.join(f'{node}type={name} msg=audit({at}:{serial}): {text}\n' for name, text in [('SYSCALL', kind), *rest])
 
 
-def opening(at, serial, pid, fd, mode, done='yes', kind='NORMAL', node=''):
+def opening(at, serial, pid, fd, mode, done='yes', kind='NORMAL', node='', arch='c000003e'):
     """The records of an open of a file of this mode."""
-    return call(at, serial, OPEN, pid, node=node, answer=fd, done=done, path=f'item=0 name="/f" inode=7 dev=fe:00 mode={mode} ouid=0 ogid=0 rdev=00:00 nametype={kind}')
+    return call(at, serial, OPEN_32 if arch == GATE else OPEN, pid, node=node, answer=fd, done=done, arch=arch, path=f'item=0 name="/f" inode=7 dev=fe:00 mode={mode} ouid=0 ogid=0 rdev=00:00 nametype={kind}')
 
 
 def torn(event, other):
@@ -53,12 +78,16 @@ def torn(event, other):
     return first + '\n' + other + rest
 
 
-READ, WRITE, OPEN, CLOSE, DUP2, CONNECT, FORK, EXEC = 0, 1, 257, 3, 33, 42, 57, 59
+READ, WRITE, OPEN, CLOSE, DUP2, CONNECT, CLONE, FORK, VFORK, EXEC, EXIT, CLONE3 = 0, 1, 257, 3, 33, 42, 56, 57, 58, 59, 231, 435
+# The 32-bit gate, and its numbers of read, write, close and openat.
+GATE, READ_32, WRITE_32, CLOSE_32, OPEN_32 = '40000003', 3, 4, 6, 295
 FILE, FIFO, FOLDER = '0100644', '010644', '040755'
 EARLY = call('1000.000', 1, WRITE, 9) + call('1000.000', 2, WRITE, 9)
 # Logs made by hand, and the serial numbers of their events in the order of effects.
 ORDERS = {
     'a read that waited': (EARLY + call('1000.030', 3, WRITE, 1) + call('1000.010', 4, READ, 2) + call('1000.040', 5, WRITE, 2), [1, 2, 3, 4, 5]),
+    'a 32-bit read that waited': (EARLY + call('1000.030', 3, WRITE, 1) + call('1000.010', 4, READ_32, 2, arch=GATE) + call('1000.040', 5, WRITE_32, 2, arch=GATE), [1, 2, 3, 4, 5]),
+    'a 32-bit write': (EARLY + call('1000.030', 3, WRITE, 1) + call('1000.010', 4, WRITE_32, 2, arch=GATE), [1, 2, 4, 3]),
     'a reader that sleeps ten seconds': (EARLY + call('1000.010', 3, READ, 2) + call('1005.000', 4, WRITE, 1) + call('1010.010', 5, WRITE, 2), [1, 2, 3, 4, 5]),
     'a call that waited more than two seconds': (EARLY + torn(call('1000.500', 4, CONNECT, 2, 'saddr=0200'), call('1003.000', 3, WRITE, 1)), [1, 2, 4, 3]),
     'one event far ahead': (EARLY + call('9000.000', 3, WRITE, 7) + call('1000.020', 4, READ, 2) + call('1000.030', 5, WRITE, 1), [1, 2, 4, 5, 3]),
@@ -76,6 +105,8 @@ ORDERS = {
 
 # The record of a read (of pid 2 at descriptor 3, if nothing else is said) that was entered at .020 comes after those of writes that were entered at .030 and
 # .040. From a regular file it had read before them; otherwise it may have waited. These lines say what was read from.
+# Process 5 holds a file at descriptor 3, and forks process 2; a call of that is one of a child of process 5.
+HELD, BORN, CHILD = opening('1000.010', 3, 5, 3, FILE), call('1000.011', 7, FORK, 5, answer=2), {'parent': 5}
 READ_FROM = {
     'a regular file': (opening('1000.010', 3, 2, 3, FILE), {}, True),
     'a new file': (opening('1000.010', 3, 2, 3, FILE, kind='CREATE'), {}, True),
@@ -92,9 +123,90 @@ READ_FROM = {
     'the standard input after an exec': (opening('1000.010', 3, 2, 0, FILE) + call('1000.011', 7, EXEC, 2, answer=0), {'a0': 0}, True),
     'another descriptor after an exec': (opening('1000.010', 3, 2, 3, FILE) + call('1000.011', 7, EXEC, 2, answer=0), {}, False),
     'a descriptor of a process that is a new one': (opening('1000.010', 3, 2, 3, FILE) + call('1000.011', 7, FORK, 8, answer=2), {}, False),
+    'a file that a 32-bit call opened': (opening('1000.010', 3, 2, 3, FILE, arch=GATE), {}, True),
+    'a descriptor that a 32-bit call closed': (opening('1000.010', 3, 2, 3, FILE) + call('1000.011', 7, CLOSE_32, 2, answer=0, arch=GATE), {}, False),
+    'a file that was inherited': (HELD + BORN, CHILD, True),
+    'a file that was inherited twice': (opening('1000.008', 3, 6, 3, FILE) + call('1000.009', 4, FORK, 6, answer=5) + call('1000.011', 7, FORK, 5, answer=2, parent=6), CHILD, True),
+    'a file that was inherited by a clone': (HELD + call('1000.011', 7, CLONE, 5, a0='1200011', answer=2), CHILD, True),
+    'a file that was inherited by a clone of descriptors': (HELD + call('1000.011', 7, CLONE, 5, a0='411', answer=2), CHILD, False),
+    'a file that was inherited by a clone3': (HELD + call('1000.011', 7, CLONE3, 5, answer=2), CHILD, False),
+    'a file that was inherited from another parent': (HELD + BORN, {}, False),
+    'a copy of a file that was inherited': (HELD + BORN + call('1000.012', 8, DUP2, 2, answer=0, parent=5), CHILD | {'a0': 0}, True),
+    'a file that the child closed': (HELD + BORN + call('1000.012', 8, CLOSE, 2, answer=0, parent=5), CHILD, False),
+    'a file that the child closed, as was recorded before the fork': (HELD + call('1000.012', 8, CLOSE, 2, answer=0, parent=5) + BORN, CHILD, False),
+    'a file that the child opened, as was recorded before the fork': (opening('1000.012', 8, 2, 3, FILE) + BORN, CHILD, True),
+    'a file that the parent had closed': (HELD + call('1000.011', 8, CLOSE, 5, answer=0) + BORN, CHILD, False),
+    'a file that the parent closed later': (HELD + BORN + call('1000.012', 8, CLOSE, 5, answer=0), CHILD, True),
+    'a file that the parent opened later': (BORN + opening('1000.012', 8, 5, 3, FILE), CHILD, False),
+    'a file that the parent opened during the fork': (opening('1000.012', 8, 5, 3, FILE) + BORN, CHILD, False),
+    'a file whose parent had ended': (HELD + call('1000.011', 8, EXIT, 5, done='no') + BORN, CHILD, False),
+    'the standard input after a vfork and an exec': (opening('1000.010', 3, 5, 0, FILE) + call('1000.012', 8, EXEC, 2, answer=0, parent=5)
+                                                     + call('1000.011', 7, VFORK, 5, answer=2), CHILD | {'a0': 0}, True),
+    'another descriptor after a vfork and an exec': (HELD + call('1000.012', 8, EXEC, 2, answer=0, parent=5) + call('1000.011', 7, VFORK, 5, answer=2), CHILD, False),
     'a file before a start': (opening('1000.010', 3, 2, 3, FILE) + 'type=DAEMON_START msg=audit(1000.011:7): op=start\n' + call('1000.012', 8, WRITE, 9)
                               + call('1000.013', 9, WRITE, 9), {}, False),
 }
+
+BIND, ACCEPT, UNLINKAT, SEND, RECEIVE, SOCKET = 49, 43, 263, 44, 45, 41
+BOUND = call('1000.010', 3, BIND, 1, 'saddr=02001F90000000000000000000000000', answer=0)
+BOUND_PATH = call('1000.010', 3, BIND, 1, 'saddr=01002F72756E2F73', answer=0)
+CALLED, PEER, ELSEWHERE = 'saddr=02001F907F0000010000000000000000', 'saddr=0200D4317F0000010000000000000000', 'saddr=0200D4310A0000090000000000000000'
+# Logs made by hand, and how many of their lines are rewritten: with all rules, with shared connections, without those on addresses, and without those on names.
+MEETINGS = {
+    'a connection': (BOUND + call('1000.020', 4, CONNECT, 2, CALLED, answer=0) + call('1000.030', 5, ACCEPT, 1, PEER, answer=4), (2, 1, 0, 2)),
+    'a connection that was accepted first': (BOUND + call('1000.020', 4, ACCEPT, 1, PEER, answer=4) + call('1000.030', 5, CONNECT, 2, CALLED, answer=0), (2, 1, 0, 2)),
+    'an accept a tick before its connect': (BOUND + call('1000.020', 4, ACCEPT, 1, PEER, answer=4) + call('1000.024', 5, CONNECT, 2, CALLED, answer=0), (2, 1, 0, 2)),
+    'an accept and a connect at a path': (BOUND_PATH + call('1000.020', 4, ACCEPT, 1, 'saddr=0100', answer=4) + call('1000.020', 5, CONNECT, 2, 'saddr=01002F72756E2F7300', answer=0),
+                                          (2, 0, 0, 2)),
+    'two connections that wait': (BOUND + call('1000.020', 4, CONNECT, 2, CALLED, answer=0) + call('1000.021', 5, CONNECT, 5, CALLED, done='no', answer=-115)
+                                  + call('1000.030', 6, ACCEPT, 1, PEER, answer=4) + call('1000.031', 7, ACCEPT, 1, PEER, answer=5), (4, 2, 0, 4)),
+    'a connect that failed': (BOUND + call('1000.020', 4, CONNECT, 2, CALLED, done='no', answer=-111), (0, 0, 0, 0)),
+    'a peer from elsewhere': (BOUND + call('1000.020', 4, ACCEPT, 1, ELSEWHERE, answer=4), (0, 0, 0, 0)),
+    'a connection after a start': (BOUND + 'type=DAEMON_START msg=audit(1000.011:9): op=start\n' + call('1000.020', 4, CONNECT, 2, CALLED, answer=0)
+                                   + call('1000.030', 5, ACCEPT, 1, PEER, answer=4), (0, 0, 0, 0)),
+    'datagrams, received and answered': (BOUND + call('1000.020', 4, SEND, 2, CALLED) + call('1000.021', 5, RECEIVE, 1, PEER) + call('1000.022', 6, SEND, 1, PEER)
+                                         + call('1000.023', 7, RECEIVE, 2, CALLED), (2, 2, 0, 2)),
+    'datagrams of a client that is bound': (BOUND + call('1000.011', 4, BIND, 2, 'saddr=0200D431000000000000000000000000', answer=0) + call('1000.020', 5, SEND, 2, CALLED)
+                                            + call('1000.021', 6, RECEIVE, 1, PEER) + call('1000.022', 7, SEND, 1, PEER) + call('1000.023', 8, RECEIVE, 2, CALLED), (2, 2, 0, 2)),
+    'a stream that is bound': (call('1000.009', 7, SOCKET, 1, a1=1, answer=3) + BOUND + call('1000.021', 5, RECEIVE, 1, PEER) + call('1000.022', 6, SEND, 1, PEER), (0, 0, 0, 0)),
+    'a name in a folder': (opening('1000.010', 3, 2, 3, FOLDER) + call('1000.020', 4, UNLINKAT, 2, cwd='/home'), (1, 1, 1, 0)),
+    'a name in what was closed': (opening('1000.010', 3, 2, 3, FOLDER) + call('1000.015', 4, CLOSE, 2, answer=0) + call('1000.020', 5, UNLINKAT, 2, cwd='/home'), (0, 0, 0, 0)),
+    'a name in a folder of another process': (opening('1000.010', 3, 5, 3, FOLDER) + call('1000.020', 4, UNLINKAT, 2, cwd='/home'), (0, 0, 0, 0)),
+}
+
+
+# The names that connections get in some of these logs, one after the other.
+NAMES_MET = {
+    'a connection': ['127.0.0.1:8080#1000020:4'] * 2,
+    'a connection that was accepted first': ['127.0.0.1:8080#1000020:4', '127.0.0.1:8080#1000030:5'],
+    'an accept a tick before its connect': ['127.0.0.1:8080#1000020:4'] * 2,
+    'an accept and a connect at a path': ['/run/s#1000020:4'] * 2,
+    'two connections that wait': ['127.0.0.1:8080#1000020:4'] * 4,
+}
+
+
+def names_in(written):
+    """The names of connections in lines."""
+    return [bytes.fromhex(it[1].decode())[2:].decode() for line in written if (it := re.search(rb': saddr=(0100[0-9A-F]+23[0-9A-F]+)\x1dWAS=', line))]
+
+
+def faults_of_names():
+    """What isn't so of the names of connections, in what the program writes and by the plain reading."""
+    for name, wanted in NAMES_MET.items():
+        log = (EARLY + MEETINGS[name][0]).encode()
+        written = subprocess.run([PROGRAM], input=log, stdout=subprocess.PIPE, check=True).stdout
+        for way, lines in [('the program', lines_of(written)), ('the plain reading', shown(lines_of(log), []))]:
+            if (found := names_in(lines)) != wanted:
+                yield f'{name}: the names {found} and not {wanted}, by {way}'
+
+
+def faults_of_meetings():
+    """What isn't so of how many lines are rewritten."""
+    for name, (log, wanted) in MEETINGS.items():
+        for word, count in zip((None, '--shared-connections', '--no-join', '--no-names'), wanted):
+            ran = subprocess.run([PROGRAM, *filter(None, [word]), '--report'], input=(EARLY + log).encode(), stdout=subprocess.PIPE, stderr=subprocess.PIPE, check=True)
+            if (found := json.loads(ran.stderr)['rewrites']) != count:
+                yield f'{name}: {found} lines are rewritten and not {count}, by {word}'
 
 
 def faults_of_reads():
@@ -121,10 +233,72 @@ def faults_of_orders():
 
 
 def undone(line):
-    """A line as it was before its time was raised."""
+    """A line as it was before it was changed."""
     stamp = STAMP.match(line)
     mark = stamp and MARK.match(stamp[4])
-    return line if not mark else stamp[1] + b'(' + mark[2] + b':' + stamp[3] + b')' + mark[1]
+    if not mark:
+        return line
+    part = PART.match(mark[3])
+    return stamp[1] + b'(' + mark[2] + b':' + stamp[3] + b')' + (part[2] + mark[1][int(part[1]):] if part else mark[1])
+
+
+def is_rewritten(line):
+    """Whether the last mark of a line keeps a part."""
+    stamp = STAMP.match(line)
+    mark = stamp and MARK.match(stamp[4])
+    return bool(mark and PART.match(mark[3]))
+
+
+@functools.cache
+def native_calls():
+    """The number of the 64-bit call for that of each 32-bit call which the main program follows by the same arguments, as the kernel's tables say."""
+    old, new = ({name: int(number) for name, number in re.findall(r'#define __NR_(\w+) (\d+)', table.read_text())} for table in TABLES)
+    followed = {*FOLLOWED, 'mmap'}
+    # The first one of the 32-bit gate takes its arguments from memory.
+    return {number: new[RENAMED.get(name, name)] for name, number in old.items() if name != 'mmap' and RENAMED.get(name, name) in followed}
+
+
+def rewrite_alone(front, rest, leaves_out):
+    """What of a line is rewritten by what it says alone, and to what; nothing if no rule says so."""
+    call = CALL_32.match(rest) if '--no-compat' not in leaves_out and front.endswith(b'type=SYSCALL msg=audit') else None
+    if call and int(call[1]) in native_calls():
+        return call[0][:-1], b': arch=c000003e syscall=%d' % native_calls()[int(call[1])]
+    address = KERNEL_ADDRESS.match(rest) if '--no-join' not in leaves_out and front.endswith(b'type=SOCKADDR msg=audit') else None
+    return (address[0], b': saddr=0100') if address else None
+
+
+def shown(lines, leaves_out):
+    """Lines as they are to be written one after the other."""
+    greatest, text, rules = 0, b'0.000', Rules(leaves_out)
+    for line in lines:
+        stamp = STAMP.match(line)
+        if not stamp or int(stamp[3]) >= 2 ** 32:
+            yield line
+            continue
+        time = int(stamp[2].replace(b'.', b''))
+        if time > greatest:
+            greatest, text = time, stamp[2]
+        at = text if time < greatest else stamp[2]
+        by_others = rules.see(stamp[1], time, stamp[4], line)
+        found = rewrite_alone(stamp[1], stamp[4], leaves_out) or by_others
+        if found:
+            old, new = found
+            yield b'%s(%s:%s)%s\x1dWAS={ audit(%s:%s) %d %s }' % (stamp[1], at, stamp[3], new + stamp[4][len(old):], stamp[2], stamp[3], len(new), old)
+        elif at != stamp[2] or MARK.match(stamp[4]):
+            yield b'%s(%s:%s)%s\x1dWAS={ audit(%s:%s) }' % (stamp[1], at, stamp[3], stamp[4], stamp[2], stamp[3])
+        else:
+            yield line
+
+
+def faults_of_calls():
+    """What isn't so of the calls of the 32-bit gate."""
+    numbers = range(600)
+    log = b''.join(b'type=SYSCALL msg=audit(1.000:%d): arch=40000003 syscall=%d per=8\ntype=EOE msg=audit(1.000:%d): \n' % (it + 1, it, it + 1) for it in numbers)
+    written = subprocess.run([PROGRAM], input=log, stdout=subprocess.PIPE, check=True).stdout
+    found = dict(zip(numbers, re.findall(rb'syscall=(\d+) per=8', written)))
+    rewritten = {number: int(new) for number, new in found.items() if b'arch=c000003e syscall=%b per=8\x1dWAS={ audit(1.000:%d) ' % (new, number + 1) in written}
+    if rewritten != native_calls():
+        yield f'32-bit calls that are rewritten otherwise: {sorted(set(rewritten.items()) ^ set(native_calls().items()))}'
 
 
 def lines_of(text):
@@ -142,12 +316,13 @@ def counts_of(written, added):
     """What a report has to count of an answer, except late events; and events, if some line bears no stamp: it may stand apart from its event."""
     events = [event_of(undone(line)) for line in written]
     return {'added_ends': added, **({} if None in events else {'events': sum(1 for _ in itertools.groupby(events))}),
-            'times_raised': sum(STAMP.match(line)[2] != STAMP.match(undone(line))[2] for line in written if STAMP.match(line))}
+            'rewrites': sum(map(is_rewritten, written)), 'times_raised': sum(STAMP.match(line)[2] != STAMP.match(undone(line))[2] for line in written if STAMP.match(line))}
 
 
 def faults_of(log, words=()):
     """What isn't as it is to be of the answer over the bytes of a log."""
-    ran = subprocess.run([PROGRAM, '--report', *words], input=log, stdout=subprocess.PIPE, stderr=subprocess.PIPE)
+    switches = [it for it in words if it in RULES]
+    ran = subprocess.run([PROGRAM, *switches, '--report', *words[len(switches):]], input=log, stdout=subprocess.PIPE, stderr=subprocess.PIPE)
     if ran.returncode:
         yield f'status {ran.returncode}, {ran.stderr!r}'
         return
@@ -168,6 +343,8 @@ def faults_of(log, words=()):
         end = END.match(line)
         if end and end[2] + end[3] not in calls:
             yield f'an end of no call: {line!r}'
+    if TABLES_ARE_THERE and list(shown(map(undone, written), switches)) != written:
+        yield 'lines are written otherwise than the rules say'
     yield from faults_of_undoing(ran.stdout)
     yield from faults_of_undoing(log)
     greatest = 0
@@ -192,7 +369,8 @@ def faults_of_undoing(lines):
 def faults_of_words():
     """What isn't as it is to be of words that name no job."""
     for words in [['--order'], ['--undo', '--undo'], ['--und'], [''], ['--undo', '--report'], ['--report', '--report'], ['--window'], ['--window', 'x'], ['--memory', '-1'],
-                  ['--memory', '1', '--window', '1'], ['--window', '1', '--report'], ['--window', '1', '--window', '1'], ['--window', '4294967296'], ['--report', 'x']]:
+                  ['--memory', '1', '--window', '1'], ['--window', '1', '--report'], ['--window', '1', '--window', '1'], ['--window', '4294967296'], ['--report', 'x'],
+                  ['--report', '--no-join'], ['--no-compat', '--no-join'], ['--no-compat', '--no-names'], ['--no-names', '--no-join'], ['--no-names', '--shared-connections'], ['--shared-connections', '--no-join'], ['--no-join', '--no-join'], ['--no-compat', '--undo'], ['--join']]:
         ran = subprocess.run([PROGRAM, *words], input=b'x\n', stdout=subprocess.PIPE, stderr=subprocess.PIPE)
         if ran.returncode != 2 or ran.stdout or ran.stderr != b'audit_order: bad words\n':
             yield f'status {ran.returncode}, {ran.stdout!r}, {ran.stderr!r} for the words {words}'
@@ -215,10 +393,15 @@ def generated(seed):
 
 def main(names):
     logs = {name: Path(name).read_bytes() for name in names} if names else {
-        **ODD, **{name: log.encode() for name, (log, _) in ORDERS.items()}, **{path.name: path.read_bytes() for path in sorted((TOP / 'examples').glob('*.log'))},
+        **ODD, **{name: log.encode() for name, (log, _) in (ORDERS | MEETINGS).items()}, **{path.name: path.read_bytes() for path in sorted((TOP / 'examples').glob('*.log'))},
         **{f'generated log {seed}': generated(seed) for seed in range(1, 21)}}
-    faults = [('words', fault) for fault in faults_of_words()] + [('order', fault) for fault in (*faults_of_orders(), *faults_of_reads(), *faults_of_late_events())]
-    faults += [(name, fault) for name, log in logs.items() for words in ((), ('--window', '0'), ('--memory', '0')) for fault in faults_of(log, words)]
+    faults = [('words', fault) for fault in faults_of_words()] + [('order', fault) for fault in (*faults_of_orders(), *faults_of_reads(), *faults_of_late_events(), *faults_of_meetings(), *faults_of_names())]
+    if TABLES_ARE_THERE:
+        faults += [('calls', fault) for fault in faults_of_calls()]
+    else:
+        print(f'not checked, since {TABLES[0].parent} has no tables of calls: how lines are rewritten')
+    faults += [(name, fault) for name, log in logs.items() for words in ((), ('--window', '0'), ('--no-join', '--memory', '0'), ('--shared-connections', '--no-compat'), ('--no-join', '--no-names'))
+               for fault in faults_of(log, words)]
     for name, fault in faults[:20]:
         print(f'{name}: {fault}')
     return 1 if faults else 0

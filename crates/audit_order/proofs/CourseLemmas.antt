@@ -1,5 +1,5 @@
 -- How the ordering of a log goes on.
-use Rattle.std.proofs.Common.{◌≡◌, ◌≤◌, ◌+◌, ◌-◌, ◌∙◌, sym, refl, ap, subst, ℕ, Bool, true, false, List, [], ◌∷◌, ◌++◌, length, Option, None, Some, option_map, map, max, nat_lt, arith, append_assoc, append-nil, add-one, length-append, if◌then◌else◌}
+use Rattle.std.proofs.Common.{◌≡◌, ◌≤◌, ◌+◌, ◌-◌, ◌∙◌, sym, refl, ap, subst, ℕ, Bool, true, false, List, [], ◌∷◌, ◌++◌, length, Option, None, Some, option_map, map, max, nat_lt, reverse, arith, append_assoc, append-nil, add-one, length-append, if◌then◌else◌}
 use Rattle.std.specs.Prelude.{option_to_list}
 use Rattle.std.specs.List.{All, filter}
 use Rattle.std.proofs.lemmas.Bool.Decides.{nat_tests}
@@ -9,10 +9,19 @@ use Rattle.std.proofs.lemmas.Grind.{flat_map-append}
 use Rattle.std.proofs.lemmas.List.{map-append}
 use Rattle.std.proofs.lemmas.List.Elements.{All-push, All-weaker, All-cons, All-nil, filter-append}
 use Rattle.std.proofs.lemmas.List.Sorted.{IsPermutation-refl, IsPermutation-sym, IsPermutation-trans, IsPermutation-cons, IsPermutation-to_front, IsPermutation-append_left, IsNonDecreasingBy-push, IsNonDecreasingBy-short}
-use Rattle.order_text.specs.Laws.{time_in, is_one_line, IsOneLine, StaysAfter}
-use Rattle.order_text.specs.Undo.{undone, written_after}
-use Rattle.audit_order.specs.Lines.{text_of, times_of, IsEnd, AddsNoFeed, is_less, is_raised, raised_in, risen, more_if, Written, Writes, Adds}
+use Rattle.order_text.specs.Stamp.{time_of, stamp_of}
+use Rattle.order_text.specs.Laws.{time_in, is_one_line, IsOneLine}
+use Rattle.order_text.specs.Undo.{undone, written_after, is_rewritten, takes_rewrite}
+use Rattle.order_text.specs.declared.rewrite.Rewrite.{Rewrite}
+use Rattle.order_lines.specs.Rules.{or_else}
+use Rattle.order_rules.specs.Rules.{AllKnown, StandsForLines, rewrite_of}
+use Rattle.order_text.proofs.UndoLemmas.{written_undone, written_stays, written_told}
+use Rattle.order_text.proofs.LineLemmas.{written_one}
+use Rattle.audit_order.specs.Start.{Start}
+use Rattle.audit_order.specs.Shown.{Latest, no_time, latest, rules_of, change_alone}
+use Rattle.audit_order.specs.Lines.{text_of, times_of, IsEnd, AddsNoFeed, is_less, is_raised, raised_in, risen, more_if, Written, wrote, Writes, Adds, IsBlank}
 use Rattle.audit_order.specs.Course.{Course, Keeps, Gives}
+use Rattle.audit_order.proofs.ShownLemmas.{latest_timed, later_ms, stands_more, counted_more, exact_more, greatest_more}
 
 pub text_more : (outs : List (List ℕ)) (out : List ℕ) → text_of (outs ++ out ∷ []) ≡ text_of outs ++ (out ++ 10 ∷ [])
 text_more outs out =
@@ -62,40 +71,77 @@ raised_by : (ms : ℕ) (out line : List ℕ) → undone out ≡ line → time_in
 raised_by ms out line is time =
     ap (λ (t : Option ℕ). is_less t (time_in out)) (ap time_in is) ∙ ap (is_less (time_in line)) time ∙ less_than_max ms (time_in line)
 
-one_raised : (b : Bool) (n : ℕ) (out : List ℕ) → n + length (if b then out ∷ [] else []) ≡ more_if b n
-one_raised true n out = refl
-one_raised false n out = omega arith
+-- a line as it is written is undone to the line as it was, and bears the same serial number, and its time unless that is less than
+-- one written before
+record IsShown (t : Latest) (line out : List ℕ) (change : Option Rewrite) : Type 0 where
+  undone : undone out ≡ line
+  time : time_in out ≡ option_map (max t.ms) (time_in line)
+  one : IsOneLine line → IsOneLine out
+  told : is_rewritten out ≡ takes_rewrite change (stamp_of line)
 
-raised_more : (outs : List (List ℕ)) (out : List ℕ) → raised_in (outs ++ out ∷ []) ≡ more_if (is_raised out) (raised_in outs)
-raised_more outs out =
-    ap length (filter-append is_raised outs (out ∷ [])) ∙ length-append (filter is_raised outs) (filter is_raised (out ∷ []))
-    ∙ one_raised (is_raised out) (raised_in outs) out
-
-pub gives : (old new : Written) (line : List ℕ) → Writes old new line → Gives old new line
-gives old new line w before now waits lines c =
-    let rising = rising_more old.ms (times_of c.outs) (time_in line) (record { rises = c.rises; below = c.below }) in
-    let times : times_of (c.outs ++ w.out ∷ []) ≡ times_of c.outs ++ option_to_list (option_map (max old.ms) (time_in line)) =
-    times_more c.outs w.out ∙ ap (λ (t : Option ℕ). times_of c.outs ++ option_to_list t) w.time in
-    let there : Rising new.ms (times_of (c.outs ++ w.out ∷ [])) = rw (times, w.ms) rising in
+is_shown : (t : Latest) (line : List ℕ) (change : Option Rewrite) (lines : List (List ℕ)) → t ≡ latest lines
+    → IsShown t line (written_after t.time t.ms line change) change
+is_shown t line change lines is =
+    let timed : time_of t.time ≡ Some t.ms = subst (λ (u : Latest). time_of u.time ≡ Some u.ms) (sym is) (latest_timed lines) in
     record {
-      outs = c.outs ++ w.out ∷ [];
+      undone = written_undone t.time t.ms line change timed;
+      time = (written_stays t.time t.ms line change timed).time;
+      one = written_one t.time t.ms line change timed;
+      told = written_told t.time t.ms line change timed;
+    }
+
+-- one more line is written with a rewrite
+puts : (old : Written) (line : List ℕ) (change : Option Rewrite) (rules : AllKnown) (before : Start) (now : Option (List ℕ)) (waits lines : List (List ℕ))
+    (c : Course before now old (line ∷ waits) lines)
+    → rules.settings ≡ old.rules.settings → StandsForLines rules (line ∷ reverse (map undone c.outs))
+    → change ≡ or_else (change_alone old.switches (stamp_of line)) (rewrite_of old.rules.settings (reverse (map undone c.outs)) line)
+    → Course before now (wrote (record old { rules = rules }) line (stamp_of line) change) waits lines
+puts old line change rules before now waits lines c settings stands by =
+    let out = written_after old.latest.time old.latest.ms line change in
+    let new = wrote (record old { rules = rules }) line (stamp_of line) change in
+    let w = is_shown old.latest line change (reverse (map undone c.outs)) c.greatest in
+    let ms = old.latest.ms in
+    let undid = undone_more c.outs out line w.undone in
+    let rising = rising_more ms (times_of c.outs) (time_in line) (record { rises = c.rises; below = c.below }) in
+    let times : times_of (c.outs ++ out ∷ []) ≡ times_of c.outs ++ option_to_list (option_map (max ms) (time_in line)) =
+    times_more c.outs out ∙ ap (λ (t : Option ℕ). times_of c.outs ++ option_to_list t) w.time in
+    let risen_to : new.latest.ms ≡ risen ms (time_in line) = later_ms old.latest (stamp_of line) in
+    let there : Rising new.latest.ms (times_of (c.outs ++ out ∷ [])) = rw (times, risen_to) rising in
+    record {
+      outs = c.outs ++ out ∷ [];
       added = c.added;
       done = c.done;
       appends = c.appends;
-      text = ap (λ (p : List ℕ). c.done ++ p) w.pending ∙ sym (append_assoc c.done old.pending (w.out ++ 10 ∷ []))
-          ∙ ap (λ (t : List ℕ). t ++ (w.out ++ 10 ∷ [])) c.text ∙ sym (text_more c.outs w.out);
-      same = rw (undone_more c.outs w.out line w.undone) (moved (c.added ++ lines) waits (map undone c.outs) line c.same);
+      text = sym (append_assoc c.done old.pending (out ++ 10 ∷ []))
+          ∙ ap (λ (t : List ℕ). t ++ (out ++ 10 ∷ [])) c.text ∙ sym (text_more c.outs out);
+      same = rw undid (moved (c.added ++ lines) waits (map undone c.outs) line c.same);
       rises = there.rises;
       below = there.below;
       ends = c.ends;
-      own = All-push AddsNoFeed c.outs w.out c.own (λ one. w.one (ap is_one_line (sym w.undone) ∙ one));
-      counts_raised = w.raised ∙ ap (more_if (is_less (time_in line) (Some old.ms))) c.counts_raised
-          ∙ ap (λ (b : Bool). more_if b (raised_in c.outs)) (sym (raised_by old.ms w.out line w.undone w.time)) ∙ sym (raised_more c.outs w.out);
-      counts_added = w.added ∙ c.counts_added;
+      own = All-push AddsNoFeed c.outs out c.own (λ one. w.one (ap is_one_line (sym w.undone) ∙ one));
+      counts_raised = ap (more_if (is_less (time_in line) (Some ms))) c.counts_raised
+          ∙ ap (λ (b : Bool). more_if b (raised_in c.outs)) (sym (raised_by ms out line w.undone w.time)) ∙ sym (counted_more is_raised c.outs out);
+      counts_added = c.counts_added;
+      counts_rewritten = ap (λ (b : Bool). more_if b old.rewritten) (sym w.told) ∙ ap (more_if (is_rewritten out)) c.counts_rewritten ∙ sym (counted_more is_rewritten c.outs out);
+      switches = c.switches;
+      settings = settings ∙ c.settings;
+      rules = stands_more rules (map undone c.outs) (map undone (c.outs ++ out ∷ [])) line stands undid;
+      greatest = greatest_more old.latest new.latest (map undone c.outs) (map undone (c.outs ++ out ∷ [])) line c.greatest refl undid;
+      exact = exact_more before.switches old.switches old.rules.settings old.latest change c.outs (map undone c.outs) (map undone (c.outs ++ out ∷ [])) line
+          c.exact c.switches c.settings c.greatest by undid;
     }
 
+pub gives : (old new : Written) (line : List ℕ) → Writes old new line → Gives old new line
+gives old new line w before now waits lines c =
+    let rules = w.mid.rules in
+    let back = reverse (map undone c.outs) in
+    let is : new ≡ wrote (record old { rules = rules }) line (stamp_of line) w.change =
+    w.is ∙ ap (λ (m : Written). wrote m line (stamp_of line) w.change) w.asks.same in
+    subst (λ (n : Written). Course before now n waits lines) (sym is)
+    (puts old line w.change rules before now waits lines c w.asks.settings (w.asks.stands back c.rules) (w.asks.by back c.rules))
+
 -- an end that is added waits for no time, and is counted
-pub adds : (before now : Option (List ℕ)) (w : Written) (waits lines : List (List ℕ)) (line : List ℕ) → IsEnd line
+pub adds : (before : Start) (now : Option (List ℕ)) (w : Written) (waits lines : List (List ℕ)) (line : List ℕ) → IsEnd line
     → Course before now w waits lines → Course before now (record w { added = w.added + 1 }) (line ∷ waits) lines
 adds before now w waits lines line is c = record {
   outs = c.outs;
@@ -110,20 +156,26 @@ adds before now w waits lines line is c = record {
   own = c.own;
   counts_raised = c.counts_raised;
   counts_added = ap (λ (n : ℕ). n + 1) c.counts_added ∙ add-one (length c.added);
+  counts_rewritten = c.counts_rewritten;
+  switches = c.switches;
+  settings = c.settings;
+  rules = c.rules;
+  greatest = c.greatest;
+  exact = c.exact;
 }
 
 -- a line that is written is so whatever is added besides
 writes_added : (old new : Written) (line : List ℕ) → Writes old new line → Writes (record old { added = old.added + 1 }) (record new { added = new.added + 1 }) line
 writes_added old new line w = record {
-  out = w.out;
-  pending = w.pending;
-  undone = w.undone;
-  time = w.time;
-  number = w.number;
-  ms = w.ms;
-  one = w.one;
-  raised = w.raised;
-  added = ap (λ (n : ℕ). n + 1) w.added;
+  mid = record w.mid { added = w.mid.added + 1 };
+  change = w.change;
+  asks = record {
+    same = ap (λ (m : Written). record m { added = m.added + 1 }) w.asks.same;
+    settings = w.asks.settings;
+    by = w.asks.by;
+    stands = w.asks.stands;
+  };
+  is = ap (λ (m : Written). record m { added = m.added + 1 }) w.is;
 }
 
 pub keeps_end : (old new : Written) (line : List ℕ) → Adds old new line → IsEnd line → Keeps old new
@@ -134,7 +186,7 @@ keeps_end old new line a is before now waits lines c =
     (adds before now old waits lines line is c))
 
 -- those that wait may stand in another order
-pub shuffled : (before now : Option (List ℕ)) (w : Written) (waits other lines : List (List ℕ)) → IsPermutation waits other
+pub shuffled : (before : Start) (now : Option (List ℕ)) (w : Written) (waits other lines : List (List ℕ)) → IsPermutation waits other
     → Course before now w waits lines → Course before now w other lines
 shuffled before now w waits other lines same c = record {
   outs = c.outs;
@@ -150,10 +202,16 @@ shuffled before now w waits other lines same c = record {
   own = c.own;
   counts_raised = c.counts_raised;
   counts_added = c.counts_added;
+  counts_rewritten = c.counts_rewritten;
+  switches = c.switches;
+  settings = c.settings;
+  rules = c.rules;
+  greatest = c.greatest;
+  exact = c.exact;
 }
 
 -- one more line of the log waits
-pub joins : (before now : Option (List ℕ)) (w : Written) (waits lines : List (List ℕ)) (line : List ℕ)
+pub joins : (before : Start) (now : Option (List ℕ)) (w : Written) (waits lines : List (List ℕ)) (line : List ℕ)
     → Course before now w waits lines → Course before now w (line ∷ waits) (lines ++ line ∷ [])
 joins before now w waits lines line c = record {
   outs = c.outs;
@@ -173,6 +231,12 @@ joins before now w waits lines line c = record {
   own = c.own;
   counts_raised = c.counts_raised;
   counts_added = c.counts_added;
+  counts_rewritten = c.counts_rewritten;
+  switches = c.switches;
+  settings = c.settings;
+  rules = c.rules;
+  greatest = c.greatest;
+  exact = c.exact;
 }
 
 pub appends_both : (before now later : Option (List ℕ)) (done pending : List ℕ) → Appends before now done → Appends now later pending → Appends before later (done ++ pending)
@@ -182,13 +246,13 @@ appends_both (Some xs) (Some ys) None done pending first second = absurd second
 appends_both (Some xs) (Some ys) (Some zs) done pending first second = second ∙ ap (λ (t : List ℕ). t ++ pending) first ∙ append_assoc xs done pending
 
 -- what waited to be handed on was handed on
-pub flushed : (before now later : Option (List ℕ)) (w : Written) (waits lines : List (List ℕ)) → Appends now later w.pending
+pub flushed : (before : Start) (now later : Option (List ℕ)) (w : Written) (waits lines : List (List ℕ)) → Appends now later w.pending
     → Course before now w waits lines → Course before later (record w { pending = [] }) waits lines
 flushed before now later w waits lines handed c = record {
   outs = c.outs;
   added = c.added;
   done = c.done ++ w.pending;
-  appends = appends_both before now later c.done w.pending c.appends handed;
+  appends = appends_both before.written now later c.done w.pending c.appends handed;
   text = append-nil (c.done ++ w.pending) ∙ c.text;
   same = c.same;
   rises = c.rises;
@@ -197,18 +261,25 @@ flushed before now later w waits lines handed c = record {
   own = c.own;
   counts_raised = c.counts_raised;
   counts_added = c.counts_added;
+  counts_rewritten = c.counts_rewritten;
+  switches = c.switches;
+  settings = c.settings;
+  rules = c.rules;
+  greatest = c.greatest;
+  exact = c.exact;
 }
 
 pub appends_none : (before : Option (List ℕ)) → Appends before before []
 appends_none None = tt
 appends_none (Some xs) = sym (append-nil xs)
 
-pub starts : (before : Option (List ℕ)) → Course before before (record { pending = []; ms = 0; raised = 0; added = 0 }) [] []
-starts before = record {
+blank : (before : Start) (rules : AllKnown) → rules.settings ≡ rules_of before.switches → StandsForLines rules []
+    → Course before before.written (record { switches = before.switches; rules = rules; pending = []; latest = no_time; raised = 0; rewritten = 0; added = 0 }) [] []
+blank before rules settings stands = record {
   outs = [];
   added = [];
   done = [];
-  appends = appends_none before;
+  appends = appends_none before.written;
   text = refl;
   same = IsPermutation-refl [];
   rises = IsNonDecreasingBy-short (λ (t : ℕ). t) [] (omega arith);
@@ -217,7 +288,16 @@ starts before = record {
   own = All-nil AddsNoFeed;
   counts_raised = refl;
   counts_added = refl;
+  counts_rewritten = refl;
+  switches = refl;
+  settings = settings;
+  rules = stands;
+  greatest = refl;
+  exact = refl;
 }
+
+pub starts : (before : Start) (w : Written) → IsBlank before.switches w → Course before before.written w [] []
+starts before w b = subst (λ (v : Written). Course before before.written v [] []) (sym b.is) (blank before w.rules b.settings b.rules)
 
 -- ---- lines
 
@@ -225,22 +305,3 @@ pub end_pieces : (node a b c d e n0 n1 n2 n3 n4 n5 : List ℕ) → n0 ≡ node �
     → n5 ≡ node ++ (a ++ (b ++ (c ++ (d ++ e))))
 end_pieces node a b c d e n0 n1 n2 n3 n4 n5 e0 e1 e2 e3 e4 e5 =
     rw (e5, e4, e3, e2, e1, e0) (simp append_assoc refl)
-
-pub writes_by : (old new : Written) (time line slice mid after : List ℕ) → slice ≡ time
-    → mid ≡ old.pending ++ written_after slice old.ms line → after ≡ mid ++ 10 ∷ []
-    → new ≡ record old { pending = after; ms = new.ms; raised = new.raised }
-    → new.ms ≡ risen old.ms (time_in line) → new.raised ≡ more_if (is_less (time_in line) (Some old.ms)) old.raised
-    → undone (written_after time old.ms line) ≡ line → StaysAfter old.ms line (written_after time old.ms line)
-    → (IsOneLine line → IsOneLine (written_after time old.ms line)) → Writes old new line
-writes_by old new time line slice mid after is one two same ms raised undo stays feed = record {
-  out = written_after time old.ms line;
-  pending = ap (λ (w : Written). w.pending) same ∙ two ∙ ap (λ (t : List ℕ). t ++ 10 ∷ []) (one ∙ ap (λ (t : List ℕ). old.pending ++ written_after t old.ms line) is)
-      ∙ append_assoc old.pending (written_after time old.ms line) (10 ∷ []);
-  undone = undo;
-  time = stays.time;
-  number = stays.number;
-  ms = ms;
-  one = feed;
-  raised = raised;
-  added = ap (λ (w : Written). w.added) same;
-}

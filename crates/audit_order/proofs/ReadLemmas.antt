@@ -13,6 +13,7 @@ use Rattle.audit_lex.specs.LineCut.{StandsFor, Cutter, Gives}
 use Rattle.audit_lex.specs.declared.line_cut.Line.{Line}
 use Rattle.order_text.specs.Undo.{undone}
 use Rattle.audit_order.specs.declared.counts.Counts.{Counts}
+use Rattle.audit_order.specs.Start.{Start}
 use Rattle.audit_order.specs.Lines.{Written}
 use Rattle.audit_order.specs.Course.{Course}
 use Rattle.audit_order.proofs.FeedLemmas.{one_each, given_back_one}
@@ -22,7 +23,7 @@ use Rattle.audit_order.specs.Taken.{Standing}
 short : (limit : ℕ) (text : List ℕ) → is_long limit text ≡ false → short_text limit text ≡ text
 short limit text e = rw e refl
 
-pub next_took : {T : Type 0} (stands : Standing T) (limit : ℕ) (before was now : Option (List ℕ)) (old new : T) (from to : History) (line : Option Line)
+pub next_took : {T : Type 0} (stands : Standing T) (limit : ℕ) (before : Start) (was now : Option (List ℕ)) (old new : T) (from to : History) (line : Option Line)
     → Gives limit from to line → TakesNext stands was old now new line → stands before was old (lines_of from) → stands before now new (lines_of to)
 next_took stands limit before was now old new from to None same goes s =
     subst (λ (lines : List (List ℕ)). stands before now new lines) (sym same) (goes before (lines_of from) s)
@@ -100,22 +101,25 @@ ends_log stands bytes left later was now cut cut2 s s2 piece empty log read ende
     }
 
 -- what was written at the end orders the log
-pub orders : (bytes : List ℕ) (before now : Option (List ℕ)) (w : Written) (waits lines : List (List ℕ)) (counts : Counts) → w.pending ≡ [] → waits ≡ []
-    → lines ≡ log_lines bytes → counts.times_raised ≡ w.raised → counts.added_ends ≡ w.added → Course before now w waits lines → Orders bytes before now counts
-orders bytes before now w waits lines counts flushed none are raised added c =
+pub orders : (bytes : List ℕ) (before : Start) (now : Option (List ℕ)) (w : Written) (waits lines : List (List ℕ)) (counts : Counts) → w.pending ≡ [] → waits ≡ []
+    → lines ≡ log_lines bytes → counts.times_raised ≡ w.raised → counts.added_ends ≡ w.added → counts.rewrites ≡ w.rewritten
+    → Course before now w waits lines → Orders before.switches bytes before.written now counts
+orders bytes before now w waits lines counts flushed none are raised added rewritten c =
     let same : IsPermutation (c.added ++ log_lines bytes) (map undone c.outs) =
     subst (λ (l : List (List ℕ)). IsPermutation (c.added ++ l) (map undone c.outs)) are
     (subst (λ (v : List (List ℕ)). IsPermutation (c.added ++ lines) (v ++ map undone c.outs)) none c.same) in
     record {
       outs = c.outs;
       added = c.added;
-      written = subst (λ (t : List ℕ). Appends before now t) (sym (append-nil c.done) ∙ ap (λ (p : List ℕ). c.done ++ p) (sym flushed) ∙ c.text) c.appends;
+      written = subst (λ (t : List ℕ). Appends before.written now t) (sym (append-nil c.done) ∙ ap (λ (p : List ℕ). c.done ++ p) (sym flushed) ∙ c.text) c.appends;
       same = same;
       rises = c.rises;
       ends = c.ends;
       one = one_each c.outs c.own (given_back_one bytes c.added (map undone c.outs) c.ends same);
       counts_raised = raised ∙ c.counts_raised;
       counts_added = added ∙ c.counts_added;
+      counts_rewritten = rewritten ∙ c.counts_rewritten;
+      exact = c.exact;
     }
 
 -- ---- slices, and results

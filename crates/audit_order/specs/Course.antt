@@ -1,35 +1,45 @@
 -- How far the ordering of a log has come.
-use Rattle.std.specs.Prelude.{◌≡◌, ℕ, ◌≤◌, List, ◌∷◌, ◌++◌, Option, map, length, IsPermutation}
+use Rattle.std.specs.Prelude.{◌≡◌, ℕ, ◌≤◌, List, [], ◌∷◌, ◌++◌, Option, map, length, reverse, IsPermutation}
 use Rattle.std.specs.List.{All}
 use Rattle.std.specs.List.Sorted.{IsNonDecreasing}
 use Rattle.std.specs.Io.KnownBytes.{Appends}
 use Rattle.order_text.specs.Undo.{undone}
-use Rattle.audit_order.specs.Lines.{text_of, times_of, raised_in, IsEnd, AddsNoFeed, Written}
+use Rattle.order_rules.specs.Rules.{StandsForLines}
+use Rattle.audit_order.specs.Start.{Start}
+use Rattle.audit_order.specs.Shown.{latest, rules_of, shown_after}
+use Rattle.audit_order.specs.Lines.{text_of, times_of, raised_in, rewritten_in, IsEnd, AddsNoFeed, Written}
 
 -- Of the lines of the log so far, each is written or waits, and none is lost, doubled or made up: what was written is undone
--- to them and to the ends that were added. Times don't fall in what is written. Raised times and added ends are counted.
-pub record Course (before now : Option (List ℕ)) (w : Written) (waits lines : List (List ℕ)) : Type 0 where
+-- to them and to the ends that were added. Times don't fall in what is written. Each line is rewritten by the rules. Raised times,
+-- rewritten lines and added ends are counted.
+pub record Course (before : Start) (now : Option (List ℕ)) (w : Written) (waits lines : List (List ℕ)) : Type 0 where
   pub outs : List (List ℕ)
   pub added : List (List ℕ)
   pub done : List ℕ
-  pub appends : Appends before now done
+  pub appends : Appends before.written now done
   pub text : done ++ w.pending ≡ text_of outs
   pub same : IsPermutation (added ++ lines) (waits ++ map undone outs)
   pub rises : IsNonDecreasing (times_of outs)
-  pub below : All (λ time. time ≤ w.ms) (times_of outs)
+  pub below : All (λ time. time ≤ w.latest.ms) (times_of outs)
   pub ends : All IsEnd added
   pub own : All AddsNoFeed outs
   pub counts_raised : w.raised ≡ raised_in outs
   pub counts_added : w.added ≡ length added
+  pub counts_rewritten : w.rewritten ≡ rewritten_in outs
+  pub switches : w.switches ≡ before.switches
+  pub settings : w.rules.settings ≡ rules_of before.switches
+  pub rules : StandsForLines w.rules (reverse (map undone outs))
+  pub greatest : w.latest ≡ latest (reverse (map undone outs))
+  pub exact : outs ≡ shown_after before.switches [] (map undone outs)
 
 -- whatever waits, what is written besides loses nothing
 abbrev pub Keeps : Written → Written → Type 0
 Keeps old new =
-    (before now : Option (List ℕ)) (waits lines : List (List ℕ))
+    (before : Start) (now : Option (List ℕ)) (waits lines : List (List ℕ))
     → Course before now old waits lines → Course before now new waits lines
 
 -- a line that waited is written
 abbrev pub Gives : Written → Written → List ℕ → Type 0
 Gives old new line =
-    (before now : Option (List ℕ)) (waits lines : List (List ℕ))
+    (before : Start) (now : Option (List ℕ)) (waits lines : List (List ℕ))
     → Course before now old (line ∷ waits) lines → Course before now new waits lines

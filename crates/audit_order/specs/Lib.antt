@@ -1,4 +1,6 @@
 pub mod Halts
+pub mod Start
+pub mod Shown
 pub mod Lines
 pub mod Course
 pub mod Tally

@@ -1,8 +1,14 @@
 -- Lines that are written.
 use Rattle.std.specs.Prelude.{◌≡◌, ℕ, ◌+◌, Bool, false, List, [], ◌∷◌, ◌++◌, Option, None, Some, max, length, nat_lt, codes, option_map, option_to_list, if◌then◌else◌}
 use Rattle.std.specs.List.{flat_map, filter}
+use Rattle.order_text.specs.Stamp.{Stamp, stamp_of}
 use Rattle.order_text.specs.Laws.{time_in, number_in, IsOneLine}
-use Rattle.order_text.specs.Undo.{undone}
+use Rattle.order_text.specs.Undo.{undone, written_of, is_rewritten, takes_rewrite}
+use Rattle.order_text.specs.declared.rewrite.Rewrite.{Rewrite}
+use Rattle.order_lines.specs.Rules.{or_else}
+use Rattle.order_rules.specs.Rules.{AllKnown, StandsForLines, rewrite_of}
+use Rattle.audit_order.specs.declared.switches.Switches.{Switches}
+use Rattle.audit_order.specs.Shown.{Latest, later_of, no_time, rules_of, change_alone}
 
 -- lines with a line feed after each
 abbrev pub text_of : List (List ℕ) → List ℕ
@@ -45,34 +51,63 @@ is_raised out = is_less (time_in (undone out)) (time_in out)
 abbrev pub raised_in : List (List ℕ) → ℕ
 raised_in outs = length (filter is_raised outs)
 
+-- how many lines have a part that was rewritten
+abbrev pub rewritten_in : List (List ℕ) → ℕ
+rewritten_in outs = length (filter is_rewritten outs)
+
 -- the greatest time after a line too
 abbrev pub risen : ℕ → Option ℕ → ℕ
 risen ms None = ms
 risen ms (Some time) = max ms time
 
--- what waits to be written, the greatest time that was written, how many times were raised and how many ends were added
+-- which lines are rewritten, what is known for that, what waits to be written, the greatest time that was written, how many times
+-- were raised, how many lines were rewritten and how many ends were added
 pub record Written : Type 0 where
+  pub switches : Switches
+  pub rules : AllKnown
   pub pending : List ℕ
-  pub ms : ℕ
+  pub latest : Latest
   pub raised : ℕ
+  pub rewritten : ℕ
   pub added : ℕ
+
+-- nothing was written
+pub record IsBlank (switches : Switches) (w : Written) : Type 0 where
+  pub is : w ≡ record { switches = switches; rules = w.rules; pending = []; latest = no_time; raised = 0; rewritten = 0; added = 0 }
+  pub settings : w.rules.settings ≡ rules_of switches
+  pub rules : StandsForLines w.rules []
 
 -- one more if a test is passed
 abbrev pub more_if : Bool → ℕ → ℕ
 more_if b n = if b then n + 1 else n
 
--- One more line is written: it is undone to the line as it was, and bears the same serial number, and its time unless that
--- is less than one written before. Then it is counted as raised.
+-- the time of a line of this stamp, if it has one
+abbrev pub ms_in : Option Stamp → Option ℕ
+ms_in found = option_map (λ s. s.ms) found
+
+-- what there is after a line of this stamp was written too, with this rewrite
+abbrev pub wrote : Written → List ℕ → Option Stamp → Option Rewrite → Written
+wrote w line found change = record w {
+  pending = w.pending ++ (written_of w.latest.time w.latest.ms line found change ++ 10 ∷ []);
+  latest = later_of w.latest found;
+  raised = more_if (is_less (ms_in found) (Some w.latest.ms)) w.raised;
+  rewritten = more_if (takes_rewrite change found) w.rewritten;
+}
+
+-- a line was seen by the rules, which say how it is rewritten
+pub record Asks (old new : Written) (line : List ℕ) (change : Option Rewrite) : Type 0 where
+  pub same : new ≡ record old { rules = new.rules }
+  pub settings : new.rules.settings ≡ old.rules.settings
+  pub by : (before : List (List ℕ)) → StandsForLines old.rules before
+      → change ≡ or_else (change_alone old.switches (stamp_of line)) (rewrite_of old.rules.settings before line)
+  pub stands : (before : List (List ℕ)) → StandsForLines old.rules before → StandsForLines new.rules (line ∷ before)
+
+-- one more line is written, as the rules say
 pub record Writes (old new : Written) (line : List ℕ) : Type 0 where
-  pub out : List ℕ
-  pub pending : new.pending ≡ old.pending ++ (out ++ 10 ∷ [])
-  pub undone : undone out ≡ line
-  pub time : time_in out ≡ option_map (max old.ms) (time_in line)
-  pub number : number_in out ≡ number_in line
-  pub ms : new.ms ≡ risen old.ms (time_in line)
-  pub one : IsOneLine line → IsOneLine out
-  pub raised : new.raised ≡ more_if (is_less (time_in line) (Some old.ms)) old.raised
-  pub added : new.added ≡ old.added
+  pub mid : Written
+  pub change : Option Rewrite
+  pub asks : Asks old mid line change
+  pub is : new ≡ wrote mid line (stamp_of line) change
 
 -- one more line is written, and counted as added
 pub record Adds (old new : Written) (line : List ℕ) : Type 0 where

@@ -9,18 +9,21 @@ use Rattle.audit_lex.specs.declared.line_cut.Line.{Line}
 use Rattle.order_text.specs.Undo.{undone}
 use Rattle.order_text.specs.Laws.{IsOneLine}
 use Rattle.audit_order.specs.declared.counts.Counts.{Counts}
-use Rattle.audit_order.specs.Lines.{text_of, times_of, raised_in, IsEnd}
+use Rattle.audit_order.specs.declared.switches.Switches.{Switches}
+use Rattle.audit_order.specs.Start.{Start}
+use Rattle.audit_order.specs.Shown.{shown_after}
+use Rattle.audit_order.specs.Lines.{text_of, times_of, raised_in, rewritten_in, IsEnd}
 use Rattle.audit_order.specs.Taken.{Standing, Stays, Takes}
 
 -- the lines of a history were cut out and taken
-pub record Took {T : Type 0} (stands : Standing T) (before now : Option (List ℕ)) (cut : Cutter) (s : T) (history : History) : Type 0 where
+pub record Took {T : Type 0} (stands : Standing T) (before : Start) (now : Option (List ℕ)) (cut : Cutter) (s : T) (history : History) : Type 0 where
   pub cuts : StandsFor cut history
   pub takes : stands before now s (lines_of history)
 
 -- whatever was taken, these steps are taken after it
 abbrev pub TakesAlso : {T : Type 0} → Standing T → (was : Option (List ℕ)) → Cutter → T → (now : Option (List ℕ)) → Cutter → T → History → Type 0
 TakesAlso stands was cut s now cut2 s2 steps =
-    (before : Option (List ℕ)) (history : History) → Took stands before was cut s history → Took stands before now cut2 s2 (history ++ steps)
+    (before : Start) (history : History) → Took stands before was cut s history → Took stands before now cut2 s2 (history ++ steps)
 
 -- a line that was cut out is taken, if there is one
 abbrev pub TakesNext : {T : Type 0} → Standing T → (was : Option (List ℕ)) → T → (now : Option (List ℕ)) → T → Option Line → Type 0
@@ -31,10 +34,10 @@ TakesNext stands was old now new (Some line) = (line.long ≡ false) × Takes st
 abbrev pub log_lines : List ℕ → List (List ℕ)
 log_lines bytes = lines_of (with_bytes [] bytes ++ Settle ∷ [])
 
--- What was written orders a log: without what was raised it is the lines of the log and the ends that were added, in some
--- order, none of them lost, doubled or made up; the times in it don't fall; and each of its lines is one line. Raised times
--- and added ends are counted.
-pub record Orders (bytes : List ℕ) (before now : Option (List ℕ)) (counts : Counts) : Type 0 where
+-- What was written orders a log: with what was changed undone it is the lines of the log and the ends that were added, in some
+-- order, none of them lost, doubled or made up; the times in it don't fall; and each of its lines is one line. The lines are
+-- changed exactly as the greatest time before each and the rules say. Raised times, rewritten lines and added ends are counted.
+pub record Orders (switches : Switches) (bytes : List ℕ) (before now : Option (List ℕ)) (counts : Counts) : Type 0 where
   pub outs : List (List ℕ)
   pub added : List (List ℕ)
   pub written : Appends before now (text_of outs)
@@ -44,8 +47,10 @@ pub record Orders (bytes : List ℕ) (before now : Option (List ℕ)) (counts : 
   pub one : All IsOneLine outs
   pub counts_raised : counts.times_raised ≡ raised_in outs
   pub counts_added : counts.added_ends ≡ length added
+  pub counts_rewritten : counts.rewrites ≡ rewritten_in outs
+  pub exact : outs ≡ shown_after switches [] (map undone outs)
 
--- What was written is the lines of the log, each as it was before its time was raised, in their order.
+-- What was written is the lines of the log, each as it was before it was changed, in their order.
 abbrev pub Undoes : List ℕ → (before now : Option (List ℕ)) → Type 0
 Undoes bytes before now = Appends before now (text_of (map undone (log_lines bytes)))
 
@@ -61,9 +66,15 @@ pub record GivesBack (bytes : List ℕ) (before now : Option (List ℕ)) : Type 
 -- undoing what orders a log gives the lines of the log and the ends that were added
 abbrev pub UndoesOrders : Type 0
 UndoesOrders =
-    (bytes ordered : List ℕ) (before now : Option (List ℕ)) (counts : Counts)
-    → Orders bytes (Some []) (Some ordered) counts → Undoes ordered before now → GivesBack bytes before now
+    (switches : Switches) (bytes ordered : List ℕ) (before now : Option (List ℕ)) (counts : Counts)
+    → Orders switches bytes (Some []) (Some ordered) counts → Undoes ordered before now → GivesBack bytes before now
 
 -- a text of such lines has these lines
 abbrev pub TextHasLines : Type 0
 TextHasLines = (lines : List (List ℕ)) → All IsOneLine lines → log_lines (text_of lines) ≡ lines
+
+-- without the rules no line is rewritten
+abbrev pub RewritesByRules : Type 0
+RewritesByRules =
+    (switches : Switches) (bytes : List ℕ) (before now : Option (List ℕ)) (counts : Counts)
+    → switches.join ≡ false → switches.names ≡ false → switches.compat ≡ false → Orders switches bytes before now counts → counts.rewrites ≡ 0

@@ -12,4 +12,5 @@ report_of counts =
     codes "{\"added_ends\":" ++ (number_text counts.added_ends
     ++ (codes ",\"events\":" ++ (number_text counts.events
     ++ (codes ",\"late\":" ++ (number_text counts.late
-    ++ (codes ",\"times_raised\":" ++ (number_text counts.times_raised ++ codes "}\n")))))))
+    ++ (codes ",\"rewrites\":" ++ (number_text counts.rewrites
+    ++ (codes ",\"times_raised\":" ++ (number_text counts.times_raised ++ codes "}\n")))))))))

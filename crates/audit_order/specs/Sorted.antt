@@ -3,23 +3,24 @@ use Rattle.std.specs.Prelude.{ℕ, ◌+◌, Bool, false, List, [], ◌∷◌, �
 use Rattle.std.specs.List.{list_any}
 use Rattle.order_queue.specs.declared.waiting.Waiting.{Waiting}
 use Rattle.order_queue.specs.Queue.{texts_of}
+use Rattle.audit_order.specs.Start.{Start}
 use Rattle.audit_order.specs.Course.{Course}
 use Rattle.audit_order.specs.Taken.{Stays}
 use Rattle.audit_order.specs.declared.counts.Counts.{Counts}
 use Rattle.audit_order.specs.declared.sorter.Sorter.{Sorter}
 
 -- the sorter holds the lines that wait, after these lines of the log
-abbrev pub Sorts : (before now : Option (List ℕ)) → Sorter → List (List ℕ) → Type 0
+abbrev pub Sorts : (before : Start) (now : Option (List ℕ)) → Sorter → List (List ℕ) → Type 0
 Sorts before now s lines = Course before now s.writer (texts_of s.queue.waits) lines
 
 -- a step of the sorter alone loses nothing
 abbrev pub Moves : Sorter → Sorter → Type 0
-Moves old new = (before now : Option (List ℕ)) (lines : List (List ℕ)) → Sorts before now old lines → Sorts before now new lines
+Moves old new = (before : Start) (now : Option (List ℕ)) (lines : List (List ℕ)) → Sorts before now old lines → Sorts before now new lines
 
 -- one more line of the log waits
 abbrev pub Holds : Sorter → Sorter → List ℕ → Type 0
 Holds old new line =
-    (before now : Option (List ℕ)) (lines : List (List ℕ)) → Sorts before now old lines → Sorts before now new (lines ++ line ∷ [])
+    (before : Start) (now : Option (List ℕ)) (lines : List (List ℕ)) → Sorts before now old lines → Sorts before now new (lines ++ line ∷ [])
 
 -- steps that also write lose nothing
 abbrev pub Goes : (was : Option (List ℕ)) → Sorter → (now : Option (List ℕ)) → Sorter → Type 0
@@ -27,7 +28,8 @@ Goes was old now new = Stays Sorts was old now new
 
 -- what a sorter has done
 abbrev pub counts_of : Sorter → Counts
-counts_of s = record { added_ends = s.writer.added; events = s.tally.events; late = s.tally.late; times_raised = s.writer.raised }
+counts_of s =
+    record { added_ends = s.writer.added; events = s.tally.events; late = s.tally.late; rewrites = s.writer.rewritten; times_raised = s.writer.raised }
 
 -- the clock is more than the window past a time, if there is one
 abbrev pub is_past : ℕ → Option ℕ → ℕ → Bool

@@ -16,6 +16,8 @@ pub struct Counts {
     pub events: u64,
     /// The events that were written after one whose place is later.
     pub late: u64,
+    /// The lines of which a part was rewritten.
+    pub rewrites: u64,
     /// The lines whose time was raised, with the added ends among them.
     pub times_raised: u64,
 }
@@ -27,6 +29,7 @@ impl Counts {
             added_ends: 0,
             events: 0,
             late: 0,
+            rewrites: 0,
             times_raised: 0,
         }
     }
@@ -75,6 +78,8 @@ pub fn report(alloc: Global, counts: Counts) -> Result<Bytes, NoMemory>
     append_number(&mut line, counts.events)?;
     line.append(b",\"late\":")?;
     append_number(&mut line, counts.late)?;
+    line.append(b",\"rewrites\":")?;
+    append_number(&mut line, counts.rewrites)?;
     line.append(b",\"times_raised\":")?;
     append_number(&mut line, counts.times_raised)?;
     line.append(b"}\n")?;

@@ -7,6 +7,9 @@ use order_text::{Stamp, is_one_line, read_stamp};
 use std::alloc::Global;
 use std::marker::Model;
 
+/// What stands before the stamp of a call's record.
+const CALL: &[u8] = b"type=SYSCALL msg=audit";
+
 /// The line that ends an event, which is added if the log has none.
 #[derive(Drop)]
 pub struct End {
@@ -33,26 +36,31 @@ impl End {
         self.line.as_slice()
     }
 
-    /// The line that ends the event of a call, if this is a call's record.
-    pub fn of_line(alloc: Global, line: &[u8]) -> Result<Option<End>, NoMemory> {
-        if !line.starts_with(b"type=SYSCALL ") && !line.starts_with(b"node=") {
-            return Ok(None);
-        }
-        match read_stamp(line) {
+    /// The line that ends the event of a call, by the call's record.
+    pub fn of_call(alloc: Global, call: &[u8]) -> Result<Option<End>, NoMemory> {
+        match read_stamp(call) {
             None => Ok(None),
-            Some(stamp) => End::of_call(alloc, &stamp),
+            Some(stamp) => End::of_stamp(alloc, &stamp),
         }
     }
 
-    // The line that ends the event of a call, if this is the stamp of a call's record.
-    fn of_call(alloc: Global, stamp: &Stamp<'_>) -> Result<Option<End>, NoMemory> {
-        match stamp.front.strip_suffix(b"type=SYSCALL msg=audit") {
-            None => Ok(None),
-            Some(node) => {
+    // The line that ends the event of a call of this stamp.
+    fn of_stamp(alloc: Global, stamp: &Stamp<'_>) -> Result<Option<End>, NoMemory> {
+        match stamp.front.strip_suffix(CALL) {
+            Some(node) if node.is_empty() || node.starts_with(b"node=") => {
                 let line = end_line(alloc, node, stamp.time, stamp.serial)?;
                 Ok(end_of(line))
             }
+            _ => Ok(None),
         }
+    }
+}
+
+/// Whether this is the stamp of a call's record.
+pub fn is_call(stamp: &Option<Stamp<'_>>) -> bool {
+    match stamp {
+        None => false,
+        Some(stamp) => stamp.front.ends_with(CALL),
     }
 }
 

@@ -1,5 +1,5 @@
 //! What ordering and undoing promise together. The functions do nothing; their contracts are laws.
-ghost use Rattle.audit_order.specs.Reads.{UndoesOrders, TextHasLines};
+ghost use Rattle.audit_order.specs.Reads.{UndoesOrders, TextHasLines, RewritesByRules};
 
 /// Undoing what orders a log gives the lines of the log and the ends that were added, in some order.
 pub fn ordered_logs_are_undone()
@@ -9,4 +9,9 @@ pub fn ordered_logs_are_undone()
 /// Lines without a line feed that are written, each with a line feed after it, are the lines of what is written.
 pub fn written_lines_are_lines()
     ensures { TextHasLines }
+{}
+
+/// If no rule is on, no line is rewritten.
+pub fn nothing_is_rewritten_without_rules()
+    ensures { RewritesByRules }
 {}

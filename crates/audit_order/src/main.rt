@@ -1,12 +1,13 @@
 //! An audit log in the order of effects.
 //!
-//!     audit_order [--report] [--window SECONDS] [--memory MB] < LOG > ORDERED
+//!     audit_order [SWITCHES] [--report] [--window SECONDS] [--memory MB] < LOG > ORDERED
 //!     audit_order --undo < ORDERED > LINES
 //!
 //! A record's time is its call's entry, and its serial number is given when the call returns. So a read that waited
 //! stands before the write that fed it. This program writes the lines of a log in an order that is nearer to that of their
-//! effects, the lines of an event together, with times that never fall. `order_run` is the whole of it over any
-//! source and sink, and its contract is the theorem. `undo_run` writes the lines as they were.
+//! effects, the lines of an event together, with times that never fall. Some lines are rewritten by rules, so that the main
+//! program sees what really met. `order_run` is the whole of it over any source and sink, and its contract is the theorem.
+//! `undo_run` writes the lines as they were.
 #![tactic(auto)]
 
 ghost use Rattle.std.specs.Prelude.{◌≡◌, ◌≢◌, ◌⊎◌, None, IfErr, map, string_bytes};
@@ -22,6 +23,7 @@ mod release;
 mod run;
 mod sorter;
 mod status;
+mod switches;
 mod taker;
 #[cfg(test)]
 mod tests;
@@ -31,13 +33,16 @@ mod writer;
 
 pub use bounds::Bounds;
 pub use counts::{Counts, report};
-pub use laws::{ordered_logs_are_undone, written_lines_are_lines};
+pub use laws::{
+    nothing_is_rewritten_without_rules, ordered_logs_are_undone, written_lines_are_lines,
+};
 use outside::put_all;
 use outside_real::{Reading, Writing};
 pub use run::{order_run, undo_run};
 pub use status::{Status, status_line, status_number};
 use std::process::ExitCode;
 use std::{env, io};
+pub use switches::Switches;
 pub use words::{Job, job_of};
 
 fn main(rt: HostRuntime) -> ExitCode {
@@ -57,19 +62,32 @@ fn run_words(rt: &HostRuntime, words: &[String]) -> Status
 {
     match job_of(words) {
         None => Status::BadWords,
-        Some(Job::Order { bounds, report }) => order_log(rt, bounds, report),
+        Some(
+            Job::Order {
+                bounds,
+                switches,
+                report,
+            },
+        ) => order_log(rt, bounds, switches, report),
         Some(Job::Undo) => undo_log(rt),
     }
 }
 
 // Orders a log, and says what was done if that is asked for.
-fn order_log(rt: &HostRuntime, bounds: Bounds, reports: bool) -> Status
+fn order_log(rt: &HostRuntime, bounds: Bounds, switches: Switches, reports: bool) -> Status
     ensures { result ≢ Status.BadWords }
 {
     let mut log = Reading::new(rt.stdin());
     let mut out = Writing::new(rt.stdout());
     let mut counts = Counts::new();
-    let status = order_run(rt.alloc(), bounds, &mut log, &mut out, &mut counts);
+    let status = order_run(
+        rt.alloc(),
+        bounds,
+        switches,
+        &mut log,
+        &mut out,
+        &mut counts,
+    );
     if status != Status::Done || !reports {
         return status;
     }

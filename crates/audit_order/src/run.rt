@@ -12,6 +12,7 @@ use crate::log::{MOST, take_log, take_tail};
 use crate::release::finish;
 use crate::sorter::Sorter;
 use crate::status::{Status, status_of};
+use crate::switches::Switches;
 use crate::undo::Undoer;
 use audit_lex::LineCut;
 use flow_base::NoMemory;
@@ -32,12 +33,13 @@ fn room_for_a_read(alloc: Global) -> Result<Vec<u8>, NoMemory>
 fn order<L: Source, O: Sink>(
     alloc: Global,
     bounds: Bounds,
+    switches: Switches,
     log: &mut L,
     out: &mut O,
     counts: &mut Counts,
 ) -> Result<(), Halt>
     ensures ordered { (bytes : List ℕ) → L.left log.old ≡ Some bytes
-        → OnOk result (Orders bytes (O.written out.old) (O.written out.new) counts.new) }
+        → OnOk result (Orders switches bytes (O.written out.old) (O.written out.new) counts.new) }
     ensures whole { (bytes : List ℕ) → L.left log.old ≡ Some bytes
         → OnOk result (L.left log.new ≡ Some []) }
     ensures causes { IfErr result (HasCauses
@@ -46,7 +48,7 @@ fn order<L: Source, O: Sink>(
 {
     let mut piece = room_for_a_read(alloc)?;
     let mut cut = LineCut::new(alloc, MOST);
-    let mut sorter = Sorter::new(alloc, bounds)?;
+    let mut sorter = Sorter::new(alloc, bounds, switches)?;
     take_log(&mut cut, &mut sorter, log, out, piece.as_mut_slice())?;
     take_tail(&mut cut, &mut sorter, out)?;
     finish(&mut sorter, out)?;
@@ -56,24 +58,26 @@ fn order<L: Source, O: Sink>(
 
 /// Writes the lines of a log in the order of effects.
 ///
-/// At `Done` what was written, without what was raised, is the lines of the log and the ends that were added, in some
-/// order: nothing is lost, doubled or made up. The times in it never fall. Raised times and added ends are counted.
+/// At `Done` what was written, with what was changed undone, is the lines of the log and the ends that were added, in some
+/// order: nothing is lost, doubled or made up. The times in it never fall, and lines are rewritten exactly as the rules say
+/// that the switches allow. Raised times, rewritten lines and added ends are counted.
 pub fn order_run<L: Source, O: Sink>(
     alloc: Global,
     bounds: Bounds,
+    switches: Switches,
     log: &mut L,
     out: &mut O,
     counts: &mut Counts,
 ) -> Status
     ensures ordered { (bytes : List ℕ) → L.left log.old ≡ Some bytes
-        → AtDone result (Orders bytes (O.written out.old) (O.written out.new) counts.new) }
+        → AtDone result (Orders switches bytes (O.written out.old) (O.written out.new) counts.new) }
     ensures whole { (bytes : List ℕ) → L.left log.old ≡ Some bytes
         → AtDone result (L.left log.new ≡ Some []) }
     ensures causes { StatusCause
         (Rose (L.faults log.old) (L.faults log.new) (L.spent log.new))
         (Rose (O.faults out.old) (O.faults out.new) (O.spent out.new)) result }
 {
-    status_of(order(alloc, bounds, log, out, counts))
+    status_of(order(alloc, bounds, switches, log, out, counts))
 }
 
 // Undoes the lines of a log.
@@ -94,7 +98,7 @@ fn undo<L: Source, O: Sink>(alloc: Global, log: &mut L, out: &mut O) -> Result<(
     undoer.flush(out)
 }
 
-/// Writes the lines of an ordered log as they were before their times were raised.
+/// Writes the lines of an ordered log as they were before they were changed.
 ///
 /// At `Done` what was written is the lines of the log, each without its last mark, in their order.
 pub fn undo_run<L: Source, O: Sink>(alloc: Global, log: &mut L, out: &mut O) -> Status

@@ -1,25 +1,28 @@
 //! The sorter: lines that wait for their turn, and what is written of them.
 ghost use Rattle.std.specs.Prelude.{◌≡◌, ◌+◌, ◌-◌, ◌<◌, ◌≤◌, ◌^◌, [], List, ℕ, Option, true, false, length, IfOk, OnOk};
+ghost use Rattle.audit_order.specs.Start.{Start};
 ghost use Rattle.audit_order.specs.Course.{Gives, Keeps};
 ghost use Rattle.audit_order.specs.Sorted.{Sorts, Moves, Holds, counts_of, is_past, any_is_past};
 ghost use Rattle.audit_order.specs.Tally.{is_of, tally_with};
 
 use crate::bounds::Bounds;
 use crate::counts::{Counts, Tally};
-use crate::end::End;
+use crate::end::{End, is_call};
+use crate::switches::Switches;
 use crate::writer::Writer;
 use flow_base::{Bytes, NoMemory};
 use order_place::{Place, Places};
 use order_queue::{Queue, Waiting};
+use order_text::read_stamp;
 use std::alloc::Global;
 
-/// The event whose lines are written now, and the line that ends it, if it is a call's event without an end so far.
+/// The event whose lines are written now, and the record of its call, if it is a call's event without an end so far.
 #[derive(Drop)]
 pub struct Turn {
     pub ms: u64,
     pub serial: u32,
     pub node: Bytes,
-    pub end: Option<End>,
+    pub call: Option<Bytes>,
 }
 
 /// What was seen, what waits, and what is written.
@@ -37,24 +40,25 @@ pub struct Sorter {
 
 impl Sorter {
     /// A sorter that has seen nothing.
-    pub fn new(alloc: Global, bounds: Bounds) -> Result<Sorter, NoMemory>
+    pub fn new(alloc: Global, bounds: Bounds, switches: Switches) -> Result<Sorter, NoMemory>
         ensures nothing { IfOk result (λ made.
-            (before : Option (List ℕ)) → Sorts before before made []) }
+            (written : Option (List ℕ)) → Sorts
+            (record { written = written; switches = switches }) written made []) }
         ensures bounds { IfOk result (λ made. made.bounds ≡ bounds) }
         ensures tally { IfOk result (λ made.
             made.tally ≡ record { events = 0; late = 0; latest = 0 }) }
     {
-        let writer = Writer::new(alloc)?;
+        let writer = Writer::new(alloc, switches)?;
         Ok(Sorter {
             alloc,
-            places: Places::new(alloc),
+            places: Places::new(alloc, switches.compat),
             queue: Queue::new(alloc),
             writer,
             turn: Turn {
                 ms: 0,
                 serial: 0,
                 node: Bytes::new(alloc),
-                end: None,
+                call: None,
             },
             tally: Tally {
                 events: 0,
@@ -74,6 +78,7 @@ impl Sorter {
             added_ends: self.writer.added(),
             events: self.tally.events,
             late: self.tally.late,
+            rewrites: self.writer.rewritten(),
             times_raised: self.writer.raised(),
         }
     }
@@ -86,7 +91,20 @@ pub fn write_end(sorter: &mut Sorter) -> Result<(), NoMemory>
     ensures waits { sorter.new.queue ≡ sorter.old.queue }
     ensures bounds { sorter.new.bounds ≡ sorter.old.bounds }
 {
-    match sorter.turn.end.take() {
+    match sorter.turn.call.take() {
+        None => Ok(()),
+        Some(call) => write_end_of(sorter, call.as_slice()),
+    }
+}
+
+// Writes the line that ends the event of a call, by the call's record.
+fn write_end_of(sorter: &mut Sorter, call: &[u8]) -> Result<(), NoMemory>
+    ensures keeps { OnOk result (Keeps sorter.old.writer sorter.new.writer) }
+    ensures tally { sorter.new.tally ≡ sorter.old.tally }
+    ensures waits { sorter.new.queue ≡ sorter.old.queue }
+    ensures bounds { sorter.new.bounds ≡ sorter.old.bounds }
+{
+    match End::of_call(sorter.alloc, call)? {
         None => Ok(()),
         Some(end) => sorter.writer.write_added(end.line()),
     }
@@ -122,29 +140,30 @@ fn is_of(turn: &Turn, item: &Waiting) -> bool
     turn.ms == item.ms && turn.serial == item.serial && turn.node == item.node
 }
 
-// The line of a call's record owes an end, and a line that ends the event is one.
-fn note_end(turn: &mut Turn, alloc: Global, item: &Waiting) -> Result<(), NoMemory> {
-    if item.rank > 0 {
-        turn.end = None;
-        return Ok(());
+// The record of a call is held until its event has an end, and a line that ends the event is one.
+fn note_end(turn: &mut Turn, rank: u8, calls: bool, line: Bytes) {
+    if rank > 0 {
+        turn.call = None;
+    } else if calls {
+        turn.call = Some(line);
     }
-    if let Some(end) = End::of_line(alloc, item.line.as_slice())? {
-        turn.end = Some(end);
-    }
-    Ok(())
 }
 
 // Writes a line that waits no longer.
-fn write_item(sorter: &mut Sorter, item: &Waiting) -> Result<(), NoMemory>
-    ensures gives { OnOk result (Gives sorter.old.writer sorter.new.writer item.now.line) }
+fn write_item(sorter: &mut Sorter, item: Waiting) -> Result<(), NoMemory>
+    ensures gives { OnOk result (Gives sorter.old.writer sorter.new.writer item.line) }
     ensures counts { OnOk result (sorter.new.tally
-        ≡ tally_with sorter.old.turn sorter.old.tally item.now) }
+        ≡ tally_with sorter.old.turn sorter.old.tally item) }
     ensures waits { sorter.new.queue ≡ sorter.old.queue }
     ensures bounds { sorter.new.bounds ≡ sorter.old.bounds }
 {
-    turn_to(sorter, item)?;
-    note_end(&mut sorter.turn, sorter.alloc, item)?;
-    sorter.writer.write(item.line.as_slice())
+    turn_to(sorter, &item)?;
+    let line = item.line.as_slice();
+    let stamp = read_stamp(line);
+    sorter.writer.write(line, &stamp)?;
+    let calls = is_call(&stamp);
+    note_end(&mut sorter.turn, item.rank, calls, item.line);
+    Ok(())
 }
 
 /// Writes the line of the least place, if one waits.
@@ -156,7 +175,7 @@ pub fn write_least(sorter: &mut Sorter) -> Result<(), NoMemory>
 {
     match sorter.queue.pop() {
         None => Ok(()),
-        Some(item) => write_item(sorter, &item),
+        Some(item) => write_item(sorter, item),
     }
 }
 

@@ -2,6 +2,7 @@
 ghost use Rattle.std.specs.Prelude.{◌≡◌, ◌≤◌, ◌^◌, List, ℕ, Option, ◌∷◌, [], length, OnOk, IfErr};
 ghost use Rattle.outside.specs.Cause.{Rose};
 ghost use Rattle.audit_order.specs.Halts.{HasCauses, GoesUp};
+ghost use Rattle.audit_order.specs.Start.{Start};
 ghost use Rattle.audit_order.specs.Taken.{Takes};
 
 use crate::halt::Halt;
@@ -10,8 +11,8 @@ use outside::Sink;
 
 /// Takes the lines of a log one by one, and writes what it makes of them.
 pub trait Taker {
-    /// After these lines it stands so, with what was written from one moment to another.
-    ghost stands: { Option (List ℕ) → Option (List ℕ) → Self → List (List ℕ) → Type 0 };
+    /// After these lines of a run that began so it stands so, with what was written up to a moment.
+    ghost stands: { Start → Option (List ℕ) → Self → List (List ℕ) → Type 0 };
 
     /// Takes the next line of the log.
     fn take_line<O: Sink>(&mut self, sink: &mut O, line: Bytes) -> Result<(), Halt>

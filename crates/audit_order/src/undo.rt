@@ -1,4 +1,4 @@
-//! The lines of an ordered log as they were before their times were raised.
+//! The lines of an ordered log as they were before they were changed.
 ghost use Rattle.std.specs.Prelude.{◌≡◌, [], ◌∷◌, ◌++◌, OnOk, IfErr};
 ghost use Rattle.std.specs.Io.KnownBytes.{Appends};
 ghost use Rattle.outside.specs.Cause.{Rose};

@@ -1,19 +1,25 @@
 //! The words of the program, and what they ask for.
 //!
-//!     audit_order [--report] [--window SECONDS] [--memory MB]
+//!     audit_order [--no-join] [--shared-connections] [--no-names] [--no-compat] [--report] [--window SECONDS] [--memory MB]
 //!     audit_order --undo
 ghost use Rattle.std.specs.Prelude.{◌≡◌, map, option_map, string_bytes};
-ghost use Rattle.audit_order.specs.Words.{job_of, is_undo, order_of, with_window, with_memory, switch_value, number_first, is_word};
+ghost use Rattle.audit_order.specs.Words.{job_of, is_undo, order_of, with_window, with_memory, has_word, switch_value, number_first, is_word};
 
 use crate::bounds::{Bounds, MEGABYTES, SECONDS};
+use crate::switches::Switches;
 use audit_lex::dec32;
 
 /// What the words ask for.
 #[derive(Clone, Copy, Debug, PartialEq, Eq)]
 pub enum Job {
-    /// Write the lines of a log in the order of effects, within these bounds, and report what was done if that is asked for.
-    Order { bounds: Bounds, report: bool },
-    /// Write the lines of an ordered log as they were before their times were raised.
+    /// Write the lines of a log in the order of effects, within these bounds and rewritten as these switches allow, and report
+    /// what was done if that is asked for.
+    Order {
+        bounds: Bounds,
+        switches: Switches,
+        report: bool,
+    },
+    /// Write the lines of an ordered log as they were before they were changed.
     Undo,
 }
 
@@ -41,30 +47,53 @@ fn is_undo(words: &[String]) -> bool
 fn order_of(words: &[String]) -> Option<Job>
     ensures { result ≡ order_of (map string_bytes words.now) }
 {
-    match words {
-        [word, rest @ ..] if is_word(word, b"--report") => with_window(true, rest),
-        _ => with_window(false, words),
-    }
+    let (no_join, rest) = has_word(b"--no-join", words);
+    let (shared, rest) = has_word(b"--shared-connections", rest);
+    let (no_names, rest) = has_word(b"--no-names", rest);
+    let (no_compat, rest) = has_word(b"--no-compat", rest);
+    let (report, rest) = has_word(b"--report", rest);
+    let switches = Switches {
+        join: !no_join,
+        apart: !shared,
+        names: !no_names,
+        compat: !no_compat,
+    };
+    with_window(switches, report, rest)
 }
 
 // A job that orders, by the words from the switch of the window on.
-fn with_window(report: bool, words: &[String]) -> Option<Job>
-    ensures { result ≡ with_window report (map string_bytes words.now) }
+fn with_window(switches: Switches, report: bool, words: &[String]) -> Option<Job>
+    ensures { result ≡ with_window switches report (map string_bytes words.now) }
 {
     let (seconds, rest) = switch_value(b"--window", SECONDS, words)?;
-    with_memory(report, seconds, rest)
+    with_memory(switches, report, seconds, rest)
 }
 
 // A job that orders, by the words from the switch of the memory on.
-fn with_memory(report: bool, seconds: u32, words: &[String]) -> Option<Job>
-    ensures { result ≡ with_memory report (seconds, map string_bytes words.now) }
+fn with_memory(switches: Switches, report: bool, seconds: u32, words: &[String]) -> Option<Job>
+    ensures { result ≡ with_memory switches report (seconds, map string_bytes words.now) }
 {
     let (megabytes, rest) = switch_value(b"--memory", MEGABYTES, words)?;
     if !rest.is_empty() {
         return None;
     }
     let bounds = Bounds::of(seconds, megabytes);
-    Some(Job::Order { bounds, report })
+    Some(Job::Order {
+        bounds,
+        switches,
+        report,
+    })
+}
+
+// Whether the words begin with this one, and the words after it.
+fn has_word<'a>(name: &[u8], words: &'a [String]) -> (bool, &'a [String])
+    ensures { (result.0, map string_bytes result.1.now)
+        ≡ has_word name.now (map string_bytes words.now) }
+{
+    match words {
+        [word, rest @ ..] if is_word(word, name) => (true, rest),
+        _ => (false, words),
+    }
 }
 
 // The number after a switch, if the words begin with the switch, else the usual one; and the words after that.

@@ -1,19 +1,22 @@
-//! Lines on their way out, with times that never fall.
-ghost use Rattle.std.specs.Prelude.{◌≡◌, ◌+◌, [], IfOk, OnOk, IfErr, Some, max, nat_lt};
+//! Lines on their way out, with times that never fall, rewritten by rules.
+ghost use Rattle.std.specs.Prelude.{◌≡◌, ◌+◌, [], ◌++◌, ◌∷◌, Option, option_map, IfOk, IfSome, OnOk, IfErr, None, Some, nat_lt};
 ghost use Rattle.std.specs.Io.KnownBytes.{Appends};
-ghost use Rattle.order_text.specs.Laws.{time_in};
-ghost use Rattle.order_text.specs.Stamp.{time_of};
+ghost use Rattle.order_text.specs.Seen.{stamp_seen};
+ghost use Rattle.order_text.specs.Stamp.{stamp_of, time_of};
 ghost use Rattle.outside.specs.Cause.{Rose};
 ghost use Rattle.audit_order.specs.Halts.{HasCauses, GoesUp};
-ghost use Rattle.audit_order.specs.Lines.{Writes, Adds, risen, is_less, more_if};
+ghost use Rattle.order_text.specs.declared.rewrite.Rewrite.{Rewrite};
+ghost use Rattle.order_lines.specs.Rules.{or_else};
+ghost use Rattle.audit_order.specs.Shown.{Latest, later_of, change_alone};
+ghost use Rattle.audit_order.specs.Lines.{wrote, Asks, Writes, Adds, IsBlank, more_if};
 
 use crate::counts::count_one;
 use crate::halt::Halt;
+use crate::switches::Switches;
 use flow_base::{Bytes, NoMemory};
-use order_text::{
-    read_stamp, write_after, written_lines_are_one_line, written_lines_are_undone,
-    written_lines_bear_their_stamp,
-};
+use order_lines::rewrite_of;
+use order_rules::Rules;
+use order_text::{Rewrite, Stamp, read_stamp, write_stamped};
 use outside::{Sink, put_all};
 use std::alloc::Global;
 use std::marker::Model;
@@ -21,15 +24,18 @@ use std::marker::Model;
 /// How many bytes wait at most before they are handed on.
 pub const CHUNK: usize = 65_536;
 
-/// What waits to be written, the greatest time that was written, in milliseconds and as a text, how many times were raised,
-/// and how many ends were added.
+/// Which lines are rewritten, and what is known for that; what waits to be written; the greatest time that was written, as a text and in milliseconds; how
+/// many times were raised, how many lines were rewritten, and how many ends were added.
 #[derive(Drop)]
 pub struct Writer {
     alloc: Global,
+    switches: Switches,
+    rules: Rules,
     pending: Bytes,
     time: Bytes,
     ms: u64,
     raised: u64,
+    rewritten: u64,
     added: u64,
 }
 
@@ -41,9 +47,12 @@ impl Model for Writer {
     ghost Value = { Written };
 
     ghost view = { λ a. record {
+      switches = a.switches;
+      rules = a.rules;
       pending = a.pending;
-      ms = a.ms;
+      latest = record { time = a.time; ms = a.ms };
       raised = a.raised;
+      rewritten = a.rewritten;
       added = a.added;
     } };
 
@@ -52,17 +61,19 @@ impl Model for Writer {
 
 impl Writer {
     /// Nothing was written.
-    pub fn new(alloc: Global) -> Result<Writer, NoMemory>
-        ensures { IfOk result (λ made. made
-            ≡ record { pending = []; ms = 0; raised = 0; added = 0 }) }
+    pub fn new(alloc: Global, switches: Switches) -> Result<Writer, NoMemory>
+        ensures { IfOk result (IsBlank switches) }
     {
         let time = Bytes::from_slice(alloc, b"0.000")?;
         Ok(Writer {
             alloc,
+            switches,
+            rules: Rules::new(alloc, switches.rules()),
             pending: Bytes::new(alloc),
             time,
             ms: 0,
             raised: 0,
+            rewritten: 0,
             added: 0,
         })
     }
@@ -72,6 +83,13 @@ impl Writer {
         ensures { result ≡ self.now.raised }
     {
         self.raised
+    }
+
+    /// How many lines were rewritten.
+    pub fn rewritten(&self) -> u64
+        ensures { result ≡ self.now.rewritten }
+    {
+        self.rewritten
     }
 
     /// How many ends were added.
@@ -86,61 +104,100 @@ impl Writer {
         self.pending.as_slice().len()
     }
 
-    /// Writes a line, whose time is raised if it would fall.
-    pub fn write(&mut self, line: &[u8]) -> Result<(), NoMemory>
-        ensures { OnOk result (Writes self.old self.new line.now) }
-    {
-        written_lines_are_undone();
-        written_lines_bear_their_stamp();
-        written_lines_are_one_line();
-        write_after(&mut self.pending, self.time.as_slice(), self.ms, line)?;
-        self.pending.append(b"\n")?;
-        self.rise(line)
-    }
-
     /// Writes an end that the log doesn't have.
     pub fn write_added(&mut self, line: &[u8]) -> Result<(), NoMemory>
         ensures { OnOk result (Adds self.old self.new line.now) }
     {
-        self.write(line)?;
+        self.write(line, &read_stamp(line))?;
         count_one(&mut self.added)
     }
 
-    // The time of a line that is greater becomes the greatest, and one that is less is counted.
-    fn rise(&mut self, line: &[u8]) -> Result<(), NoMemory>
-        ensures same { self.new ≡ record self.old { ms = self.new.ms; raised = self.new.raised } }
-        ensures ms { OnOk result (self.new.ms ≡ risen self.old.ms (time_in line.now)) }
-        ensures raised { OnOk result (self.new.raised
-            ≡ more_if (is_less (time_in line.now) (Some self.old.ms)) self.old.raised) }
+    /// Writes a line of this stamp. Its time is raised if it would fall, and it is rewritten if a rule says so.
+    pub fn write(&mut self, line: &[u8], stamp: &Option<Stamp<'_>>) -> Result<(), NoMemory>
+        requires is { option_map stamp_seen stamp.now ≡ stamp_of line.now }
+        requires timed { IfSome stamp.now (λ s. time_of s.time.now ≡ Some s.ms) }
+        ensures { OnOk result (Writes self.old self.new line.now) }
     {
-        match read_stamp(line) {
-            None => Ok(()),
-            Some(stamp) => self.rise_to(stamp.time, stamp.ms),
+        let change = self.ask(line, stamp)?;
+        self.put(line, stamp, change)
+    }
+
+    // How a line of this stamp is rewritten.
+    fn ask(&mut self, line: &[u8], stamp: &Option<Stamp<'_>>) -> Result<Option<Rewrite>, NoMemory>
+        requires is { option_map stamp_seen stamp.now ≡ stamp_of line.now }
+        ensures { IfOk result (Asks self.old self.new line.now) }
+    {
+        let found = self.rules.see_read(line, stamp)?;
+        let alone = alone(self.alloc, self.switches, stamp)?;
+        Ok(or_else(alone, found))
+    }
+
+    // Writes a line of this stamp with this rewrite.
+    fn put(
+        &mut self,
+        line: &[u8],
+        stamp: &Option<Stamp<'_>>,
+        change: Option<Rewrite>,
+    ) -> Result<(), NoMemory>
+        requires { IfSome stamp.now (λ s. time_of s.time.now ≡ Some s.ms) }
+        ensures { OnOk result (self.new
+            ≡ wrote self.old line.now (option_map stamp_seen stamp.now) change) }
+    {
+        match stamp {
+            None => self.put_plain(line),
+            Some(stamp) => self.put_stamped(line, stamp, change),
         }
     }
 
-    // A line of this time was written.
-    fn rise_to(&mut self, time: &[u8], ms: u64) -> Result<(), NoMemory>
-        requires { time_of time.now ≡ Some ms }
-        ensures same { self.new ≡ record self.old { ms = self.new.ms; raised = self.new.raised } }
-        ensures ms { OnOk result (self.new.ms ≡ max self.old.ms ms) }
-        ensures raised { OnOk result (self.new.raised
-            ≡ more_if (nat_lt ms self.old.ms) self.old.raised) }
+    // Writes a line without a stamp.
+    fn put_plain(&mut self, line: &[u8]) -> Result<(), NoMemory>
+        ensures { OnOk result ((change : Option Rewrite)
+            → self.new ≡ wrote self.old line.now None change) }
     {
-        if ms < self.ms {
+        self.pending.append(line)?;
+        self.pending.append(b"\n")
+    }
+
+    // Writes a line of this stamp with this rewrite.
+    fn put_stamped(
+        &mut self,
+        line: &[u8],
+        stamp: &Stamp<'_>,
+        change: Option<Rewrite>,
+    ) -> Result<(), NoMemory>
+        requires { time_of stamp.now.time.now ≡ Some stamp.now.ms }
+        ensures { OnOk result (self.new
+            ≡ wrote self.old line.now (Some (stamp_seen stamp.now)) change) }
+    {
+        let time = self.time.as_slice();
+        let rewritten = write_stamped(&mut self.pending, time, self.ms, line, stamp, change)?;
+        self.pending.append(b"\n")?;
+        count_if(&mut self.rewritten, rewritten)?;
+        self.rise(stamp)
+    }
+
+    // A line of this stamp was written: its time is the greatest if it is greater, and is counted as raised if it was less.
+    fn rise(&mut self, stamp: &Stamp<'_>) -> Result<(), NoMemory>
+        requires { time_of stamp.now.time.now ≡ Some stamp.now.ms }
+        ensures { OnOk result (self.new ≡ record self.old {
+          latest = later_of self.old.latest (Some (stamp_seen stamp.now));
+          raised = more_if (nat_lt stamp.now.ms self.old.latest.ms) self.old.raised;
+        }) }
+    {
+        if stamp.ms < self.ms {
             return count_one(&mut self.raised);
         }
-        if ms == self.ms {
+        if stamp.ms == self.ms {
             return Ok(());
         }
-        self.set_time(time, ms)
+        self.set_time(stamp.time, stamp.ms)
     }
 
     // This time is the greatest.
     fn set_time(&mut self, time: &[u8], ms: u64) -> Result<(), NoMemory>
         requires { time_of time.now ≡ Some ms }
-        ensures same { self.new ≡ record self.old { ms = self.new.ms } }
-        ensures ms { OnOk result (self.new.ms ≡ ms) }
+        ensures { OnOk result (self.new
+            ≡ record self.old { latest = record { time = time.now; ms = ms } }) }
     {
         let time = Bytes::from_slice(self.alloc, time)?;
         self.time = time;
@@ -160,6 +217,41 @@ impl Writer {
     {
         hand_on(&mut self.pending, sink)
     }
+}
+
+// How a line of this stamp is rewritten by what it says alone.
+fn alone(
+    alloc: Global,
+    switches: Switches,
+    stamp: &Option<Stamp<'_>>,
+) -> Result<Option<Rewrite>, NoMemory>
+    ensures { IfOk result (λ change. change
+        ≡ change_alone switches (option_map stamp_seen stamp.now)) }
+{
+    match stamp {
+        None => Ok(None),
+        Some(stamp) => rewrite_of(alloc, switches.alone(), stamp),
+    }
+}
+
+// The second, if there is no first.
+fn or_else(first: Option<Rewrite>, second: Option<Rewrite>) -> Option<Rewrite>
+    ensures { result ≡ or_else first second }
+{
+    match first {
+        None => second,
+        Some(first) => Some(first),
+    }
+}
+
+// One more, if that is so.
+fn count_if(count: &mut u64, more: bool) -> Result<(), NoMemory>
+    ensures { OnOk result (count.new ≡ more_if more count.old) }
+{
+    if more {
+        return count_one(count);
+    }
+    Ok(())
 }
 
 /// Hands on bytes that wait to be written.

@@ -1,5 +1,5 @@
 -- What a line says of its call and of descriptors.
-use Rattle.std.specs.Prelude.{◌≡◌, ℕ, ◌==◌, ◌&&◌, ◌||◌, Bool, false, List, [], ◌∷◌, Option, None, Some, option_map, nat_eq, codes, if◌then◌else◌}
+use Rattle.std.specs.Prelude.{◌≡◌, ℕ, ◌/◌, ◌%◌, ◌==◌, ◌&&◌, ◌||◌, Bool, false, List, [], ◌∷◌, Option, None, Some, option_map, nat_eq, codes, if◌then◌else◌}
 use Rattle.std.specs.List.{list_any, starts_with}
 use Rattle.std.specs.Option.{option_and_then}
 use Rattle.std.specs.Str.{bytes_eq}
@@ -71,9 +71,22 @@ copies number command = list_any (nat_eq number) (32 ∷ 33 ∷ 292 ∷ []) || (
 abbrev pub opens_socket : ℕ → Bool
 opens_socket number = list_any (nat_eq number) (41 ∷ 43 ∷ 288 ∷ [])
 
--- clone, fork, vfork, clone3
+-- whether flags lack the bit of this weight
+abbrev pub lacks : ℕ → ℕ → Bool
+lacks weight flags = (flags / weight) % 2 == 0
+
+-- whether a clone of these flags makes a process with descriptors of its own: neither CLONE_FILES nor CLONE_THREAD
+abbrev pub is_apart : Option ℕ → Bool
+is_apart None = false
+is_apart (Some flags) = lacks 1024 flags && lacks 65536 flags
+
+-- fork, vfork, and such a clone
+abbrev pub forks : ℕ → Option ℕ → Bool
+forks number flags = list_any (nat_eq number) (57 ∷ 58 ∷ []) || (number == 56 && is_apart flags)
+
+-- clone and clone3, whose flags aren't in its record
 abbrev pub begins : ℕ → Bool
-begins number = list_any (nat_eq number) (56 ∷ 57 ∷ 58 ∷ 435 ∷ [])
+begins number = list_any (nat_eq number) (56 ∷ 435 ∷ [])
 
 -- execve, execveat
 abbrev pub runs : ℕ → Bool
@@ -84,13 +97,14 @@ abbrev pub copies_from : ℕ → Option ℕ → Option ℕ → Option Deed
 copies_from pid (Some from) (Some to) = Some (deed.Copies pid from to)
 copies_from pid _ _ = None
 
--- what a call did that has succeeded, by its number, its process, its answer and its arguments
-abbrev pub deed_with : ℕ → ℕ → Option ℕ → Option ℕ → Option ℕ → Option Deed
-deed_with number pid answer first second =
+-- what a call did that has succeeded, by its number, its process and that one's parent, its answer and its arguments
+abbrev pub deed_with : ℕ → ℕ → Option ℕ → Option ℕ → Option ℕ → Option ℕ → Option Deed
+deed_with number pid parent answer first second =
     if opens number then option_map (deed.Opens pid) answer
     else if closes number then option_map (deed.Closes pid) first
     else if copies number second then copies_from pid first answer
     else if opens_socket number then option_map (deed.Closes pid) answer
+    else if forks number first then option_map (deed.Forks pid parent) answer
     else if begins number then option_map deed.Begins answer
     else if runs number then Some (deed.Runs pid) else None
 
@@ -100,7 +114,7 @@ deed_from line (Some pid) (Some number) =
     if is_native line then
     if number == 231 then Some (deed.Begins pid)
     else if is_done line then
-    deed_with number pid (number_in line (codes "exit")) (hex_in line (codes "a0")) (hex_in line (codes "a1"))
+    deed_with number pid (number_in line (codes "ppid")) (number_in line (codes "exit")) (hex_in line (codes "a0")) (hex_in line (codes "a1"))
     else None
     else None
 deed_from line _ _ = None
@@ -133,32 +147,36 @@ deed_of_class line _ = None
 abbrev pub deed_of : List ℕ → Option Deed
 deed_of line = deed_of_class line (class_of 65536 line)
 
+-- whether a descriptor of a process of a parent is known to be a regular file
+abbrev pub Files : Type 0
+Files = ℕ → Option ℕ → ℕ → Bool
+
 -- what a call takes that may wait, from this descriptor: from a regular file it takes what stands there
-abbrev pub takes_from : (ℕ → ℕ → Bool) → ℕ → Option ℕ → Takes
-takes_from files pid None = takes.Awaited
-takes_from files pid (Some fd) = if files pid fd then takes.File else takes.Awaited
+abbrev pub takes_from : Files → ℕ → Option ℕ → Option ℕ → Takes
+takes_from files pid parent None = takes.Awaited
+takes_from files pid parent (Some fd) = if files pid parent fd then takes.File else takes.Awaited
 
 -- the call of a call's record, whose process and number are there
-abbrev pub call_from : (ℕ → ℕ → Bool) → List ℕ → Option ℕ → Option ℕ → Option Call
+abbrev pub call_from : Files → List ℕ → Option ℕ → Option ℕ → Option Call
 call_from files line (Some pid) (Some number) =
     if is_native line && list_any (nat_eq number) waiting
-    then Some (record { pid = pid; takes = takes_from files pid (hex_in line (codes "a0")) })
+    then Some (record { pid = pid; takes = takes_from files pid (number_in line (codes "ppid")) (hex_in line (codes "a0")) })
     else Some (record { pid = pid; takes = takes.Nothing })
 call_from files line _ _ = None
 
-abbrev pub call_in : (ℕ → ℕ → Bool) → List ℕ → Option Call
+abbrev pub call_in : Files → List ℕ → Option Call
 call_in files line = call_from files line (number_in line (codes "pid")) (number_in line (codes "syscall"))
 
-abbrev pub call_of_kind : (ℕ → ℕ → Bool) → List ℕ → Kind → Option Call
+abbrev pub call_of_kind : Files → List ℕ → Kind → Option Call
 call_of_kind files line kind.Syscall = call_in files line
 call_of_kind files line _ = None
 
-abbrev pub call_of_class : (ℕ → ℕ → Bool) → List ℕ → Class → Option Call
+abbrev pub call_of_class : Files → List ℕ → Class → Option Call
 call_of_class files line (Used key kind) = call_of_kind files line kind
 call_of_class files line _ = None
 
 -- the call that a line is the record of, if it has at most 65,536 bytes, if these descriptors are known to be regular files
-abbrev pub call_of : (ℕ → ℕ → Bool) → List ℕ → Option Call
+abbrev pub call_of : Files → List ℕ → Option Call
 call_of files line = call_of_class files line (class_of 65536 line)
 
 -- what a line of an event says, before what was said so far

@@ -1,10 +1,11 @@
 //! Which descriptors are known to be regular files, by what lines said.
-ghost use Rattle.std.specs.Prelude.{◌≡◌, ℕ, List, [], ◌∷◌, false, IfOk, OnOk, if◌then◌else◌};
-ghost use Rattle.order_calls.specs.Deeds.{Event, Said, is_same, is_at};
-ghost use Rattle.order_calls.specs.Known.{nothing, fds_at, is_file_at, opened_at, Keeps, Becomes, Hears, StandsFor};
+ghost use Rattle.std.specs.Prelude.{◌≡◌, ℕ, List, [], ◌∷◌, None, Some, false, IfOk, OnOk, if◌then◌else◌};
+ghost use Rattle.std.specs.Map.{lookup};
+ghost use Rattle.order_calls.specs.Deeds.{Event, Said, is_same, is_at, told, copy_of, given};
+ghost use Rattle.order_calls.specs.Known.{nothing, fds_at, held_at, is_file_at, opened_at, Keeps, Becomes, Hears, StandsFor};
 
 use crate::deed::Deed;
-use crate::held::Held;
+use crate::held::{Held, Thing};
 use flow_base::NoMemory;
 use std::alloc::Global;
 use std::collections::BTreeMap;
@@ -48,13 +49,23 @@ impl Files {
         self.opens.clear();
     }
 
-    /// Whether a descriptor of a process is known to be a regular file.
-    pub fn is_file(&self, pid: u32, fd: u32) -> bool
-        ensures { result ≡ is_file_at self.now pid fd }
+    /// Whether a descriptor of a process of this parent is known to be a regular file.
+    pub fn is_file(&self, pid: u32, parent: Option<u32>, fd: u32) -> bool
+        ensures { result ≡ is_file_at self.now pid parent fd }
+    {
+        match self.get(pid, fd) {
+            Some(thing) => thing.is_regular(parent),
+            None => false,
+        }
+    }
+
+    // What was last said of a descriptor of a process.
+    fn get(&self, pid: u32, fd: u32) -> Option<Thing>
+        ensures { result ≡ held_at self.now pid fd }
     {
         match self.held.get(&pid) {
-            Some(held) => held.has(fd),
-            None => false,
+            Some(held) => held.get(fd),
+            None => None,
         }
     }
 
@@ -76,9 +87,10 @@ impl Files {
             Deed::Names { file } => self.name(ms, serial, file),
             Deed::Ends => self.end(ms, serial),
             Deed::Closes { pid, fd } => self.close(pid, fd),
-            Deed::Copies { pid, from, to } => self.copy(pid, from, to),
+            Deed::Copies { pid, from, to } => self.copy(ms, pid, from, to),
             Deed::Runs { pid } => self.run(pid),
             Deed::Begins { pid } => self.begin(pid),
+            Deed::Forks { pid, parent, child } => self.fork(ms, pid, parent, child),
         }
     }
 
@@ -86,7 +98,7 @@ impl Files {
     fn open(&mut self, ms: u64, serial: u32, pid: u32, fd: u32) -> Result<(), NoMemory>
         ensures { OnOk result (Hears self.old self.new (ms, serial) (Deed.Opens pid fd)) }
     {
-        self.set(pid, fd, false)?;
+        self.set(pid, fd, Thing::Other)?;
         self.opens.insert((ms, serial), (pid, fd))?;
         Ok(())
     }
@@ -97,7 +109,7 @@ impl Files {
     {
         match self.opens.remove(&(ms, serial)) {
             None => Ok(()),
-            Some((pid, fd)) => self.set(pid, fd, file),
+            Some((pid, fd)) => self.set(pid, fd, told(ms, file)),
         }
     }
 
@@ -114,16 +126,16 @@ impl Files {
         ensures { OnOk result ((event : Event) →
             Hears self.old self.new event (Deed.Closes pid fd)) }
     {
-        self.set(pid, fd, false)
+        self.set(pid, fd, Thing::Other)
     }
 
     // A process copied a descriptor.
-    fn copy(&mut self, pid: u32, from: u32, to: u32) -> Result<(), NoMemory>
-        ensures { OnOk result ((event : Event) →
-            Hears self.old self.new event (Deed.Copies pid from to)) }
+    fn copy(&mut self, ms: u64, pid: u32, from: u32, to: u32) -> Result<(), NoMemory>
+        ensures { OnOk result ((serial : ℕ) →
+            Hears self.old self.new (ms, serial) (Deed.Copies pid from to)) }
     {
-        let file = self.is_file(pid, from);
-        self.set(pid, to, file)
+        let thing = copy_of(ms, self.get(pid, from));
+        self.set(pid, to, thing)
     }
 
     // A process runs another program.
@@ -131,12 +143,12 @@ impl Files {
         ensures { OnOk result ((event : Event) →
             Hears self.old self.new event (Deed.Runs pid)) }
     {
-        let held = self.take(pid);
-        let kept = held.after_exec()?;
-        self.keep(pid, kept)
+        let mut held = self.take(pid);
+        held.run()?;
+        self.keep(pid, held)
     }
 
-    // A process begins or has ended.
+    // A process begins with nothing that is known, or has ended.
     fn begin(&mut self, pid: u32) -> Result<(), NoMemory>
         ensures { OnOk result ((event : Event) →
             Hears self.old self.new event (Deed.Begins pid)) }
@@ -145,13 +157,35 @@ impl Files {
         Ok(())
     }
 
-    // A descriptor is a regular file from now on, or isn't.
-    fn set(&mut self, pid: u32, fd: u32, file: bool) -> Result<(), NoMemory>
+    // A process began a child.
+    fn fork(&mut self, ms: u64, pid: u32, parent: Option<u32>, child: u32) -> Result<(), NoMemory>
+        ensures { OnOk result ((serial : ℕ) →
+            Hears self.old self.new (ms, serial) (Deed.Forks pid parent child)) }
+    {
+        let gift = self.gift(ms, pid, parent)?;
+        let mut held = self.take(child);
+        held.begin(ms, gift)?;
+        self.keep(child, held)
+    }
+
+    // What a child inherits from a process of this parent.
+    fn gift(&self, ms: u64, pid: u32, parent: Option<u32>) -> Result<Held, NoMemory>
+        ensures { IfOk result (λ made. (n : ℕ) → lookup (is_same n) made.said
+            ≡ given ms pid parent (held_at self.now pid n)) }
+    {
+        match self.held.get(&pid) {
+            Some(held) => held.gift(ms, pid, parent),
+            None => Ok(Held::new(self.alloc)),
+        }
+    }
+
+    // A descriptor holds this from now on.
+    fn set(&mut self, pid: u32, fd: u32, thing: Thing) -> Result<(), NoMemory>
         ensures { OnOk result (Becomes self.old self.new (λ p n.
-            if is_at pid fd p n then file else is_file_at self.old p n)) }
+            if is_at pid fd p n then Some thing else held_at self.old p n)) }
     {
         let mut held = self.take(pid);
-        held.set(fd, file)?;
+        held.set(fd, thing)?;
         self.keep(pid, held)
     }
 
@@ -173,5 +207,29 @@ impl Files {
     {
         self.held.insert(pid, held)?;
         Ok(())
+    }
+}
+
+// What an event says that a call opened.
+fn told(ms: u64, file: bool) -> Thing
+    ensures { result ≡ told ms file }
+{
+    if file {
+        Thing::File {
+            since: ms,
+            from: None,
+        }
+    } else {
+        Thing::Other
+    }
+}
+
+// What a copy holds that is made at this time.
+fn copy_of(ms: u64, thing: Option<Thing>) -> Thing
+    ensures { result ≡ copy_of ms thing }
+{
+    match thing {
+        Some(Thing::File { since: _, from }) => Thing::File { since: ms, from },
+        _ => Thing::Other,
     }
 }

@@ -2,7 +2,7 @@
 //!
 //! A read of a pipe, a socket or a terminal waits until there is something to read, one of a regular file doesn't. Which
 //! descriptor is a regular file is known by the lines before: by the opens of its process, whose PATH records have the
-//! file's mode, and by what the process did to the descriptor since.
+//! file's mode, and by what the process did to the descriptor since. A child inherits what its parent is known to hold.
 #![tactic(auto)]
 
 mod call;

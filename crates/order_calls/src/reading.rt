@@ -1,10 +1,10 @@
 //! What a line says: its call, and what it does to descriptors.
-ghost use Rattle.std.specs.Prelude.{◌≡◌, ◌++◌, List, IfOk, OnOk, nat_eq};
+ghost use Rattle.std.specs.Prelude.{◌≡◌, ◌<◌, ◌++◌, List, IfOk, OnOk, nat_eq};
 ghost use Rattle.std.specs.List.{list_any};
 ghost use Rattle.audit_lex.specs.FieldTable.{name_of};
 ghost use Rattle.order_calls.specs.Deeds.{Said};
 ghost use Rattle.order_calls.specs.Known.{is_file_at, StandsFor};
-ghost use Rattle.order_calls.specs.Lines.{text_in, number_in, hex_in, is_native, is_done, opens, closes, copies, copies_from, opens_socket, begins, runs, waiting, deed_with, deed_in, deed_of_path, deed_of_kind, call_in, call_of_kind, takes_from, HearsKind, HearsLine, saying, deed_of};
+ghost use Rattle.order_calls.specs.Lines.{text_in, number_in, hex_in, is_native, is_done, opens, closes, copies, copies_from, opens_socket, lacks, is_apart, forks, begins, runs, waiting, deed_with, deed_in, deed_of_path, deed_of_kind, call_in, call_of_kind, takes_from, HearsKind, HearsLine, saying, deed_of};
 
 use crate::call::{Call, Takes};
 use crate::deed::Deed;
@@ -77,18 +77,23 @@ fn call_in(files: &Files, used: &UsedLine<'_>) -> Option<Call>
     }
     Some(Call {
         pid,
-        takes: takes_from(files, pid, hex_in(used, Field::A0)),
+        takes: takes_from(
+            files,
+            pid,
+            number_in(used, Field::Ppid),
+            hex_in(used, Field::A0),
+        ),
     })
 }
 
 // What a call takes that may wait, from this descriptor.
-fn takes_from(files: &Files, pid: u32, fd: Option<u32>) -> Takes
-    ensures { result ≡ takes_from (is_file_at files.now) pid fd }
+fn takes_from(files: &Files, pid: u32, parent: Option<u32>, fd: Option<u32>) -> Takes
+    ensures { result ≡ takes_from (is_file_at files.now) pid parent fd }
 {
     match fd {
         None => Takes::Awaited,
         Some(fd) => {
-            if files.is_file(pid, fd) {
+            if files.is_file(pid, parent, fd) {
                 Takes::File
             } else {
                 Takes::Awaited
@@ -141,21 +146,23 @@ fn deed_in(used: &UsedLine<'_>) -> Option<Deed>
     deed_with(
         number,
         pid,
+        number_in(used, Field::Ppid),
         number_in(used, Field::Exit),
         hex_in(used, Field::A0),
         hex_in(used, Field::A1),
     )
 }
 
-// What a call did that has succeeded, by its number, its process, its answer and its arguments.
+// What a call did that has succeeded, by its number, its process and that one's parent, its answer and its arguments.
 fn deed_with(
     number: u32,
     pid: u32,
+    parent: Option<u32>,
     answer: Option<u32>,
     first: Option<u32>,
     second: Option<u32>,
 ) -> Option<Deed>
-    ensures { result ≡ deed_with number pid answer first second }
+    ensures { result ≡ deed_with number pid parent answer first second }
 {
     if opens(number) {
         return Some(Deed::Opens { pid, fd: answer? });
@@ -168,6 +175,13 @@ fn deed_with(
     }
     if opens_socket(number) {
         return Some(Deed::Closes { pid, fd: answer? });
+    }
+    if forks(number, first) {
+        return Some(Deed::Forks {
+            pid,
+            parent,
+            child: answer?,
+        });
     }
     if begins(number) {
         return Some(Deed::Begins { pid: answer? });
@@ -217,11 +231,36 @@ fn opens_socket(number: u32) -> bool
     matches!(number, 41 | 43 | 288)
 }
 
-// clone, fork, vfork, clone3
+// fork, vfork, and a clone that shares nothing
+fn forks(number: u32, flags: Option<u32>) -> bool
+    ensures { result ≡ forks number flags }
+{
+    matches!(number, 57 | 58) || number == 56 && is_apart(flags)
+}
+
+// Whether a clone of these flags makes a process with descriptors of its own: neither CLONE_FILES nor CLONE_THREAD.
+fn is_apart(flags: Option<u32>) -> bool
+    ensures { result ≡ is_apart flags }
+{
+    match flags {
+        None => false,
+        Some(flags) => lacks(1024, flags) && lacks(65_536, flags),
+    }
+}
+
+// Whether flags lack the bit of this weight.
+fn lacks(weight: u32, flags: u32) -> bool
+    requires { 0 < weight }
+    ensures { result ≡ lacks weight flags }
+{
+    flags / weight % 2 == 0
+}
+
+// clone and clone3, whose flags aren't in its record
 fn begins(number: u32) -> bool
     ensures { result ≡ begins number }
 {
-    matches!(number, 56 | 57 | 58 | 435)
+    matches!(number, 56 | 435)
 }
 
 // execve, execveat

@@ -7,9 +7,9 @@ use Rattle.order_calls.specs.declared.call.Call.{Call}
 use Rattle.order_calls.specs.declared.call.Takes.{Takes}
 use Rattle.order_calls.specs.declared.call.Takes.TheVariants as takes
 use Rattle.order_calls.specs.declared.deed.Deed.{Deed}
-use Rattle.order_calls.specs.Deeds.{Said}
+use Rattle.order_calls.specs.Deeds.{Said, is_regular}
 use Rattle.order_calls.specs.Known.{Known, StandsFor as Stands}
-use Rattle.order_calls.specs.Lines.{saying, deed_of, call_of, HearsIt}
+use Rattle.order_calls.specs.Lines.{Files, saying, deed_of, call_of, HearsIt}
 use Rattle.order_calls.proofs.FileLemmas.{heard}
 use Rattle.order_place.specs.declared.clock.Clock.{Clock}
 use Rattle.order_place.specs.Clocks.{others_at, time_after, clock_after}
@@ -84,7 +84,7 @@ entry_by false ms time now before here there at = there at
 
 -- the call of a line is by what was seen before it
 pub call_same : (old : Seen) (line : List ℕ) (sights : List Sight) → StandsFor old sights → call_by old line ≡ call_after sights line
-call_same old line sights stands = ap (λ (files : ℕ → ℕ → Bool). call_of files line) (λ i p n. stands.files.files p n i)
+call_same old line sights stands = ap (λ (files : Files). call_of files line) (λ i p parent n. is_regular parent (stands.files.held p n i))
 
 hears_on : (old new : Known) (event : ℕ × ℕ) (said : Option Deed) (before : List Said) → HearsIt old new event said → Stands old before
     → Stands new (saying event said ++ before)

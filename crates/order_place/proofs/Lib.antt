@@ -1,3 +1,4 @@
 pub mod PlaceLemmas
 pub mod ClockLemmas
+pub mod KeptLemmas
 pub mod NodeLemmas

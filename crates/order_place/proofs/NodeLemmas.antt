@@ -11,7 +11,7 @@ use Rattle.std.proofs.lemmas.Bool.Decides.{nat_tests}
 use Rattle.order_text.specs.Stamp.{Stamp}
 use Rattle.order_place.specs.declared.places.Place.{Place}
 use Rattle.order_place.specs.Clocks.{others_at}
-use Rattle.order_place.specs.Places.{Seen, SeesNext, Forgets, node_of, is_boot}
+use Rattle.order_place.specs.Places.{Seen, SeesNext, Forgets, node_of, is_boot, read_as}
 use Rattle.order_place.specs.Sights.{Sight, Saw, Wrote, Started, StandsFor}
 use Rattle.order_place.specs.Nodes.{AllSeen, is_node, none, fresh, booted, begun, node_at, Keeps, SeesOf, ForgetsOf, sights_of, seen_by, StandsForAll}
 use Rattle.order_place.proofs.ClockLemmas.{by_test, sees_on}
@@ -28,6 +28,7 @@ pub kept : (old inside : AllSeen) (nodes2 : List (List ℕ × Seen)) (name : Lis
     → ((other : List ℕ) → is_node name other ≡ false → lookup (is_node other) nodes2 ≡ lookup (is_node other) inside.nodes)
     → Keeps old (record inside { nodes = nodes2 }) name node
 kept old inside nodes2 name node same put moved = record {
+  compat = ap (λ (a : AllSeen). a.compat) same;
   clock = ap (λ (a : AllSeen). a.clock) same;
   last = ap (λ (a : AllSeen). a.last) same;
   here = ap (λ (o : Option Seen). unwrap_or o fresh) put;
@@ -39,7 +40,7 @@ equal Less e = absurd (cc e)
 equal Equal e = refl
 equal Greater e = absurd (cc e)
 
-one_node : (a b : List ℕ) → is_node a b ≡ true → a ≡ b
+pub one_node : (a b : List ℕ) → is_node a b ≡ true → a ≡ b
 one_node a b e = exact_bytes a b (equal (slice_cmp nat_cmp a b) e)
 
 others_none : (serial : ℕ) → others_at none serial ≡ 0
@@ -52,7 +53,7 @@ starts true seen sights e stands = record {
   second = omega arith;
   calls = λ pid. refl;
   events = stands.events;
-  files = record { opens = λ event. refl; files = λ p n. refl };
+  files = record { opens = λ event. refl; held = λ p n. refl };
   entry = stands.entry;
 }
 starts false seen sights e stands = absurd (cc e)
@@ -80,14 +81,17 @@ sees_apart true sight of name sights isnt = apart of name sight ((of, Started) �
 sees_apart false sight of name sights isnt = apart of name sight sights isnt
 
 pub sees_on_all : (old new : AllSeen) (s : Stamp) (line : List ℕ) (p : Place) (sights : List (List ℕ × Sight))
-    → StandsForAll old sights → SeesOf old new s line p → StandsForAll new (seen_by (is_boot s.front) (node_of s.front) (Saw s line p.time) ++ sights)
-sees_on_all old new s line p sights stands sees = record {
-  each = λ name. by_test (is_node (node_of s.front) name)
-      (λ same. subst (λ (n : List ℕ). StandsFor (node_at new n) (sights_of name (seen_by (is_boot s.front) (node_of s.front) (Saw s line p.time) ++ sights))) (one_node _ _ same)
-      (sees_own (is_boot s.front) (node_at old (node_of s.front)) (node_at new (node_of s.front)) s line p.time (node_of s.front) name sights same
-      (subst (λ (n : List ℕ). StandsFor (node_at old n) (sights_of name sights)) (sym (one_node _ _ same)) (stands.each name)) sees.sees))
-      (λ isnt. rw (sees.others name isnt, sees_apart (is_boot s.front) (Saw s line p.time) (node_of s.front) name sights isnt) (stands.each name));
-}
+    → StandsForAll old sights → SeesOf old new s line p
+    → StandsForAll new (seen_by (is_boot s.front) (node_of s.front) (Saw s (read_as old.compat s line) p.time) ++ sights)
+sees_on_all old new s line p sights stands sees =
+    let read : List ℕ = read_as old.compat s line in
+    record {
+      each = λ name. by_test (is_node (node_of s.front) name)
+          (λ same. subst (λ (n : List ℕ). StandsFor (node_at new n) (sights_of name (seen_by (is_boot s.front) (node_of s.front) (Saw s read p.time) ++ sights))) (one_node _ _ same)
+          (sees_own (is_boot s.front) (node_at old (node_of s.front)) (node_at new (node_of s.front)) s read p.time (node_of s.front) name sights same
+          (subst (λ (n : List ℕ). StandsFor (node_at old n) (sights_of name sights)) (sym (one_node _ _ same)) (stands.each name)) sees.sees))
+          (λ isnt. rw (sees.others name isnt, sees_apart (is_boot s.front) (Saw s read p.time) (node_of s.front) name sights isnt) (stands.each name));
+    }
 
 writes_one : (old new : Seen) (event : ℕ × ℕ) (sights : List Sight) → StandsFor old sights → Forgets old new event → StandsFor new (Wrote event ∷ sights)
 writes_one old new event sights stands forgets = search rules

@@ -4,7 +4,7 @@ use Rattle.order_text.specs.Stamp.{Stamp}
 use Rattle.order_calls.specs.declared.call.Call.{Call}
 use Rattle.order_calls.specs.declared.call.Takes.TheVariants as takes
 use Rattle.order_place.specs.declared.places.Place.{Place}
-use Rattle.order_place.specs.Places.{Seen, SeesNext, not_before, node_of, is_boot}
+use Rattle.order_place.specs.Places.{Seen, SeesNext, not_before, node_of, is_boot, read_as}
 use Rattle.order_place.specs.Nodes.{AllSeen, SeesOf, ForgetsOf, seen_by, StandsForAll}
 use Rattle.order_place.specs.Sights.{Sight, Saw, Wrote, StandsFor, others_in, event_in, call_in, call_after}
 
@@ -13,7 +13,7 @@ abbrev pub SeesOn : Type 0
 SeesOn =
     (old new : AllSeen) (s : Stamp) (line : List ℕ) (p : Place) (sights : List (List ℕ × Sight))
     → StandsForAll old sights → SeesOf old new s line p
-    → StandsForAll new (seen_by (is_boot s.front) (node_of s.front) (Saw s line p.time) ++ sights)
+    → StandsForAll new (seen_by (is_boot s.front) (node_of s.front) (Saw s (read_as old.compat s line) p.time) ++ sights)
 
 abbrev pub WritesOn : Type 0
 WritesOn =

@@ -7,11 +7,13 @@ use Rattle.order_text.specs.Stamp.{Stamp}
 use Rattle.order_calls.specs.Known.{nothing}
 use Rattle.order_place.specs.declared.clock.Clock.{Clock}
 use Rattle.order_place.specs.declared.places.Place.{Place}
-use Rattle.order_place.specs.Places.{Seen, SeesNext, Forgets, IsPlaceOf, node_of, is_boot}
+use Rattle.order_place.specs.Places.{Seen, SeesNext, Forgets, IsPlaceOf, node_of, is_boot, read_as}
 use Rattle.order_place.specs.Sights.{Sight, Started, StandsFor}
 
--- What was seen: the greatest time of a clock, the place of the last line, and what was seen of each node.
+-- What was seen: the greatest time of a clock, the place of the last line, and what was seen of each node; and whether 32-bit
+-- calls are read as they are rewritten.
 pub record AllSeen : Type 0 where
+  pub compat : Bool
   pub clock : ℕ
   pub last : Place
   pub nodes : List (List ℕ × Seen)
@@ -19,6 +21,11 @@ pub record AllSeen : Type 0 where
 -- one node
 abbrev pub is_node : List ℕ → List ℕ → Bool
 is_node a b = is_eq (slice_cmp nat_cmp a b)
+
+-- whether something is kept of this node
+abbrev pub is_of : {T : Type 0} → List ℕ → Option (List ℕ × T) → Bool
+is_of name None = false
+is_of name (Some kept) = is_node name kept.0
 
 -- nothing was seen
 abbrev pub none : Clock
@@ -40,6 +47,7 @@ node_at all name = unwrap_or (lookup (is_node name) all.nodes) fresh
 
 -- this was seen of a node, and of the others what was seen before
 pub record Keeps (old new : AllSeen) (name : List ℕ) (node : Seen) : Type 0 where
+  pub compat : new.compat ≡ old.compat
   pub clock : new.clock ≡ old.clock
   pub last : new.last ≡ old.last
   pub here : node_at new name ≡ node
@@ -52,9 +60,10 @@ HasPlace all (Some s) p = IsPlaceOf s p
 
 -- A line of a node was seen. If it says that the node was started, the processes and the clock from before are forgotten.
 pub record SeesOf (old new : AllSeen) (s : Stamp) (line : List ℕ) (p : Place) : Type 0 where
-  pub sees : SeesNext (begun (is_boot s.front) (node_at old (node_of s.front))) (node_at new (node_of s.front)) s line p.time
+  pub sees : SeesNext (begun (is_boot s.front) (node_at old (node_of s.front))) (node_at new (node_of s.front)) s (read_as old.compat s line) p.time
   pub others : (other : List ℕ) → is_node (node_of s.front) other ≡ false → node_at new other ≡ node_at old other
   pub clock : new.clock ≡ max old.clock (node_at new (node_of s.front)).clock.time
+  pub compat : new.compat ≡ old.compat
 
 -- a line without a stamp changes nothing
 abbrev pub SeesLine : AllSeen → AllSeen → Option Stamp → List ℕ → Place → Type 0
@@ -64,6 +73,7 @@ SeesLine old new (Some s) line p = SeesOf old new s line p
 -- an event of a node is held no longer
 pub record ForgetsOf (old new : AllSeen) (name : List ℕ) (event : ℕ × ℕ) : Type 0 where
   pub forgets : Forgets (node_at old name) (node_at new name) event
+  pub compat : new.compat ≡ old.compat
   pub others : (other : List ℕ) → is_node name other ≡ false → node_at new other ≡ node_at old other
 
 -- what was seen of one node, of what was seen of all, newest first

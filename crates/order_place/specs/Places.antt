@@ -1,11 +1,13 @@
 -- The places of lines.
-use Rattle.std.specs.Prelude.{◌≡◌, ◌+◌, ◌||◌, ℕ, List, [], Bool, Option, None, Some, max, min, nat_eq, codes, if◌then◌else◌}
+use Rattle.std.specs.Prelude.{◌≡◌, ◌+◌, ◌||◌, ◌++◌, ℕ, List, [], Bool, false, Option, None, Some, drop, max, min, nat_eq, codes, if◌then◌else◌}
 use Rattle.std.specs.List.{starts_with, ends_with}
 use Rattle.std.specs.Map.{lookup}
 use Rattle.std.specs.declared.cmp.Ordering.{Ordering}
 use Rattle.std.specs.Ordering.{nat_cmp, ordering_then, is_eq}
 use Rattle.order_text.specs.Cut.{first_cut}
-use Rattle.order_text.specs.Stamp.{Stamp}
+use Rattle.order_text.specs.Stamp.{Stamp, line_of}
+use Rattle.order_text.specs.declared.rewrite.Rewrite.{Rewrite}
+use Rattle.order_lines.specs.Rules.{change_of}
 use Rattle.order_calls.specs.declared.call.Call.{Call}
 use Rattle.order_calls.specs.declared.call.Takes.{Takes}
 use Rattle.order_calls.specs.declared.call.Takes.TheVariants as takes
@@ -125,6 +127,17 @@ pub record Sees (old new : Seen) (s : Stamp) (call : Option Call) (at : ℕ) : T
       ≡ calls_of old (event_at old (s.ms, s.number)) (s.ms, s.number) (clock_after old.clock s.ms s.number).time call pid
   pub events : (other : ℕ × ℕ) → event_at new other
       ≡ (if is_event (s.ms, s.number) other then Some (event_time old (s.ms, s.number) call) else event_at old other)
+
+-- ---- the line of a 32-bit call as it will be rewritten
+
+-- a line with another text at the beginning of what stands after its stamp
+abbrev pub read_with : Stamp → List ℕ → Option Rewrite → List ℕ
+read_with s line None = line
+read_with s line (Some r) = line_of (record s { rest = r.text ++ drop r.len s.rest })
+
+-- how a line is read: if 32-bit calls are rewritten, as the 64-bit call that the rule writes
+abbrev pub read_as : Bool → Stamp → List ℕ → List ℕ
+read_as compat s line = read_with s line (change_of (record { join = false; compat = compat }) s)
 
 -- the call of a line, by what was seen
 abbrev pub call_by : Seen → List ℕ → Option Call

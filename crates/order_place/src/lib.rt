@@ -10,6 +10,7 @@
 mod clock;
 mod laws;
 mod node;
+mod nodes;
 mod places;
 
 pub use clock::{Clock, WINDOW};
@@ -18,4 +19,5 @@ pub use laws::{
     lines_of_an_event_count_together, places_look_back, reads_of_files_do_not_wait,
     the_clock_is_shared,
 };
-pub use places::{Place, Places};
+pub use nodes::Nodes;
+pub use places::{Place, Places, is_boot, node_of};

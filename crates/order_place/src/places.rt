@@ -1,15 +1,16 @@
 //! Places, by what was seen before.
-ghost use Rattle.std.specs.Prelude.{◌≡◌, ℕ, List, [], Some, false, IfOk, OnOk};
+ghost use Rattle.std.specs.Prelude.{◌≡◌, ◌++◌, ℕ, List, [], Some, false, drop, IfOk, OnOk};
 ghost use Rattle.order_text.specs.Seen.{stamp_seen};
-ghost use Rattle.order_text.specs.Stamp.{stamp_of};
-ghost use Rattle.order_place.specs.Places.{rank_of, node_of, is_boot};
+ghost use Rattle.order_text.specs.Stamp.{stamp_of, line_of};
+ghost use Rattle.order_place.specs.Places.{rank_of, node_of, is_boot, read_as, SeesNext};
 ghost use Rattle.order_place.specs.Nodes.{is_node, node_at, begun, HasPlace, Keeps, SeesLine, ForgetsOf, StandsForAll};
 
 use crate::node::Node;
+use crate::nodes::Nodes;
 use flow_base::{Bytes, NoMemory};
-use order_text::{Stamp, at_first, read_stamp};
+use order_lines::{Settings, rewrite_of};
+use order_text::{Rewrite, Stamp, at_first, read_stamp};
 use std::alloc::Global;
-use std::collections::BTreeMap;
 use std::marker::Model;
 
 /// The place of a line: the time at which its event counts; the serial number, the time and the node of the event; 1 or 2
@@ -41,12 +42,14 @@ impl Place {
     }
 }
 
-/// What was seen: the greatest time of a clock, what was seen of each node, and the place of the last line.
+/// What was seen: the greatest time of a clock, what was seen of each node, and the place of the last line; and whether 32-bit
+/// calls are read as they are rewritten.
 #[derive(Drop)]
 pub struct Places {
     alloc: Global,
+    compat: bool,
     clock: u64,
-    nodes: BTreeMap<Bytes, Node>,
+    nodes: Nodes<Node>,
     last: Place,
 }
 
@@ -55,19 +58,26 @@ impl Model for Places {
 
     ghost Value = { AllSeen };
 
-    ghost view = { λ a. record { clock = a.clock; last = a.last; nodes = a.nodes.entries } };
+    ghost view = { λ a. record {
+      compat = a.compat;
+      clock = a.clock;
+      last = a.last;
+      nodes = a.nodes;
+    } };
 }
 
 impl Places {
-    /// Nothing was seen.
-    pub fn new(alloc: Global) -> Places
+    /// Nothing was seen. Calls of the 32-bit gate are read as they are rewritten, or as they are.
+    pub fn new(alloc: Global, compat: bool) -> Places
+        ensures compat { result.compat ≡ compat }
         ensures clock { result.clock ≡ 0 }
         ensures nothing { StandsForAll result [] }
     {
         Places {
             alloc,
+            compat,
             clock: 0,
-            nodes: BTreeMap::new(alloc),
+            nodes: Nodes::new(alloc),
             last: Place {
                 time: 0,
                 serial: 0,
@@ -110,7 +120,7 @@ impl Places {
         let mut node = self.take_node(&name);
         let starts = is_boot(stamp.front);
         start_if(&mut node, starts);
-        let time = node.see(line, stamp)?;
+        let time = see_as(&mut node, self.alloc, self.compat, line, stamp)?;
         self.clock = self.clock.max(node.clock());
         self.last = Place {
             time,
@@ -139,8 +149,9 @@ impl Places {
             → node_at self.new other ≡ node_at self.old other }
         ensures clock { self.new.clock ≡ self.old.clock }
         ensures last { self.new.last ≡ self.old.last }
+        ensures compat { self.new.compat ≡ self.old.compat }
     {
-        match self.nodes.remove(name) {
+        match self.nodes.take(name) {
             Some(node) => node,
             None => Node::new(self.alloc),
         }
@@ -150,8 +161,60 @@ impl Places {
     fn keep_node(&mut self, name: Bytes, node: Node) -> Result<(), NoMemory>
         ensures { OnOk result (Keeps self.old self.new name node) }
     {
-        self.nodes.insert(name, node)?;
+        self.nodes.keep(name, node)?;
         Ok(())
+    }
+}
+
+// The time at which the next line of a node counts, which is read as the rules on calls alone rewrite it.
+fn see_as(
+    node: &mut Node,
+    alloc: Global,
+    compat: bool,
+    line: &[u8],
+    stamp: &Stamp<'_>,
+) -> Result<u64, NoMemory>
+    ensures { IfOk result (λ time. SeesNext node.old node.new (stamp_seen stamp.now)
+        (read_as compat (stamp_seen stamp.now) line.now) time) }
+{
+    let settings = Settings {
+        join: false,
+        compat,
+    };
+    match rewrite_of(alloc, settings, stamp)? {
+        None => node.see(line, stamp),
+        Some(rewrite) => {
+            let read = rewritten(alloc, stamp, &rewrite)?;
+            node.see(read.as_slice(), stamp)
+        }
+    }
+}
+
+// The line of a stamp with a rewrite, and without a mark.
+fn rewritten(alloc: Global, stamp: &Stamp<'_>, rewrite: &Rewrite) -> Result<Bytes, NoMemory>
+    ensures { IfOk result (λ made. made
+        ≡ line_of (record (stamp_seen stamp.now) {
+          rest = rewrite.now.text ++ drop rewrite.now.len stamp.now.rest.now;
+        })) }
+{
+    let mut line = Bytes::from_slice(alloc, stamp.front)?;
+    line.append(b"(")?;
+    line.append(stamp.time)?;
+    line.append(b":")?;
+    line.append(stamp.serial)?;
+    line.append(b")")?;
+    line.append(rewrite.text.as_slice())?;
+    line.append(after(rewrite.len, stamp.rest))?;
+    Ok(line)
+}
+
+// What stands after this many bytes.
+fn after(len: usize, text: &[u8]) -> &[u8]
+    ensures { result.now ≡ drop len text.now }
+{
+    match text.get(len..) {
+        Some(rest) => rest,
+        None => b"".as_slice(),
     }
 }
 
@@ -164,8 +227,8 @@ fn start_if(node: &mut Node, boots: bool)
     }
 }
 
-// The name of the node that a line is of, as the line has it; none for the node that wrote the log.
-fn node_of(front: &[u8]) -> &[u8]
+/// The name of the node that a line is of, by what stands before its stamp; none for the node that wrote the log.
+pub fn node_of(front: &[u8]) -> &[u8]
     ensures { result.now ≡ node_of front.now }
 {
     if !front.starts_with(b"node=") {
@@ -177,8 +240,8 @@ fn node_of(front: &[u8]) -> &[u8]
     }
 }
 
-// Whether a line says that its node or the node's audit daemon was started.
-fn is_boot(front: &[u8]) -> bool
+/// Whether a line says that its node or the node's audit daemon was started, by what stands before its stamp.
+pub fn is_boot(front: &[u8]) -> bool
     ensures { result ≡ is_boot front.now }
 {
     front.ends_with(b"type=SYSTEM_BOOT msg=audit")

@@ -1,3 +1,4 @@
 pub mod CutLemmas
+pub mod MarkLemmas
 pub mod UndoLemmas
 pub mod LineLemmas

@@ -1,16 +1,19 @@
--- A raised line bears its stamp, and is undone.
-use Rattle.std.proofs.Common.{◌≡◌, ◌<◌, ◌≤◌, ◌∙◌, sym, refl, ap, ℕ, Bool, true, false, List, [], ◌∷◌, ◌++◌, Option, None, Some, option_map, nat_lt, codes, arith, if◌then◌else◌, max}
+-- A written line bears its stamp, and is undone.
+use Rattle.std.proofs.Common.{◌≡◌, ◌<◌, ◌≤◌, ◌^◌, ◌==◌, ◌&&◌, ◌∙◌, sym, refl, ap, ℕ, Bool, true, false, List, [], ◌∷◌, ◌++◌, length, take, drop, Option, None, Some, option_map, nat_lt, nat_le, arith, if◌then◌else◌, max, not, take-append-drop, append_assoc}
 use Rattle.std.specs.Prelude.{is_some}
 use Rattle.std.specs.List.{list_all}
 use Rattle.std.specs.Option.{option_and_then}
-use Rattle.std.proofs.lemmas.Bool.{ltb-true, ltb-false}
+use Rattle.std.proofs.Math.Seq.{drop-append_seam}
+use Rattle.std.proofs.lemmas.Bool.{and_parts, ltb-true, ltb-false}
+use Rattle.std.proofs.lemmas.Bool.Decides.{nat_tests}
 use Rattle.std.proofs.lemmas.Option.{same_Some}
-use Rattle.audit_lex.specs.Values.{dec32_of}
 use Rattle.order_text.specs.Cut.{first_cut, last_cut}
-use Rattle.order_text.specs.Stamp.{Stamp, line_of, is_stamp_byte, ms_of, time_of, number_of, ends_as_header, stamp_from, stamp_after, stamp_timed, stamp_fronted, stamp_of}
-use Rattle.order_text.specs.Undo.{mark_of, kept_time, marked_by, last_mark, undone_by, undone_of, undone, raised, is_marked, written_by, written_of, written_after}
-use Rattle.order_text.specs.Laws.{time_in, number_in, front_in, StaysAfter}
-use Rattle.order_text.proofs.CutLemmas.{by_test, first_after, never_in, never_in_both, last_before, IsCut, is_cut}
+use Rattle.order_text.specs.Stamp.{Stamp, line_of, is_stamp_byte, time_of, number_of, ends_as_header, stamp_from, stamp_after, stamp_timed, stamp_fronted, stamp_of}
+use Rattle.order_text.specs.Undo.{Kept, mark_of, change_mark, last_mark, undone_by, undone_of, undone, raised, risen, is_marked, fits, fitting, changed, rewritten, written_by, written_of, written_after, keeps_part, keeps_part_of, is_rewritten, takes_rewrite}
+use Rattle.order_text.specs.Laws.{time_in, number_in, front_in, is_one_line, StaysAfter}
+use Rattle.order_text.specs.declared.rewrite.Rewrite.{Rewrite}
+use Rattle.order_text.proofs.CutLemmas.{by_test, first_after, never_in, IsCut, is_cut}
+use Rattle.order_text.proofs.MarkLemmas.{tested, time_bytes, number_bytes, marked_again, changed_again}
 
 -- the line has these parts, and they are read again with another time and another rest
 pub record HasParts (line : List ℕ) (s : Stamp) : Type 0 where
@@ -25,17 +28,6 @@ record BearsAfter (ms : ℕ) (s : Stamp) (line : List ℕ) : Type 0 where
   time : time_in line ≡ Some (max ms s.ms)
   number : number_in line ≡ Some s.number
   front : front_in line ≡ Some s.front
-
-tested : {A : Type 0} (b : Bool) (x : Option A) (y : A) → (if b then x else None) ≡ Some y → (b ≡ true) × (x ≡ Some y)
-tested true x y e = (refl, e)
-tested false x y e = absurd (cc e)
-
--- what spells a time or a number has only digits and dots
-pub time_bytes : (text : List ℕ) (ms : ℕ) → time_of text ≡ Some ms → list_all is_stamp_byte text ≡ true
-time_bytes text ms e = (tested (list_all is_stamp_byte text) (option_and_then ms_of (first_cut 46 text)) ms e).0
-
-pub number_bytes : (text : List ℕ) (n : ℕ) → number_of text ≡ Some n → list_all is_stamp_byte text ≡ true
-number_bytes text n e = (tested (list_all is_stamp_byte text) (dec32_of text) n e).0
 
 from_parts : (front time serial rest : List ℕ) (ms number : Option ℕ) (s : Stamp) → stamp_from front time serial rest ms number ≡ Some s
     → (ms ≡ Some s.ms) × (number ≡ Some s.number) × (front ≡ s.front) × (time ≡ s.time) × (serial ≡ s.serial) × (rest ≡ s.rest)
@@ -93,36 +85,95 @@ read_again line s has time rest ms is =
     ∙ ap (option_and_then (stamp_after s.front time)) three
     ∙ rw (has.header, is, has.number) refl
 
--- the mark is found again
-pub marked_again : (rest time serial : List ℕ) (ms n : ℕ) → time_of time ≡ Some ms → number_of serial ≡ Some n
-    → last_mark (rest ++ 29 ∷ mark_of time serial) ≡ Some (rest, time)
-marked_again rest time serial ms n is number =
-    let timed : last_cut 29 time ≡ None = never_in is_stamp_byte 29 time refl (time_bytes time ms is) in
-    let numbered : last_cut 29 serial ≡ None = never_in is_stamp_byte 29 serial refl (number_bytes serial n number) in
-    let ending : last_cut 29 (serial ++ codes ") }") ≡ None = never_in_both 29 serial (codes ") }") numbered refl in
-    let after : last_cut 29 (time ++ 58 ∷ (serial ++ codes ") }")) ≡ None =
-    never_in_both 29 time (58 ∷ (serial ++ codes ") }")) timed (never_in_both 29 (58 ∷ []) (serial ++ codes ") }") refl ending) in
-    let none : last_cut 29 (mark_of time serial) ≡ None = never_in_both 29 (codes "WAS={ audit(") (time ++ 58 ∷ (serial ++ codes ") }")) refl after in
-    let kept : kept_time (mark_of time serial) ≡ Some time =
-    ap (option_map (λ (parts : List ℕ × List ℕ). parts.0)) (first_after is_stamp_byte 58 time (serial ++ codes ") }") refl (time_bytes time ms is)) in
-    ap (option_and_then marked_by) (last_before 29 rest (mark_of time serial) none)
-    ∙ ap (option_map (λ (kept : List ℕ). (rest, kept))) kept
-
 pub raised_undone : (line : List ℕ) (s : Stamp) → HasParts line s → (time : List ℕ) (ms : ℕ) → time_of time ≡ Some ms
     → undone (line_of (raised s time ms)) ≡ line
 raised_undone line s has time ms is =
     let rest = s.rest ++ 29 ∷ mark_of s.time s.serial in
     ap (undone_of (line_of (raised s time ms))) (read_again line s has time rest ms is)
-    ∙ ap (undone_by (raised s time ms) (line_of (raised s time ms))) (marked_again s.rest s.time s.serial s.ms s.number has.time has.number)
+    ∙ ap (undone_by (raised s time ms) (line_of (raised s time ms)))
+    (marked_again s.rest s.time s.serial (time_bytes s.time s.ms has.time) (number_bytes s.serial s.number has.number))
     ∙ sym has.whole
 
-unmarked : (s : Stamp) (line : List ℕ) (mark : Option (List ℕ × List ℕ)) → is_some mark ≡ false → undone_by s line mark ≡ line
+-- ---- rewrites
+
+-- a rewrite that fits a text
+pub record Fits (r : Rewrite) (rest : List ℕ) : Type 0 where
+  pub within : r.len ≤ length rest
+  pub unmarked : last_cut 29 (take r.len rest) ≡ None
+  pub short : length r.text < 2 ^ 32
+  pub one : is_one_line r.text ≡ true
+
+le_passed : (a b : ℕ) → nat_le a b ≡ true → a ≤ b
+le_passed a b e = grind (arith, nat_tests, e)
+
+pub fits_parts : (r : Rewrite) (rest : List ℕ) → fits r rest ≡ true → Fits r rest
+fits_parts r rest e =
+    let part = take r.len rest in
+    let plain = list_all (λ (byte : ℕ). not (byte == 29)) part in
+    let short = nat_lt (length r.text) (2 ^ 32) in
+    let one = and_parts (nat_le r.len (length rest)) (plain && (short && is_one_line r.text)) e in
+    let two = and_parts plain (short && is_one_line r.text) one.1 in
+    let three = and_parts short (is_one_line r.text) two.1 in
+    record {
+      within = le_passed r.len (length rest) one.0;
+      unmarked = never_in (λ (byte : ℕ). not (byte == 29)) 29 part refl two.0;
+      short = ltb-true _ _ three.0;
+      one = three.1;
+    }
+
+fitted : (b : Bool) (r other : Rewrite) → (if b then Some r else None) ≡ Some other → (b ≡ true) × (r ≡ other)
+fitted true r other e = (refl, same_Some _ _ e)
+fitted false r other e = absurd (cc e)
+
+pub fitting_is : (change : Option Rewrite) (rest : List ℕ) (r : Rewrite) → fitting change rest ≡ Some r → fits r rest ≡ true
+fitting_is None rest r e = absurd (cc e)
+fitting_is (Some change) rest r e =
+    let is = fitted (fits change rest) change r e in
+    ap (λ (c : Rewrite). fits c rest) (sym is.1) ∙ is.0
+
+-- the time of the greater of two stamps
+risen_time : (s : Stamp) (time : List ℕ) (ms : ℕ) → time_of s.time ≡ Some s.ms → time_of time ≡ Some ms → time_of (risen s time ms).time ≡ Some (risen s time ms).ms
+risen_time s time ms own is = by_test (nat_lt s.ms ms) (λ less. rw less is) (λ more. rw more own)
+
+-- the same parts apart from the time
+risen_line : (s : Stamp) (time rest : List ℕ) (ms : ℕ) → line_of (record (risen s time ms) { rest = rest }) ≡ line_of (record s { time = (risen s time ms).time; rest = rest })
+risen_line s time rest ms = by_test (nat_lt s.ms ms) (λ less. rw less refl) (λ more. rw more refl)
+
+-- a line that was rewritten bears this stamp
+pub rewritten_again : (line : List ℕ) (s : Stamp) → HasParts line s → (time : List ℕ) (ms : ℕ) → time_of time ≡ Some ms → (r : Rewrite)
+    → stamp_of (line_of (rewritten s time ms r)) ≡ Some (record s { time = (risen s time ms).time; ms = (risen s time ms).ms; rest = changed s r })
+rewritten_again line s has time ms is r =
+    ap stamp_of (risen_line s time (changed s r) ms)
+    ∙ read_again line s has (risen s time ms).time (changed s r) (risen s time ms).ms (risen_time s time ms has.time is)
+
+-- its mark keeps what was replaced
+pub change_kept : (line : List ℕ) (s : Stamp) → HasParts line s → (r : Rewrite) → Fits r s.rest
+    → last_mark (changed s r) ≡ Some (r.text ++ drop r.len s.rest, record { time = s.time; part = Some (length r.text, take r.len s.rest) })
+change_kept line s has r fit =
+    changed_again (r.text ++ drop r.len s.rest) s.time s.serial (take r.len s.rest) (length r.text)
+    (time_bytes s.time s.ms has.time) (number_bytes s.serial s.number has.number) fit.short fit.unmarked
+
+put_back : (text rest : List ℕ) (n : ℕ) → take n rest ++ drop (length text) (text ++ drop n rest) ≡ rest
+put_back text rest n = ap (λ (t : List ℕ). take n rest ++ t) (drop-append_seam text (drop n rest)) ∙ take-append-drop n rest
+
+rewritten_undone : (line : List ℕ) (s : Stamp) → HasParts line s → (time : List ℕ) (ms : ℕ) → time_of time ≡ Some ms → (r : Rewrite) → Fits r s.rest
+    → undone (line_of (rewritten s time ms r)) ≡ line
+rewritten_undone line s has time ms is r fit =
+    let made : Stamp = record s { time = (risen s time ms).time; ms = (risen s time ms).ms; rest = changed s r } in
+    ap (undone_of (line_of (rewritten s time ms r))) (rewritten_again line s has time ms is r)
+    ∙ ap (undone_by made (line_of (rewritten s time ms r))) (change_kept line s has r fit)
+    ∙ ap (λ (rest : List ℕ). line_of (record s { rest = rest })) (put_back r.text s.rest r.len)
+    ∙ sym has.whole
+
+-- ---- lines as they were
+
+unmarked : (s : Stamp) (line : List ℕ) (mark : Option (List ℕ × Kept)) → is_some mark ≡ false → undone_by s line mark ≡ line
 unmarked s line None e = refl
 unmarked s line (Some mark) e = absurd (cc e)
 
-undone_stamped : (time : List ℕ) (ms : ℕ) (line : List ℕ) (s : Stamp) → time_of time ≡ Some ms → stamp_of line ≡ Some s
-    → undone (written_by time ms line s) ≡ line
-undone_stamped time ms line s is stamped =
+undone_plain : (time : List ℕ) (ms : ℕ) (line : List ℕ) (s : Stamp) → time_of time ≡ Some ms → stamp_of line ≡ Some s
+    → undone (written_by time ms line s None) ≡ line
+undone_plain time ms line s is stamped =
     let has = has_parts line s stamped in
     by_test (nat_lt s.ms ms)
     (λ less. rw less (raised_undone line s has time ms is))
@@ -130,13 +181,56 @@ undone_stamped time ms line s is stamped =
     (λ marked. rw (more, marked) (raised_undone line s has s.time s.ms has.time))
     (λ plain. rw (more, plain) (ap (undone_of line) stamped ∙ unmarked s line (last_mark s.rest) plain)))
 
-undone_written : (time : List ℕ) (ms : ℕ) (line : List ℕ) (found : Option Stamp) → time_of time ≡ Some ms → stamp_of line ≡ found
-    → undone (written_of time ms line found) ≡ line
-undone_written time ms line None is found = ap (undone_of line) found
-undone_written time ms line (Some s) is found = undone_stamped time ms line s is found
+undone_by_change : (time : List ℕ) (ms : ℕ) (line : List ℕ) (s : Stamp) (change found : Option Rewrite) → time_of time ≡ Some ms → stamp_of line ≡ Some s
+    → fitting change s.rest ≡ found → undone (written_by time ms line s found) ≡ line
+undone_by_change time ms line s change None is stamped fit = undone_plain time ms line s is stamped
+undone_by_change time ms line s change (Some r) is stamped fit =
+    rewritten_undone line s (has_parts line s stamped) time ms is r (fits_parts r s.rest (fitting_is change s.rest r fit))
 
-pub written_undone : (time : List ℕ) (ms : ℕ) (line : List ℕ) → time_of time ≡ Some ms → undone (written_after time ms line) ≡ line
-written_undone time ms line is = undone_written time ms line (stamp_of line) is refl
+undone_written : (time : List ℕ) (ms : ℕ) (line : List ℕ) (change : Option Rewrite) (found : Option Stamp) → time_of time ≡ Some ms → stamp_of line ≡ found
+    → undone (written_of time ms line found change) ≡ line
+undone_written time ms line change None is found = ap (undone_of line) found
+undone_written time ms line change (Some s) is found = undone_by_change time ms line s change (fitting change s.rest) is found refl
+
+pub written_undone : (time : List ℕ) (ms : ℕ) (line : List ℕ) (change : Option Rewrite) → time_of time ≡ Some ms → undone (written_after time ms line change) ≡ line
+written_undone time ms line change is = undone_written time ms line change (stamp_of line) is refl
+
+-- ---- lines say whether they were rewritten
+
+keeps_none : (mark : Option (List ℕ × Kept)) → is_some mark ≡ false → keeps_part mark ≡ false
+keeps_none None e = refl
+keeps_none (Some mark) e = absurd (cc e)
+
+plain_told : (time : List ℕ) (ms : ℕ) (line : List ℕ) (s : Stamp) → time_of time ≡ Some ms → stamp_of line ≡ Some s
+    → is_rewritten (written_by time ms line s None) ≡ false
+plain_told time ms line s is stamped =
+    let has = has_parts line s stamped in
+    let timed = time_bytes s.time s.ms has.time in
+    let numbered = number_bytes s.serial s.number has.number in
+    let rest = s.rest ++ 29 ∷ mark_of s.time s.serial in
+    let kept : keeps_part (last_mark rest) ≡ false = ap keeps_part (marked_again s.rest s.time s.serial timed numbered) in
+    by_test (nat_lt s.ms ms)
+    (λ less. rw less (ap keeps_part_of (read_again line s has time rest ms is) ∙ kept))
+    (λ more. by_test (is_marked s)
+    (λ marked. rw (more, marked) (ap keeps_part_of (read_again line s has s.time rest s.ms has.time) ∙ kept))
+    (λ plain. rw (more, plain) (ap keeps_part_of stamped ∙ keeps_none (last_mark s.rest) plain)))
+
+told_by_change : (time : List ℕ) (ms : ℕ) (line : List ℕ) (s : Stamp) (change found : Option Rewrite) → time_of time ≡ Some ms → stamp_of line ≡ Some s
+    → fitting change s.rest ≡ found → is_rewritten (written_by time ms line s found) ≡ is_some found
+told_by_change time ms line s change None is stamped fit = plain_told time ms line s is stamped
+told_by_change time ms line s change (Some r) is stamped fit =
+    let has = has_parts line s stamped in
+    ap keeps_part_of (rewritten_again line s has time ms is r)
+    ∙ ap keeps_part (change_kept line s has r (fits_parts r s.rest (fitting_is change s.rest r fit)))
+
+told_of : (time : List ℕ) (ms : ℕ) (line : List ℕ) (change : Option Rewrite) (found : Option Stamp) → time_of time ≡ Some ms → stamp_of line ≡ found
+    → is_rewritten (written_of time ms line found change) ≡ takes_rewrite change found
+told_of time ms line change None is found = ap keeps_part_of found
+told_of time ms line change (Some s) is found = told_by_change time ms line s change (fitting change s.rest) is found refl
+
+pub written_told : (time : List ℕ) (ms : ℕ) (line : List ℕ) (change : Option Rewrite) → time_of time ≡ Some ms
+    → is_rewritten (written_after time ms line change) ≡ takes_rewrite change (stamp_of line)
+written_told time ms line change is = told_of time ms line change (stamp_of line) is refl
 
 -- ---- the stamp of a written line
 
@@ -146,9 +240,9 @@ max_less a b less = omega (arith, less)
 max_more : (a b : ℕ) → b ≤ a → a ≡ max b a
 max_more a b more = omega (arith, more)
 
-bears : (time : List ℕ) (ms : ℕ) (line : List ℕ) (s : Stamp) → time_of time ≡ Some ms → stamp_of line ≡ Some s
-    → BearsAfter ms s (written_by time ms line s)
-bears time ms line s is stamped =
+bears_plain : (time : List ℕ) (ms : ℕ) (line : List ℕ) (s : Stamp) → time_of time ≡ Some ms → stamp_of line ≡ Some s
+    → BearsAfter ms s (written_by time ms line s None)
+bears_plain time ms line s is stamped =
     let has = has_parts line s stamped in
     let lifted = read_again line s has time (s.rest ++ 29 ∷ mark_of s.time s.serial) ms is in
     let kept = read_again line s has s.time (s.rest ++ 29 ∷ mark_of s.time s.serial) s.ms has.time in
@@ -170,20 +264,45 @@ bears time ms line s is stamped =
       front = ap (option_map (λ (t : Stamp). t.front)) stamped;
     })))
 
-written_bears : (time : List ℕ) (ms : ℕ) (line : List ℕ) (found : Option Stamp) → time_of time ≡ Some ms → stamp_of line ≡ found
-    → StaysAfter ms line (written_of time ms line found)
-written_bears time ms line None is found = record {
+risen_ms : (s : Stamp) (time : List ℕ) (ms : ℕ) → (risen s time ms).ms ≡ max ms s.ms
+risen_ms s time ms =
+    by_test (nat_lt s.ms ms)
+    (λ less. rw less (max_less s.ms ms (ltb-true _ _ less)))
+    (λ more. rw more (max_more s.ms ms (ltb-false _ _ more)))
+
+bears : (time : List ℕ) (ms : ℕ) (line : List ℕ) (s : Stamp) (found : Option Rewrite) → time_of time ≡ Some ms → stamp_of line ≡ Some s
+    → BearsAfter ms s (written_by time ms line s found)
+bears time ms line s None is stamped = bears_plain time ms line s is stamped
+bears time ms line s (Some r) is stamped =
+    let again = rewritten_again line s (has_parts line s stamped) time ms is r in
+    record {
+      time = ap (option_map (λ (t : Stamp). t.ms)) again ∙ ap Some (risen_ms s time ms);
+      number = ap (option_map (λ (t : Stamp). t.number)) again;
+      front = ap (option_map (λ (t : Stamp). t.front)) again;
+    }
+
+written_bears : (time : List ℕ) (ms : ℕ) (line : List ℕ) (change : Option Rewrite) (found : Option Stamp) → time_of time ≡ Some ms → stamp_of line ≡ found
+    → StaysAfter ms line (written_of time ms line found change)
+written_bears time ms line change None is found = record {
   time = rw found refl;
   number = rw found refl;
   front = rw found refl;
 }
-written_bears time ms line (Some s) is found =
-    let now = bears time ms line s is found in
+written_bears time ms line change (Some s) is found =
+    let now = bears time ms line s (fitting change s.rest) is found in
     record {
       time = now.time ∙ sym (ap (λ (f : Option Stamp). option_map (λ (n : ℕ). max ms n) (option_map (λ (t : Stamp). t.ms) f)) found);
       number = now.number ∙ sym (ap (option_map (λ (t : Stamp). t.number)) found);
       front = now.front ∙ sym (ap (option_map (λ (t : Stamp). t.front)) found);
     }
 
-pub written_stays : (time : List ℕ) (ms : ℕ) (line : List ℕ) → time_of time ≡ Some ms → StaysAfter ms line (written_after time ms line)
-written_stays time ms line is = written_bears time ms line (stamp_of line) is refl
+pub written_stays : (time : List ℕ) (ms : ℕ) (line : List ℕ) (change : Option Rewrite) → time_of time ≡ Some ms → StaysAfter ms line (written_after time ms line change)
+written_stays time ms line change is = written_bears time ms line change (stamp_of line) is refl
+
+-- ---- pieces of lines
+
+pub rewritten_pieces : (out n1 n2 n3 text tail : List ℕ) (s made : Stamp) (time : List ℕ) (ms : ℕ) (r : Rewrite) → made ≡ risen s time ms → text ≡ r.text
+    → n1 ≡ out ++ line_of (record made { rest = text }) → n2 ≡ n1 ++ tail → tail ≡ drop r.len s.rest
+    → n3 ≡ n2 ++ 29 ∷ change_mark s.time s.serial (length text) (take r.len s.rest) → n3 ≡ out ++ line_of (rewritten s time ms r)
+rewritten_pieces out n1 n2 n3 text tail s made time ms r is same e1 e2 rest e3 =
+    rw (e3, e2, e1, rest, same, is) (simp append_assoc refl)

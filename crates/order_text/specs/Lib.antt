@@ -1,5 +1,5 @@
 pub mod Cut
 pub mod Stamp
+pub mod Laws
 pub mod Undo
 pub mod Seen
-pub mod Laws

@@ -4,6 +4,6 @@ use Rattle.order_calls.proofs.files.Files.set.Goals as goal
 
 pub returns : goal.returns
 returns c = on_ok_weaker c.keep.result
-    (λ keeps. has_set c.args.self.now _ c.keep.new.self c.args.pid c.args.fd c.args.file _ _ c.take-held.ensures.here c.in_ok-set.ensures c.take-held.ensures.others
+    (λ keeps. has_set c.args.self.now _ c.keep.new.self c.args.pid c.args.fd c.args.thing _ _ c.take-held.ensures.here c.in_ok-set.ensures c.take-held.ensures.others
     c.take-held.ensures.opens keeps)
     c.keep.ensures

@@ -1,0 +1,8 @@
+use Rattle.std.proofs.lemmas.Result.{on_ok_weaker}
+use Rattle.audit_order.proofs.CourseLemmas.{keeps_end}
+use Rattle.audit_order.proofs.sorter.write_end_of.Goals as goal
+
+pub returns-in-Some-clause-keeps : goal.returns-in-Some-clause-keeps
+returns-in-Some-clause-keeps c = on_ok_weaker c.write_added.result
+    (λ a. keeps_end _ _ _ a c.line.ensures.end)
+    c.write_added.ensures

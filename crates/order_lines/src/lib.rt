@@ -1,0 +1,12 @@
+//! Rules that rewrite a line by what it says alone, so that the main program sees what really met.
+//!
+//! A call of the 32-bit gate gets the number of the 64-bit call with the same arguments. An address of the kernel in a netlink
+//! socket becomes no address: else all processes that ask the kernel would meet in one object.
+#![tactic(auto)]
+
+mod address;
+mod call;
+mod gate;
+mod rules;
+
+pub use rules::{Settings, rewrite_of};

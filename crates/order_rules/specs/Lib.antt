@@ -1,0 +1,12 @@
+pub mod Addresses
+pub mod Calls
+pub mod Deeds
+pub mod Doors
+pub mod Kept
+pub mod Known
+pub mod Laws
+pub mod Lines
+pub mod Quiet
+pub mod Rewrites
+pub mod Rules
+pub mod Texts

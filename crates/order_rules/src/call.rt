@@ -1,0 +1,58 @@
+//! Calls, as the rules ask for them.
+
+/// What a call does to the descriptors of its process.
+#[derive(Clone, Copy, Debug, PartialEq, Eq)]
+pub enum Act {
+    /// Nothing, or nothing that is followed.
+    Nothing,
+    /// It opens a descriptor, of which a PATH record says more. `stays`: an exec leaves it open.
+    Opens { fd: u32, stays: bool },
+    /// It makes a socket that has no port so far. `stream`: it is of the type SOCK_STREAM, or was accepted.
+    Makes { fd: u32, stays: bool, stream: bool },
+    /// It closes a descriptor.
+    Closes { fd: u32 },
+    /// The descriptor `to` holds what `from` holds.
+    Copies { from: u32, to: u32, stays: bool },
+    /// It begins a process that holds what its own process holds.
+    Begins { child: u32 },
+    /// The process runs another program.
+    Runs,
+    /// The process ends.
+    Ends,
+}
+
+/// What the records after that of a call say something about.
+#[derive(Clone, Copy, Debug, PartialEq, Eq)]
+pub enum Asks {
+    /// Nothing that a rule asks for.
+    Nothing,
+    /// Names that are relative to the directory of this descriptor.
+    At { fd: u32 },
+    /// The address that this descriptor is bound to.
+    Binds { fd: u32 },
+    /// The peer that this listening descriptor accepted.
+    Accepts { fd: u32 },
+    /// The address that it connects to.
+    Connects,
+    /// The peer from which something was received by this descriptor.
+    Receives { fd: u32 },
+    /// The peer to which something was sent by this descriptor.
+    Sends { fd: u32 },
+}
+
+/// A call: the process that made it, what it does, and what the records after it say.
+#[derive(Clone, Copy, Debug, PartialEq, Eq)]
+pub struct Call {
+    pub pid: u32,
+    pub act: Act,
+    pub asks: Asks,
+}
+
+/// The low 32 bits of the arguments of a call, as far as its record has them.
+#[derive(Clone, Copy, Debug, PartialEq, Eq)]
+pub struct Args {
+    pub first: Option<u32>,
+    pub second: Option<u32>,
+    pub third: Option<u32>,
+    pub fourth: Option<u32>,
+}
