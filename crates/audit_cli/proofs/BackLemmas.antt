@@ -1,5 +1,5 @@
 -- The three questions of `back`.
-use Rattle.std.proofs.Common.{Option, ◌≡◌, ◌≤◌, ◌<◌, ◌+◌, ◌-◌, ◌^◌, ℕ, List, [], ◌∷◌, ◌++◌, map, length, take, drop, refl, ap, sym, arith, ◌∙◌, Some, None, subst, inl, inr}
+use Rattle.std.proofs.Common.{Option, ◌≡◌, ◌≤◌, ◌<◌, ◌-◌, ◌^◌, ℕ, List, [], ◌∷◌, ◌++◌, map, length, take, drop, refl, ap, sym, arith, ◌∙◌, Some, None, subst, inl, inr}
 use Rattle.std.specs.Prelude.{Err}
 use Rattle.std.proofs.lemmas.List.{length-take, take-append-drop, map-append, take_all as list_take_all}
 use Rattle.std.proofs.Math.ListN.{drop_of_length-le}
@@ -95,6 +95,7 @@ quiet_halt limits halt.NoMemory from to questions passes due stops = inl refl
 quiet_halt limits halt.ReadFault from to questions passes due stops = inl refl
 quiet_halt limits halt.WriteFault from to questions passes due stops = inl refl
 quiet_halt limits halt.StoreFault from to questions passes due stops = inl refl
+quiet_halt limits (halt.BadRow place) from to questions passes due stops = inl refl
 quiet_halt limits (halt.Unwritten other) from to questions passes due stops = inl refl
 
 -- a halt within the last reply
@@ -104,6 +105,7 @@ cut_halt limits halt.NoMemory from to questions bytes none x = inr x
 cut_halt limits halt.ReadFault from to questions bytes none x = inr x
 cut_halt limits halt.WriteFault from to questions bytes none x = inr x
 cut_halt limits halt.StoreFault from to questions bytes none x = inr x
+cut_halt limits (halt.BadRow place) from to questions bytes none x = inr x
 cut_halt limits (halt.Unwritten other) from to questions bytes none x = inr x
 
 -- all three were answered

@@ -32,6 +32,7 @@ last_halt limits of log asked halt.NoMemory bytes to x = x
 last_halt limits of log asked halt.ReadFault bytes to x = x
 last_halt limits of log asked halt.WriteFault bytes to x = x
 last_halt limits of log asked halt.StoreFault bytes to x = x
+last_halt limits of log asked (halt.BadRow place) bytes to x = x
 last_halt limits of log asked (halt.Unwritten other) bytes to x = x
 
 watch_halt : (limits : Limits) (mode : Mode) (name log asked : List ℕ) (why : Halt) (bytes : List ℕ) (to : Moment) → Halted limits (QuestionsStop limits asked) (begin mode log) (asks limits (lines_in asked)) bytes why
@@ -41,6 +42,7 @@ watch_halt limits mode name log asked halt.NoMemory bytes to x = x
 watch_halt limits mode name log asked halt.ReadFault bytes to x = x
 watch_halt limits mode name log asked halt.WriteFault bytes to x = x
 watch_halt limits mode name log asked halt.StoreFault bytes to x = x
+watch_halt limits mode name log asked (halt.BadRow place) bytes to x = absurd x
 watch_halt limits mode name log asked (halt.Unwritten other) bytes to x = x
 
 plainly_talked : {K : Type 0} → (holds : Engine K → Moment → Type 0) → (limits : Limits) (of : ℕ) (log asked : List ℕ) (e : Engine K) (left old new : Option (List ℕ)) (r : Result Unit Halt) → LastTalked (kind_of Plain true holds) limits e left old new r (begin Plain log) (back_questions of log)
@@ -66,6 +68,7 @@ trial_halt limits seed events log asked halt.NoMemory bytes to x = x
 trial_halt limits seed events log asked halt.ReadFault bytes to x = x
 trial_halt limits seed events log asked halt.WriteFault bytes to x = x
 trial_halt limits seed events log asked halt.StoreFault bytes to x = x
+trial_halt limits seed events log asked (halt.BadRow place) bytes to x = x
 trial_halt limits seed events log asked (halt.Unwritten other) bytes to x = x
 
 -- `trial`
@@ -81,12 +84,13 @@ trial_talked limits seed events log asked left old new (Ok done) x = record {
 trial_talked limits seed events log asked left old new (Err why) x = record { to = begin Plain []; bytes = x.bytes; wrote = x.wrote; course = trial_halt limits seed events log asked why x.bytes _ x.course; ends = tt }
 
 -- a device that isn't there has no faults
-pub no_read : (r : Result Unit Halt) (read write : Type 0) → IfErr r (HasCauses ⊥ write ⊥ ⊥) → IfErr r (HasCauses read write ⊥ ⊥)
+pub no_read : (r : Result Unit Halt) (read write : Type 0) → IfErr r (HasCauses ⊥ write ⊥ ⊥ ⊥) → IfErr r (HasCauses read write ⊥ ⊥ ⊥)
 no_read (Ok done) read write causes = tt
 no_read (Err halt.NoMemory) read write causes = tt
 no_read (Err halt.ReadFault) read write causes = absurd causes
 no_read (Err halt.WriteFault) read write causes = causes
 no_read (Err halt.StoreFault) read write causes = causes
+no_read (Err (halt.BadRow place)) read write causes = causes
 no_read (Err (halt.Unwritten other)) read write causes = causes
 no_read (Err (halt.Full full)) read write causes = tt
 
@@ -99,12 +103,13 @@ pub same_questions : (a b : Job) (left : Option (List ℕ)) (asked : List ℕ) �
 same_questions a b left asked same tells = rw same tells
 
 -- a cause among more causes of a read fault
-pub causes_too : (r : Result Unit Halt) (one other write : Type 0) → IfErr r (HasCauses one write ⊥ ⊥) → IfErr r (HasCauses (one ⊎ other) write ⊥ ⊥)
+pub causes_too : (r : Result Unit Halt) (one other write : Type 0) → IfErr r (HasCauses one write ⊥ ⊥ ⊥) → IfErr r (HasCauses (one ⊎ other) write ⊥ ⊥ ⊥)
 causes_too (Ok done) one other write causes = tt
 causes_too (Err halt.NoMemory) one other write causes = tt
 causes_too (Err halt.ReadFault) one other write causes = inl causes
 causes_too (Err halt.WriteFault) one other write causes = causes
 causes_too (Err halt.StoreFault) one other write causes = causes
+causes_too (Err (halt.BadRow place)) one other write causes = causes
 causes_too (Err (halt.Unwritten full)) one other write causes = causes
 causes_too (Err (halt.Full full)) one other write causes = tt
 
@@ -157,6 +162,7 @@ halt_front limits done log asked halt.NoMemory bytes to x = x
 halt_front limits done log asked halt.ReadFault bytes to x = x
 halt_front limits done log asked halt.WriteFault bytes to x = x
 halt_front limits done log asked halt.StoreFault bytes to x = x
+halt_front limits done log asked (halt.BadRow place) bytes to x = x
 halt_front limits done log asked (halt.Unwritten other) bytes to x = x
 
 -- before the job begins
@@ -173,14 +179,15 @@ not_begun limits done log asked left old =
     let x = nothing_written limits done log asked old in
     record { to = begin Plain log; bytes = x.bytes; wrote = x.wrote; course = x.front; ends = tt }
 
-pub causes : (read write store : Type 0) (r : Result Unit Halt) → IfErr r (HasCauses read write ⊥ ⊥) → StatusCause read write store (status_for r)
-causes read write store (Ok done) h = tt
-causes read write store (Err halt.NoMemory) h = tt
-causes read write store (Err halt.ReadFault) h = h
-causes read write store (Err halt.WriteFault) h = h
-causes read write store (Err halt.StoreFault) h = absurd h
-causes read write store (Err (halt.Unwritten other)) h = tt
-causes read write store (Err (halt.Full full)) h = tt
+pub causes : (read write store hidden : Type 0) (r : Result Unit Halt) → IfErr r (HasCauses read write ⊥ ⊥ ⊥) → StatusCause read write store hidden (status_for r)
+causes read write store hidden (Ok done) h = tt
+causes read write store hidden (Err halt.NoMemory) h = tt
+causes read write store hidden (Err halt.ReadFault) h = h
+causes read write store hidden (Err halt.WriteFault) h = h
+causes read write store hidden (Err halt.StoreFault) h = absurd h
+causes read write store hidden (Err (halt.BadRow place)) h = absurd h
+causes read write store hidden (Err (halt.Unwritten other)) h = tt
+causes read write store hidden (Err (halt.Full full)) h = tt
 
 pub no_bad_words : (r : Result Unit Halt) → status_for r ≡ status.BadWords → ⊥
 no_bad_words (Ok done) is = cc
@@ -188,6 +195,7 @@ no_bad_words (Err halt.NoMemory) is = cc
 no_bad_words (Err halt.ReadFault) is = cc
 no_bad_words (Err halt.WriteFault) is = cc
 no_bad_words (Err halt.StoreFault) is = cc
+no_bad_words (Err (halt.BadRow place)) is = cc
 no_bad_words (Err (halt.Unwritten other)) is = cc
 no_bad_words (Err (halt.Full full)) is = cc
 
@@ -198,6 +206,7 @@ done_only (Err halt.NoMemory) P p is = absurd (cc)
 done_only (Err halt.ReadFault) P p is = absurd (cc)
 done_only (Err halt.WriteFault) P p is = absurd (cc)
 done_only (Err halt.StoreFault) P p is = absurd (cc)
+done_only (Err (halt.BadRow place)) P p is = absurd (cc)
 done_only (Err (halt.Unwritten other)) P p is = absurd (cc)
 done_only (Err (halt.Full full)) P p is = absurd (cc)
 
@@ -207,6 +216,7 @@ headline limits done log asked left old new (Err halt.NoMemory) x is = absurd (c
 headline limits done log asked left old new (Err halt.ReadFault) x is = absurd (cc)
 headline limits done log asked left old new (Err halt.WriteFault) x is = absurd (cc)
 headline limits done log asked left old new (Err halt.StoreFault) x is = absurd (cc)
+headline limits done log asked left old new (Err (halt.BadRow place)) x is = absurd (cc)
 headline limits done log asked left old new (Err (halt.Unwritten other)) x is = absurd (cc)
 headline limits done log asked left old new (Err (halt.Full full)) x is = absurd (cc)
 
@@ -240,22 +250,24 @@ stopped_at limits (job.Trial seed events) log asked bytes old new full wrote x =
   wrote = subst (λ (bs : List ℕ). Appends old new bs) x.0 wrote;
 }
 
-pub full_exact : (read write : Type 0) (limits : Limits) (done : Job) (log asked : List ℕ) (left old new : Option (List ℕ)) (r : Result Unit Halt) (full : Full) → IfErr r (HasCauses read write ⊥ ⊥) → JobTalked limits done log asked left old new r → status_for r ≡ status.Full full → StoppedAt limits done log asked old new full
+pub full_exact : (read write : Type 0) (limits : Limits) (done : Job) (log asked : List ℕ) (left old new : Option (List ℕ)) (r : Result Unit Halt) (full : Full) → IfErr r (HasCauses read write ⊥ ⊥ ⊥) → JobTalked limits done log asked left old new r → status_for r ≡ status.Full full → StoppedAt limits done log asked old new full
 full_exact read write limits done log asked left old new (Ok t) full halts x is = absurd (cc)
 full_exact read write limits done log asked left old new (Err halt.NoMemory) full halts x is = absurd (cc)
 full_exact read write limits done log asked left old new (Err halt.ReadFault) full halts x is = absurd (cc)
 full_exact read write limits done log asked left old new (Err halt.WriteFault) full halts x is = absurd (cc)
 full_exact read write limits done log asked left old new (Err halt.StoreFault) full halts x is = absurd (cc)
+full_exact read write limits done log asked left old new (Err (halt.BadRow place)) full halts x is = absurd halts
 full_exact read write limits done log asked left old new (Err (halt.Unwritten other)) full halts x is = absurd halts
 full_exact read write limits done log asked left old new (Err (halt.Full other)) full halts x is = let same : other ≡ full = cc in rw (← same) (stopped_at limits done log asked x.bytes old new other x.wrote x.course)
 
 pub complete : (limits : Limits) (done : Job) (log asked : List ℕ) (left old new : Option (List ℕ)) (read write : Type 0) (r : Result Unit Halt)
-    → JobTalked limits done log asked left old new r → IfErr r (HasCauses read write ⊥ ⊥) → (read → ⊥) → (write → ⊥) → PassesNone limits done log asked → (status_for r ≡ status.Done) ⊎ (status_for r ≡ status.NoMemory)
+    → JobTalked limits done log asked left old new r → IfErr r (HasCauses read write ⊥ ⊥ ⊥) → (read → ⊥) → (write → ⊥) → PassesNone limits done log asked → (status_for r ≡ status.Done) ⊎ (status_for r ≡ status.NoMemory)
 complete limits done log asked left old new read write (Ok t) x halts no_read no_write none = inl refl
 complete limits done log asked left old new read write (Err halt.NoMemory) x halts no_read no_write none = inr refl
 complete limits done log asked left old new read write (Err halt.ReadFault) x halts no_read no_write none = absurd (no_read halts)
 complete limits done log asked left old new read write (Err halt.WriteFault) x halts no_read no_write none = absurd (no_write halts)
 complete limits done log asked left old new read write (Err halt.StoreFault) x halts no_read no_write none = absurd halts
+complete limits done log asked left old new read write (Err (halt.BadRow place)) x halts no_read no_write none = absurd halts
 complete limits done log asked left old new read write (Err (halt.Unwritten other)) x halts no_read no_write none = absurd halts
 complete limits done log asked left old new read write (Err (halt.Full full)) x halts no_read no_write none = absurd (none full (passed limits done log asked x.bytes full x.course))
 
@@ -289,5 +301,6 @@ ended_within stay fitting limits done log asked left old new (Err halt.NoMemory)
 ended_within stay fitting limits done log asked left old new (Err halt.ReadFault) full x keeps is passes = cc
 ended_within stay fitting limits done log asked left old new (Err halt.WriteFault) full x keeps is passes = cc
 ended_within stay fitting limits done log asked left old new (Err halt.StoreFault) full x keeps is passes = cc
+ended_within stay fitting limits done log asked left old new (Err (halt.BadRow place)) full x keeps is passes = cc
 ended_within stay fitting limits done log asked left old new (Err (halt.Unwritten other)) full x keeps is passes = cc
 ended_within stay fitting limits done log asked left old new (Err (halt.Full other)) full x keeps is passes = cc

@@ -18,6 +18,7 @@ short_none found (Err halt.NoMemory) = tt
 short_none found (Err halt.ReadFault) = tt
 short_none found (Err halt.WriteFault) = tt
 short_none found (Err halt.StoreFault) = tt
+short_none found (Err (halt.BadRow place)) = tt
 short_none found (Err (halt.Full full)) = tt
 short_none found (Err (halt.Unwritten full)) = tt
 
@@ -26,10 +27,10 @@ resumed_short true taken had found short resumes = (resumes refl, short)
 resumed_short false taken had found short resumes = absurd short
 
 -- one over a store finds it only if it goes on in its log
-pub short_by : (read write store : Type 0) (bad : ℕ → Type 0) (wrong : Mode → Mode → Type 0) (resume : Bool) (found : Option Job) (r : Result Unit StoreHalt) → IfErr r (HasStoreCauses read write store bad wrong (shorter_in resume))
+pub short_by : (read write store hidden : Type 0) (bad : ℕ → Type 0) (wrong : Mode → Mode → Type 0) (resume : Bool) (found : Option Job) (r : Result Unit StoreHalt) → IfErr r (HasStoreCauses read write store hidden bad wrong (shorter_in resume))
     → (resume ≡ true → Resumes found) → ShortCause (store_status r) found
-short_by read write store bad wrong resume found (Ok t) causes resumes = tt
-short_by read write store bad wrong resume found (Err (over.Run why)) causes resumes = short_none found (Err why)
-short_by read write store bad wrong resume found (Err (over.BadStore place)) causes resumes = tt
-short_by read write store bad wrong resume found (Err (over.WrongMode kept asked)) causes resumes = tt
-short_by read write store bad wrong resume found (Err (over.ShortLog taken had)) causes resumes = resumed_short resume taken had found causes resumes
+short_by read write store hidden bad wrong resume found (Ok t) causes resumes = tt
+short_by read write store hidden bad wrong resume found (Err (over.Run why)) causes resumes = short_none found (Err why)
+short_by read write store hidden bad wrong resume found (Err (over.BadStore place)) causes resumes = tt
+short_by read write store hidden bad wrong resume found (Err (over.WrongMode kept asked)) causes resumes = tt
+short_by read write store hidden bad wrong resume found (Err (over.ShortLog taken had)) causes resumes = resumed_short resume taken had found causes resumes

@@ -14,7 +14,7 @@ use Rattle.ingest.specs.Replies.{IsReply, counts_of}
 use Rattle.ingest.specs.Stops.{Fits, Stops}
 use Rattle.dialogue.specs.declared.halt.Halt.{Halt}
 use Rattle.dialogue.specs.declared.halt.Halt.TheVariants as halt
-use Rattle.dialogue.specs.Course.{IsDue}
+use Rattle.dialogue.specs.Course.{HasCauses, IsDue}
 use Rattle.audit_gen.specs.Logs.{generated}
 use Rattle.report_json.specs.Replies.{line_of}
 use Rattle.audit_cli.specs.declared.trial_line.Totals.{Totals}
@@ -74,6 +74,7 @@ tried_then fitting limits h first second old mid new (Err halt.NoMemory) x y = r
 tried_then fitting limits h first second old mid new (Err halt.ReadFault) x y = record { bytes = x.bytes ++ y.bytes; wrote = appends_both old mid new x.bytes y.bytes x.wrote y.wrote; course = cut_both limits h first second x.bytes y.bytes x.course.0 y.course }
 tried_then fitting limits h first second old mid new (Err halt.WriteFault) x y = record { bytes = x.bytes ++ y.bytes; wrote = appends_both old mid new x.bytes y.bytes x.wrote y.wrote; course = cut_both limits h first second x.bytes y.bytes x.course.0 y.course }
 tried_then fitting limits h first second old mid new (Err halt.StoreFault) x y = record { bytes = x.bytes ++ y.bytes; wrote = appends_both old mid new x.bytes y.bytes x.wrote y.wrote; course = cut_both limits h first second x.bytes y.bytes x.course.0 y.course }
+tried_then fitting limits h first second old mid new (Err (halt.BadRow place)) x y = record { bytes = x.bytes ++ y.bytes; wrote = appends_both old mid new x.bytes y.bytes x.wrote y.wrote; course = cut_both limits h first second x.bytes y.bytes x.course.0 y.course }
 tried_then fitting limits h first second old mid new (Err (halt.Unwritten other)) x y = record { bytes = x.bytes ++ y.bytes; wrote = appends_both old mid new x.bytes y.bytes x.wrote y.wrote; course = cut_both limits h first second x.bytes y.bytes x.course.0 y.course }
 
 -- no further mode after a halt
@@ -83,6 +84,7 @@ tried_short limits h first second old new halt.NoMemory x = record { bytes = x.b
 tried_short limits h first second old new halt.ReadFault x = record { bytes = x.bytes; wrote = x.wrote; course = cut_more limits h first second x.bytes x.course }
 tried_short limits h first second old new halt.WriteFault x = record { bytes = x.bytes; wrote = x.wrote; course = cut_more limits h first second x.bytes x.course }
 tried_short limits h first second old new halt.StoreFault x = record { bytes = x.bytes; wrote = x.wrote; course = cut_more limits h first second x.bytes x.course }
+tried_short limits h first second old new (halt.BadRow place) x = record { bytes = x.bytes; wrote = x.wrote; course = cut_more limits h first second x.bytes x.course }
 tried_short limits h first second old new (halt.Unwritten other) x = record { bytes = x.bytes; wrote = x.wrote; course = cut_more limits h first second x.bytes x.course }
 
 -- a halt before anything is written
@@ -92,6 +94,7 @@ not_tried limits h modes old halt.NoMemory over = record { bytes = []; wrote = a
 not_tried limits h modes old halt.ReadFault over = record { bytes = []; wrote = appends_none old; course = no_lines limits h modes }
 not_tried limits h modes old halt.WriteFault over = record { bytes = []; wrote = appends_none old; course = no_lines limits h modes }
 not_tried limits h modes old halt.StoreFault over = record { bytes = []; wrote = appends_none old; course = no_lines limits h modes }
+not_tried limits h modes old (halt.BadRow place) over = record { bytes = []; wrote = appends_none old; course = no_lines limits h modes }
 not_tried limits h modes old (halt.Unwritten other) over = record { bytes = []; wrote = appends_none old; course = no_lines limits h modes }
 
 -- the line of a mode, and a part of it
@@ -127,6 +130,10 @@ mode_line_of kind given limits h totals back line same x reached whole = record 
   reached = subst (λ (all : Totals). CountsBack kind limits h all.known back) x.totals_are reached;
   line_is = whole ∙ ap (λ (all : Totals). line_of (trial_data given all back)) x.totals_are ∙ ap (λ (one : Mode). line_of (trial_data one (totals_in x.stat) back)) same;
 }
+
+-- want of memory has a cause whatever devices there are
+pub memory_causes : (why : Halt) → why ≡ halt.NoMemory → HasCauses ⊥ ⊥ ⊥ ⊥ ⊥ why
+memory_causes why is = rw is tt
 
 -- want of memory is due in any case
 pub memory_due : {A : Type 0} (r : Result A Halt) (stops : Full → Type 0) → IfErr r (λ why. why ≡ halt.NoMemory) → IfErr r (IsDue stops)

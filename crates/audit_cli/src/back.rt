@@ -32,7 +32,7 @@ pub fn back<R: Reducer, L: Source, O: Sink>(
         → OnOk result (L.left log.new ≡ Some []) }
     ensures causes { IfErr result (HasCauses
         (Rose (L.faults log.old) (L.faults log.new) (L.spent log.new))
-        (Rose (O.faults out.old) (O.faults out.new) (O.spent out.new)) ⊥ ⊥) }
+        (Rose (O.faults out.old) (O.faults out.new) (O.spent out.new)) ⊥ ⊥ ⊥) }
 {
     stops_stay();
     let _taken = answer(session, true, log, &Some(Ask::Take(u64::MAX)))?;

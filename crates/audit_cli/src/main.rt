@@ -10,9 +10,13 @@
 //! real ones, says on standard error how a run ended if it wasn't with Done, and ends with the status's number.
 #![tactic(auto)]
 
-ghost use Rattle.std.specs.Prelude.{◌≡◌, ◌⊎◌, ◌<ℤ◌, pos, None, IfErr, IfSome, map, string_bytes};
+ghost use Rattle.std.specs.Prelude.{◌≡◌, ◌⊎◌, ◌<ℤ◌, pos, None, Some, IfErr, IfSome, map, string_bytes};
 ghost use Rattle.std.specs.Fd.{file_raw_fd};
-ghost use Rattle.audit_cli.specs.Words.{job_of};
+ghost use Rattle.dialogue.specs.StoreHalts.{no_modes, no_place};
+ghost use Rattle.store_runs.specs.Statuses.{RefusesStore};
+ghost use Rattle.audit_cli.specs.declared.words.Job.{Job as AJob};
+ghost use Rattle.audit_cli.specs.Claims.{ShortCause};
+ghost use Rattle.audit_cli.specs.Words.{IsInMemory, job_of};
 
 mod back;
 mod command_line;
@@ -53,6 +57,10 @@ fn audited(rt: &HostRuntime, words: &[String]) -> Status
     ensures bad_words { result ≡ Status.BadWords → job_of (map string_bytes words.now) ≡ None }
     ensures refuses { job_of (map string_bytes words.now) ≡ None
         → (result ≡ Status.BadWords) ⊎ (result ≡ Status.NoMemory) }
+    // A job that keeps its rows in memory refuses no store, and only `reduce --resume` finds a short log.
+    ensures no_store { (done : AJob) → job_of (map string_bytes words.now) ≡ Some done
+        → IsInMemory done → RefusesStore result no_place no_modes }
+    ensures short { ShortCause result (job_of (map string_bytes words.now)) }
 {
     let alloc = rt.alloc();
     let mut out = Writing::new(rt.stdout());
@@ -146,7 +154,9 @@ fn store_named(rt: &HostRuntime, name: &Bytes) -> Storing<File>
 }
 
 // A disk whose every call fails, for a job that has none.
-fn unopened() -> Storing<File> {
+fn unopened() -> Storing<File>
+    ensures { result ≡ record { inner = None; faults = 0 } }
+{
     Storing::new(None)
 }
 

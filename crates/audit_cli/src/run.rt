@@ -69,7 +69,7 @@ fn run<L: Source, Q: Source, O: Sink>(
     ensures causes { IfErr result (HasCauses
         (Rose (L.faults log.old) (L.faults log.new) (L.spent log.new)
         ⊎ Rose (Q.faults questions.old) (Q.faults questions.new) (Q.spent questions.new))
-        (Rose (O.faults out.old) (O.faults out.new) (O.spent out.new)) ⊥ ⊥) }
+        (Rose (O.faults out.old) (O.faults out.new) (O.spent out.new)) ⊥ ⊥ ⊥) }
     ensures other { (of : ℕ) → job.now ≡ Job.Back of → questions.new ≡ questions.old }
     ensures alone { (seed events : ℕ) → job.now ≡ Job.Trial seed events
         → (log.new ≡ log.old) × (questions.new ≡ questions.old) }
@@ -119,7 +119,7 @@ fn run_in_mode<L: Source, Q: Source, O: Sink>(
     ensures causes { IfErr result (HasCauses
         (Rose (L.faults log.old) (L.faults log.new) (L.spent log.new)
         ⊎ Rose (Q.faults questions.old) (Q.faults questions.new) (Q.spent questions.new))
-        (Rose (O.faults out.old) (O.faults out.new) (O.spent out.new)) ⊥ ⊥) }
+        (Rose (O.faults out.old) (O.faults out.new) (O.spent out.new)) ⊥ ⊥ ⊥) }
     ensures other { (of : ℕ) → job.now ≡ Job.Back of → questions.new ≡ questions.old }
 {
     match mode {
@@ -174,7 +174,7 @@ fn run_with<R: Reducer + Drop, L: Source, Q: Source, O: Sink>(
     ensures causes { IfErr result (HasCauses
         (Rose (L.faults log.old) (L.faults log.new) (L.spent log.new)
         ⊎ Rose (Q.faults questions.old) (Q.faults questions.new) (Q.spent questions.new))
-        (Rose (O.faults out.old) (O.faults out.new) (O.spent out.new)) ⊥ ⊥) }
+        (Rose (O.faults out.old) (O.faults out.new) (O.spent out.new)) ⊥ ⊥ ⊥) }
     ensures other { (of : ℕ) → job.now ≡ Job.Back of → questions.new ≡ questions.old }
 {
     let piece = room_for_a_read(alloc)?;
@@ -234,7 +234,8 @@ pub fn audit_run<L: Source, Q: Source, O: Sink, D: Disk>(
         (Rose (L.faults log.old) (L.faults log.new) (L.spent log.new)
         ⊎ Rose (Q.faults questions.old) (Q.faults questions.new) (Q.spent questions.new))
         (Rose (O.faults out.old) (O.faults out.new) (O.spent out.new))
-        (Rose (D.faults disk) (D.faults result.disk) (D.spent result.disk)) result.status }
+        (Rose (D.faults disk) (D.faults result.disk) (D.spent result.disk))
+        (¬ (D.state disk).told) result.status }
     ensures uses { UsesDisk D.state D.faults D.spent disk result.disk
         (result.status ≡ Status.StoreFault) }
     // At Done the bytes written in this call are those of the right replies.
@@ -473,7 +474,8 @@ pub fn audit_main<L: Source, Q: Source, O: Sink, D: Disk>(
         (Rose (L.faults log.old) (L.faults log.new) (L.spent log.new)
         ⊎ Rose (Q.faults questions.old) (Q.faults questions.new) (Q.spent questions.new))
         (Rose (O.faults out.old) (O.faults out.new) (O.spent out.new))
-        (Rose (D.faults disk) (D.faults result.disk) (D.spent result.disk)) result.status }
+        (Rose (D.faults disk) (D.faults result.disk) (D.spent result.disk))
+        (¬ (D.state disk).told) result.status }
     ensures uses { UsesDisk D.state D.faults D.spent disk result.disk
         (result.status ≡ Status.StoreFault) }
     // At Done the bytes written in this call are those of the right replies.

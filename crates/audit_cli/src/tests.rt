@@ -615,6 +615,7 @@ fn a_status_has_its_number_and_line(rt: HostRuntime) -> Result<(), Fail> {
         (Status::WriteFault, 5, "audit_cli: write fault\n"),
         (Status::StoreFault, 6, "audit_cli: store fault\n"),
         (Status::BadStore(0), 7, "audit_cli: bad store at 0\n"),
+        (Status::BadRow(5), 7, "audit_cli: bad store at 5\n"),
         (
             Status::WrongMode {
                 kept: Mode::Plain,

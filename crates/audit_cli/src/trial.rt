@@ -37,7 +37,7 @@ pub fn trial<O: Sink>(
     ensures tried { Tried limits.now (trial_history seed events) all_modes
         (O.written out.old) (O.written out.new) result }
     ensures causes { IfErr result
-        (HasCauses ⊥ (Rose (O.faults out.old) (O.faults out.new) (O.spent out.new)) ⊥ ⊥) }
+        (HasCauses ⊥ (Rose (O.faults out.old) (O.faults out.new) (O.spent out.new)) ⊥ ⊥ ⊥) }
 {
     let log = generate(alloc, seed, events)?;
     try_modes(alloc, limits, log.as_slice(), out)
@@ -48,7 +48,7 @@ fn try_modes<O: Sink>(alloc: Global, limits: &Limits, log: &[u8], out: &mut O) -
     ensures tried { Tried limits.now (settled log.now) all_modes
         (O.written out.old) (O.written out.new) result }
     ensures causes { IfErr result
-        (HasCauses ⊥ (Rose (O.faults out.old) (O.faults out.new) (O.spent out.new)) ⊥ ⊥) }
+        (HasCauses ⊥ (Rose (O.faults out.old) (O.faults out.new) (O.spent out.new)) ⊥ ⊥ ⊥) }
 {
     what_fits_never_stops();
     let _plain = try_mode(alloc, limits, Plain::new(), log, out)?;
@@ -70,7 +70,7 @@ fn try_mode<R: Reducer + Drop, O: Sink>(
     ensures tried { Tried limits.now (settled log.now) (R.mode ∷ [])
         (O.written out.old) (O.written out.new) result }
     ensures causes { IfErr result
-        (HasCauses ⊥ (Rose (O.faults out.old) (O.faults out.new) (O.spent out.new)) ⊥ ⊥) }
+        (HasCauses ⊥ (Rose (O.faults out.old) (O.faults out.new) (O.spent out.new)) ⊥ ⊥ ⊥) }
     ensures counts { GoesUp
         (O.faults out.old) (O.faults out.new) (O.spent out.old) (O.spent out.new) }
 {
@@ -93,7 +93,7 @@ fn line_in<R: Reducer + Drop>(
     ensures line { IfOk result (λ line. IsModeLine R.mode limits.now (settled log.now) line) }
     ensures fits { OnOk result (Fits limits.now (settled log.now)) }
     ensures due { IfErr result (IsDue (Stops limits.now (settled log.now))) }
-    ensures causes { IfErr result (HasCauses ⊥ ⊥ ⊥ ⊥) }
+    ensures causes { IfErr result (HasCauses ⊥ ⊥ ⊥ ⊥ ⊥) }
 {
     let mode = reducer.mode();
     let mut engine = Ingest::new(alloc, limits, reducer, VecRows::new(alloc));
@@ -115,7 +115,7 @@ fn line_after<R: Reducer>(
         → OnOk result (Fits limits (settled log.now)) }
     ensures due { (limits : Limits) → StandsFor limits engine.old []
         → IfErr result (IsDue (Stops limits (settled log.now))) }
-    ensures causes { IfErr result (HasCauses ⊥ ⊥ ⊥ ⊥) }
+    ensures causes { IfErr result (HasCauses ⊥ ⊥ ⊥ ⊥ ⊥) }
 {
     follow(engine, log)?;
     line_now(alloc, mode, engine)
@@ -127,7 +127,7 @@ fn follow<R: Reducer>(engine: &mut Ingest<R, VecRows>, log: &[u8]) -> Result<(),
         → OnOk result (StandsFor limits engine.new (settled log.now)) }
     ensures due { (limits : Limits) → StandsFor limits engine.old []
         → IfErr result (IsDue (Stops limits (settled log.now))) }
-    ensures causes { IfErr result (HasCauses ⊥ ⊥ ⊥ ⊥) }
+    ensures causes { IfErr result (HasCauses ⊥ ⊥ ⊥ ⊥ ⊥) }
 {
     stops_stay();
     match engine.feed(log) {
@@ -148,7 +148,7 @@ fn line_now<R: Reducer>(
     requires stands { HasHistory engine.old }
     ensures line { (limits : Limits) (h : History) → StandsFor limits engine.old h
         → IfOk result (λ line. IsModeLine R.mode limits h line) }
-    ensures causes { IfErr result (HasCauses ⊥ ⊥ ⊥ ⊥) }
+    ensures causes { IfErr result (HasCauses ⊥ ⊥ ⊥ ⊥ ⊥) }
     ensures memory { IfErr result (λ why. why ≡ halt.NoMemory) }
 {
     let totals = totals_now(engine)?;
@@ -163,7 +163,7 @@ fn totals_now<R: Reducer>(engine: &mut Ingest<R, VecRows>) -> Result<Totals, Hal
         → IfOk result (λ totals. AreTotals R.mode limits h totals) }
     ensures stands { (limits : Limits) (h : History) → StandsFor limits engine.old h
         → OnOk result (StandsFor limits engine.new h) }
-    ensures causes { IfErr result (HasCauses ⊥ ⊥ ⊥ ⊥) }
+    ensures causes { IfErr result (HasCauses ⊥ ⊥ ⊥ ⊥ ⊥) }
     ensures memory { IfErr result (λ why. why ≡ halt.NoMemory) }
 {
     let reply = reply_of(engine, &Ask::Stat)?;
@@ -175,7 +175,7 @@ fn count_back<R: Reducer>(engine: &mut Ingest<R, VecRows>, known: u64) -> Result
     requires { known ≤ 2 ^ 32 }
     ensures reached { (limits : Limits) (h : History) → StandsFor limits engine.old h
         → IfOk result (λ back. CountsBack R.mode limits h known back) }
-    ensures causes { IfErr result (HasCauses ⊥ ⊥ ⊥ ⊥) }
+    ensures causes { IfErr result (HasCauses ⊥ ⊥ ⊥ ⊥ ⊥) }
     ensures memory { IfErr result (λ why. why ≡ halt.NoMemory) }
 {
     if known == 0 {

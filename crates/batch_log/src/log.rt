@@ -1,6 +1,6 @@
 //! The log of a disk, and its commits.
 ghost use Rattle.std.specs.Prelude.{◌≡◌, ◌≤◌, ◌<◌, ◌+◌, ◌↔◌, ◌++◌, List, ℕ, [], ◌∷◌, length, Some, None, true, IfOk, IfSome, OnOk, IsErrOf};
-ghost use Rattle.outside.specs.Disk.{put_at, IsDurable, LeavesOnly, UsesDisk};
+ghost use Rattle.outside.specs.Disk.{put_at, IsDurable, KeepsFront, LeavesOnly, UsesDisk};
 ghost use Rattle.batch_log.specs.declared.log.CommitFault.TheVariants as fault;
 ghost use Rattle.batch_log.specs.Log.{next_gate, passed, log_of, log_after, IsRefused, LogHas, EachHas};
 ghost use Rattle.batch_log.specs.Batches as on_disk;
@@ -88,6 +88,8 @@ impl BatchLog {
             → LogHas self.old payloads (D.state disk.old).reads
             → OnOk result
             (LogHas self.new (payloads ++ payload.now ∷ []) (D.state disk.new).reads) }
+        ensures front { (D.state disk.old).told
+            → KeepsFront (next_gate self.old) (D.state disk.old) (D.state disk.new) }
         ensures durable { OnOk result (IsDurable (D.state disk.new)) }
         ensures any_moment { (D.state disk.old).told → (payloads : List (List ℕ))
             → EachHas self.old payloads (D.state disk.old).image
@@ -145,6 +147,8 @@ impl BatchLog {
             → self.old.last ≡ None → (D.state disk.old).reads ≡ [] }
         ensures written { (D.state disk.old).told → OnOk result ((D.state disk.new).reads
             ≡ put_at (next_gate self.old) (on_disk.OPEN ∷ staged.now) (D.state disk.old).reads) }
+        ensures front { (D.state disk.old).told
+            → KeepsFront (next_gate self.old) (D.state disk.old) (D.state disk.new) }
         ensures durable { OnOk result (IsDurable (D.state disk.new)) }
         ensures any_moment { (D.state disk.old).told → (payloads : List (List ℕ)) (payload : List ℕ)
             → staged.now ≡ after_gate payload → length payload ≤ self.old.most

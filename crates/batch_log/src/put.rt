@@ -1,6 +1,6 @@
 //! Putting a batch on a disk.
 ghost use Rattle.std.specs.Prelude.{◌≡◌, ◌≤◌, ◌<◌, ◌+◌, ◌^◌, List, ℕ, [], ◌∷◌, length, Option, None, Some, unwrap_or, OnOk, IsErr, IfSome};
-ghost use Rattle.outside.specs.Disk.{put_at, Only, IsDurable, LeavesOnly, UsesDisk};
+ghost use Rattle.outside.specs.Disk.{put_at, Only, IsDurable, KeepsFront, LeavesOnly, UsesDisk};
 ghost use Rattle.batch_log.specs.Batches as on_disk;
 ghost use Rattle.batch_log.specs.Batches.{EachHasBatches, after_gate, IsBeforeOrAfter};
 
@@ -20,6 +20,8 @@ pub fn put_batch<D: Disk>(disk: &mut D, last: Option<u64>, staged: &[u8]) -> Res
     requires empty { (D.state disk.old).told → last ≡ None → (D.state disk.old).reads ≡ [] }
     ensures written { (D.state disk.old).told → OnOk result ((D.state disk.new).reads
         ≡ put_at (unwrap_or last 0) (on_disk.OPEN ∷ staged.now) (D.state disk.old).reads) }
+    ensures front { (D.state disk.old).told
+        → KeepsFront (unwrap_or last 0) (D.state disk.old) (D.state disk.new) }
     ensures durable { OnOk result (IsDurable (D.state disk.new)) }
     ensures any_moment { (D.state disk.old).told
         → (most : ℕ) (payloads : List (List ℕ)) (payload : List ℕ)
@@ -57,6 +59,8 @@ fn put_after<D: Disk>(disk: &mut D, gate: u64, staged: &[u8]) -> Result<(), Fail
     requires within { (D.state disk.old).told → gate < length (D.state disk.old).reads }
     ensures written { (D.state disk.old).told → OnOk result ((D.state disk.new).reads
         ≡ put_at gate (on_disk.OPEN ∷ staged.now) (D.state disk.old).reads) }
+    ensures front { (D.state disk.old).told
+        → KeepsFront gate (D.state disk.old) (D.state disk.new) }
     ensures durable { OnOk result (IsDurable (D.state disk.new)) }
     ensures any_moment { (D.state disk.old).told
         → (most : ℕ) (payloads : List (List ℕ)) (payload : List ℕ)

@@ -160,6 +160,7 @@ halted_weaker limits P Q a f bytes halt.NoMemory more x = x
 halted_weaker limits P Q a f bytes halt.ReadFault more x = x
 halted_weaker limits P Q a f bytes halt.WriteFault more x = x
 halted_weaker limits P Q a f bytes halt.StoreFault more x = x
+halted_weaker limits P Q a f bytes (halt.BadRow place) more x = x
 halted_weaker limits P Q a f bytes (halt.Unwritten other) more x = x
 
 course_weaker : (limits : Limits) (P Q : Beyond) (r : Result Turn Halt) (a b : Moment) (f : List (Option Ask)) (bytes : List ℕ) → Weaker P Q → Course limits P r a f bytes b → Course limits Q r a f bytes b

@@ -4,7 +4,7 @@ use Rattle.std.proofs.Math.Seq.{take-add, drop-append_seam, take-append_seam}
 use Rattle.std.proofs.lemmas.List.Sums.{sum_by-append}
 use Rattle.std.proofs.lemmas.List.{append-nil, length-drop, length-append, drop-drop, map-append, take_all as list_take_all}
 use Rattle.std.proofs.Math.ListN.{drop_of_length-le}
-use Rattle.std.specs.Prelude.{cond, Result, Ok, Err, OnOk, IfOk, IfErr}
+use Rattle.std.specs.Prelude.{cond, Result, Ok, Err, OnOk, IfOk}
 use Rattle.std.specs.Io.KnownBytes.{Consumes, IsAtEnd}
 use Rattle.flow_base.specs.declared.limits.Limits.{Limits}
 use Rattle.flow_base.specs.declared.limits.Full.{Full}
@@ -21,12 +21,15 @@ use Rattle.ingest.specs.Parts.{Engine}
 use Rattle.ingest.specs.Replies.{IsQuestion, IsReply}
 use Rattle.ingest.specs.StandsFor.{StandsFor}
 use Rattle.ingest.specs.Stops.{Stops, StopsBy}
+use Rattle.ingest.specs.declared.ask_fault.AskFault.{AskFault}
+use Rattle.ingest.specs.declared.ask_fault.AskFault.TheVariants as asking
 use Rattle.ingest.specs.declared.stop.StopWhy.{StopWhy}
 use Rattle.ingest.specs.declared.stop.StopWhy.TheVariants as why
 use Rattle.dialogue.specs.declared.halt.Halt.{Halt}
 use Rattle.dialogue.specs.declared.halt.Halt.TheVariants as halt
 use Rattle.dialogue.specs.Dialogue.{Moment, after, settled_on, taken_on, Answers}
-use Rattle.dialogue.specs.Course.{Kind, At, CountsOn, IsDue, halt_for}
+use Rattle.dialogue.specs.Course.{Kind, At, CountsOn, HasCauses, IsDue, halt_for, never}
+use Rattle.dialogue.specs.StoreHalts.{ask_halt}
 
 -- what has stopped stays stopped
 abbrev pub Stay : Type 0
@@ -102,6 +105,7 @@ due_weaker halt.NoMemory P Q weaker h = tt
 due_weaker halt.ReadFault P Q weaker h = tt
 due_weaker halt.WriteFault P Q weaker h = tt
 due_weaker halt.StoreFault P Q weaker h = tt
+due_weaker (halt.BadRow place) P Q weaker h = h
 due_weaker (halt.Unwritten other) P Q weaker h = tt
 due_weaker (halt.Full full) P Q weaker h = weaker full h
 
@@ -116,10 +120,21 @@ settled_at kind limits (Ok r) old engine left m at stands holds =
     record { in_mode = at.in_mode; may_take = at.may_take; stands_at = record { stands = stands; told = at.stands_at.told }; holds = holds }
 settled_at kind limits (Err e) old engine left m at stands holds = tt
 
--- want of memory is due whatever limit is passed
-pub memory_due : (result : Result Reply Halt) (passes : Full → Type 0) → IfErr result (λ why. why ≡ halt.NoMemory) → IfErr result (IsDue passes)
-memory_due (Ok r) passes none = tt
-memory_due (Err e) passes none = rw none tt
+-- what isn't observable isn't observable as something
+pub none_told : {A : Type 0} (told : Option A) (rows : A) → told ≡ None → told ≡ Some rows → ⊥
+none_told told rows none some = cc
+
+-- a question that meets no place without a row names no limit
+pub asked_due : (fault : AskFault) → ((place : ℕ) → fault ≡ asking.BadStore place → ⊥) → IsDue never (ask_halt fault)
+asked_due asking.StoreFault met = tt
+asked_due (asking.BadStore place) met = met place refl
+asked_due asking.NoMemory met = tt
+
+-- why a question isn't answered has its cause
+pub asked_with : (fault : AskFault) (store told : Type 0) → (fault ≡ asking.StoreFault → store) → ((place : ℕ) → fault ≡ asking.BadStore place → told) → HasCauses ⊥ ⊥ store told ⊥ (ask_halt fault)
+asked_with asking.StoreFault store told e f = e refl
+asked_with (asking.BadStore place) store told e f = f place refl
+asked_with asking.NoMemory store told e f = tt
 
 -- a question to the engine leaves the moment
 pub still : (asked : Ask) (m : Moment) → IsQuestion asked → after (Some asked) m ≡ m

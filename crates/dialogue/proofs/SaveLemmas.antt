@@ -6,11 +6,13 @@ use Rattle.std.proofs.lemmas.List.Concat.{flat_map-append}
 use Rattle.std.proofs.Math.Seq.{drop-append_seam}
 use Rattle.flow_base.specs.declared.limits.Limits.{Limits}
 use Rattle.flow_base.specs.declared.limits.Full.{Full}
+use Rattle.outside.specs.Cause.{Rose}
 use Rattle.outside.specs.Disk.{DiskState, IsDurable, LeavesOnly}
 use Rattle.audit_lex.specs.History.{History, Byte, Settle}
 use Rattle.batch_log.specs.declared.log.CommitFault.{CommitFault}
 use Rattle.batch_log.specs.declared.log.CommitFault.TheVariants as commit
 use Rattle.reach_model.specs.declared.modes.Mode.{Mode}
+use Rattle.reach_model.specs.Rows.{Row}
 use Rattle.reduced_store.specs.OnDisk.{OnDisk, SameBut}
 use Rattle.ingest.specs.Counting.{bytes_in}
 use Rattle.ingest.specs.Parts.{Engine}
@@ -26,7 +28,7 @@ use Rattle.report_json.specs.declared.ask.Ask.TheVariants as ask
 use Rattle.dialogue.specs.Dialogue.{Moment, after, settled_on, taken_on}
 use Rattle.dialogue.specs.Runs.{first_of, settled_all, steps_of, whole_of}
 use Rattle.dialogue.specs.Course.{At, CountsOn, HasCauses, StandsAt, kind_of}
-use Rattle.dialogue.specs.Saves.{Begun, IsAllPutAway, IsCutShort, IsOf, IsPutAway, IsReached, CutShort, NamesNoStore, PassesStore, SavesLawfully, Start, StoresFront, byte_of, bytes_of, since}
+use Rattle.dialogue.specs.Saves.{Begun, IsAllPutAway, IsCutShort, IsOf, IsPutAway, IsReached, CutShort, NamesNoStore, PassesStore, ReadsLawfully, SavesLawfully, Start, StoresFront, byte_of, bytes_of, since}
 use Rattle.outside.proofs.Moments.{leaves_in_a_row, leaves_more}
 use Rattle.dialogue.proofs.MomentLemmas.{count_bytes, counted_both, take_all, take_both}
 use Rattle.dialogue.proofs.StoreLemmas.{StaysSaved, bytes_more}
@@ -132,17 +134,18 @@ after_mode (Some (ask.Show id)) m = refl
 after_mode (Some ask.Stat) m = refl
 
 -- a halt that has no limit on a store for a cause names none
-pub names_none : (read write store : Type 0) (why : Halt) → HasCauses read write store ⊥ why → NamesNoStore why
-names_none read write store (halt.Unwritten other) cause full is = cause
-names_none read write store halt.NoMemory cause full is = cc
-names_none read write store halt.ReadFault cause full is = cc
-names_none read write store halt.WriteFault cause full is = cc
-names_none read write store halt.StoreFault cause full is = cc
-names_none read write store (halt.Full other) cause full is = cc
+pub names_none : (read write store hidden : Type 0) (why : Halt) → HasCauses read write store hidden ⊥ why → NamesNoStore why
+names_none read write store hidden (halt.Unwritten other) cause full is = cause
+names_none read write store hidden halt.NoMemory cause full is = cc
+names_none read write store hidden halt.ReadFault cause full is = cc
+names_none read write store hidden halt.WriteFault cause full is = cc
+names_none read write store hidden halt.StoreFault cause full is = cc
+names_none read write store hidden (halt.BadRow place) cause full is = cc
+names_none read write store hidden (halt.Full other) cause full is = cc
 
-pub never_named : (r : Result Unit Halt) (read write store : Type 0) (full : Full) → IfErr r (HasCauses read write store ⊥) → r ≡ Err (halt.Unwritten full) → ⊥
-never_named (Ok t) read write store full cause is = cc
-never_named (Err why) read write store full cause is = names_none read write store why cause full (let e : why ≡ halt.Unwritten full = cc in e)
+pub never_named : (r : Result Unit Halt) (read write store hidden : Type 0) (full : Full) → IfErr r (HasCauses read write store hidden ⊥) → r ≡ Err (halt.Unwritten full) → ⊥
+never_named (Ok t) read write store hidden full cause is = cc
+never_named (Err why) read write store hidden full cause is = names_none read write store hidden why cause full (let e : why ≡ halt.Unwritten full = cc in e)
 
 -- want of memory names none
 pub memory_names : NamesNoStore halt.NoMemory
@@ -159,17 +162,41 @@ either_later A A2 B B2 f g (inl a) = inl (f a)
 either_later A A2 B B2 f g (inr b) = inr (g b)
 
 -- causes of a part of a run are causes of the run
-pub causes_later : (read read2 write write2 store store2 limit : Type 0) (why : Halt) → (read → read2) → (write → write2) → (store → store2) → HasCauses read write store limit why → HasCauses read2 write2 store2 limit why
-causes_later read read2 write write2 store store2 limit halt.NoMemory e f g h = tt
-causes_later read read2 write write2 store store2 limit halt.ReadFault e f g h = e h
-causes_later read read2 write write2 store store2 limit halt.WriteFault e f g h = f h
-causes_later read read2 write write2 store store2 limit halt.StoreFault e f g h = g h
-causes_later read read2 write write2 store store2 limit (halt.Full full) e f g h = tt
-causes_later read read2 write write2 store store2 limit (halt.Unwritten full) e f g h = h
+pub causes_later : (read read2 write write2 store store2 hidden hidden2 limit : Type 0) (why : Halt) → (read → read2) → (write → write2) → (store → store2) → (hidden → hidden2)
+    → HasCauses read write store hidden limit why → HasCauses read2 write2 store2 hidden2 limit why
+causes_later read read2 write write2 store store2 hidden hidden2 limit halt.NoMemory e f g k h = tt
+causes_later read read2 write write2 store store2 hidden hidden2 limit halt.ReadFault e f g k h = e h
+causes_later read read2 write write2 store store2 hidden hidden2 limit halt.WriteFault e f g k h = f h
+causes_later read read2 write write2 store store2 hidden hidden2 limit halt.StoreFault e f g k h = g h
+causes_later read read2 write write2 store store2 hidden hidden2 limit (halt.BadRow place) e f g k h = k h
+causes_later read read2 write write2 store store2 hidden hidden2 limit (halt.Full full) e f g k h = tt
+causes_later read read2 write write2 store store2 hidden hidden2 limit (halt.Unwritten full) e f g k h = h
 
-pub causes_on : {T : Type 0} (read read2 write write2 store store2 limit : Type 0) (r : Result T Halt) → (read → read2) → (write → write2) → (store → store2) → IfErr r (HasCauses read write store limit) → IfErr r (HasCauses read2 write2 store2 limit)
-causes_on read read2 write write2 store store2 limit (Ok t) e f g h = tt
-causes_on read read2 write write2 store store2 limit (Err why) e f g h = causes_later read read2 write write2 store store2 limit why e f g h
+pub causes_on : {T : Type 0} (read read2 write write2 store store2 hidden hidden2 limit : Type 0) (r : Result T Halt) → (read → read2) → (write → write2) → (store → store2) → (hidden → hidden2)
+    → IfErr r (HasCauses read write store hidden limit) → IfErr r (HasCauses read2 write2 store2 hidden2 limit)
+causes_on read read2 write write2 store store2 hidden hidden2 limit (Ok t) e f g k h = tt
+causes_on read read2 write write2 store store2 hidden hidden2 limit (Err why) e f g k h = causes_later read read2 write write2 store store2 hidden hidden2 limit why e f g k h
+
+-- why a question isn't answered over rows that may be hidden
+asked_hidden : (read write store store2 told hidden limit : Type 0) (why : Halt) → hidden → (store → store2) → HasCauses ⊥ ⊥ store told ⊥ why → HasCauses read write store2 hidden limit why
+asked_hidden read write store store2 told hidden limit halt.NoMemory hides g h = tt
+asked_hidden read write store store2 told hidden limit halt.ReadFault hides g h = absurd h
+asked_hidden read write store store2 told hidden limit halt.WriteFault hides g h = absurd h
+asked_hidden read write store store2 told hidden limit halt.StoreFault hides g h = g h
+asked_hidden read write store store2 told hidden limit (halt.BadRow place) hides g h = hides
+asked_hidden read write store store2 told hidden limit (halt.Full full) hides g h = tt
+asked_hidden read write store store2 told hidden limit (halt.Unwritten full) hides g h = absurd h
+
+-- the same over rows that may be hidden, or else never fail and are always observable
+pub asked_why : (never always read write store store2 told hidden limit : Type 0) (why : Halt) → (never × always) ⊎ hidden → (never → always → why ≡ halt.NoMemory) → (store → store2)
+    → HasCauses ⊥ ⊥ store told ⊥ why → HasCauses read write store2 hidden limit why
+asked_why never always read write store store2 told hidden limit why (inl both) memory g h = let is : why ≡ halt.NoMemory = memory both.0 both.1 in rw is tt
+asked_why never always read write store store2 told hidden limit why (inr hides) memory g h = asked_hidden read write store store2 told hidden limit why hides g h
+
+pub asked_causes : {T : Type 0} (never always read write store store2 told hidden limit : Type 0) (r : Result T Halt) → (never × always) ⊎ hidden → (never → always → IfErr r (λ why. why ≡ halt.NoMemory)) → (store → store2)
+    → IfErr r (HasCauses ⊥ ⊥ store told ⊥) → IfErr r (HasCauses read write store2 hidden limit)
+asked_causes never always read write store store2 told hidden limit (Ok t) seen memory g h = tt
+asked_causes never always read write store store2 told hidden limit (Err why) seen memory g h = asked_why never always read write store store2 told hidden limit why seen memory g h
 
 module _ {K : Type 0} (alike : K → K → Type 0) (can : K → Type 0) (holds : Start K → Limits → Engine K → Moment → Type 0) (ends : Start K → Limits → K → Moment → Halt → Type 0) (uses rose : K → K → Type 0)
     (laws : SavesLawfully alike can holds ends uses rose) (start : Start K) (limits : Limits) where
@@ -195,16 +222,30 @@ module _ {K : Type 0} (alike : K → K → Type 0) (can : K → Type 0) (holds :
       → At (kind_of mode takes (holds start limits)) limits engine left (taken_on n m) → ends start limits rows (taken_on most m) why
   ends_at mode takes engine left rows m n most why within none same at = ends_by rows m n most why within (laws.ends_so start limits engine rows (taken_on n m) why none same at.holds)
 
-  -- want of memory
-  pub ends_memory : {T : Type 0} (mode : Mode) (takes : Bool) (engine : Engine K) (left : Option (List ℕ)) (rows : K) (m : Moment) (r : Result T Halt) → alike engine.joined.keep rows
-      → At (kind_of mode takes (holds start limits)) limits engine left m → IfErr r (λ why. why ≡ halt.NoMemory) → IfErr r (ends start limits rows m)
-  ends_memory mode takes engine left rows m (Ok t) same at memory = tt
-  ends_memory mode takes engine left rows m (Err why) same at memory = laws.ends_so start limits engine rows m why (λ full is. let no = memory in cc) same at.holds
+  -- a question that isn't answered
+  pub ends_asked : {T : Type 0} (mode : Mode) (takes : Bool) (engine : Engine K) (left : Option (List ℕ)) (rows : K) (m : Moment) (read write store hidden : Type 0) (r : Result T Halt) → alike engine.joined.keep rows
+      → At (kind_of mode takes (holds start limits)) limits engine left m → IfErr r (HasCauses read write store hidden ⊥) → IfErr r (ends start limits rows m)
+  ends_asked mode takes engine left rows m read write store hidden (Ok t) same at causes = tt
+  ends_asked mode takes engine left rows m read write store hidden (Err why) same at causes = laws.ends_so start limits engine rows m why (names_none read write store hidden why causes) same at.holds
 
   -- a run that came to an end of its log, or was cut short before a moment
   pub cut_short : (mode : Mode) (takes : Bool) (engine : Engine K) (left : Option (List ℕ)) (rows : K) (m : Moment) (why : Halt) → NamesNoStore why → alike engine.joined.keep rows
       → At (kind_of mode takes (holds start limits)) limits engine left m → CutShort (ends start limits) mode rows why
   cut_short mode takes engine left rows m why none same at = record { to = m; in_mode = at.in_mode; ends = laws.ends_so start limits engine rows m why none same at.holds }
+
+-- a count that stays at its begin doesn't rise
+never_rose : {A : Type 0} → Rose 0 0 ⊥ → A
+never_rose (inl above) = absurd (omega (arith, above))
+never_rose (inr none) = absurd none
+
+-- how reads of rows in memory belong to what is said of saving: none fails, and the rows are always observable
+pub reads_in_memory : {K : Type 0} (rows : K → List Row) (hidden : K → Type 0) (uses rose : K → K → Type 0) → ((a b : K) → uses a b → hidden b → hidden a)
+    → ReadsLawfully (λ s. Some (rows s)) (λ s. 0) (λ s. ⊥) hidden uses rose
+reads_in_memory rows hidden uses rose before = record {
+  failed = λ a b rises. never_rose rises;
+  seen = λ a. inl ((λ s. (refl, λ none. none)), (λ s. (rows s, refl)));
+  before = before;
+}
 
 -- the begin of a run that keeps its rows in memory
 pub in_memory : {K : Type 0} (log : List ℕ) (rows : K) → Start K

@@ -157,6 +157,6 @@ pub front_none : (limits : Limits) (mode : Mode) (h : History) (old : Option (Li
 front_none limits mode h old = record { bytes = []; wrote = appends_none old; front = inl refl }
 
 -- no limit was due
-pub never_due : (r : Result Unit Halt) (passes : Full → Type 0) → IfErr r (IsDue never) → IfErr r (IsDue passes)
+pub never_due : {T : Type 0} (r : Result T Halt) (passes : Full → Type 0) → IfErr r (IsDue never) → IfErr r (IsDue passes)
 never_due (Ok t) passes due = tt
 never_due (Err why) passes due = due_weaker why never passes (λ full none. absurd none) due

@@ -87,6 +87,7 @@ leads_halted limits P Q a b f g s bytes halt.NoMemory carries first x = leads_fr
 leads_halted limits P Q a b f g s bytes halt.ReadFault carries first x = leads_front limits a b f g s bytes first x
 leads_halted limits P Q a b f g s bytes halt.WriteFault carries first x = leads_front limits a b f g s bytes first x
 leads_halted limits P Q a b f g s bytes halt.StoreFault carries first x = leads_front limits a b f g s bytes first x
+leads_halted limits P Q a b f g s bytes (halt.BadRow place) carries first x = x
 leads_halted limits P Q a b f g s bytes (halt.Unwritten other) carries first x = leads_front limits a b f g s bytes first x
 
 -- a part that goes on from where another led
@@ -111,6 +112,7 @@ no_reply limits m q halt.NoMemory fits over = nothing_said limits m _
 no_reply limits m q halt.ReadFault fits over = nothing_said limits m _
 no_reply limits m q halt.WriteFault fits over = nothing_said limits m _
 no_reply limits m q halt.StoreFault fits over = nothing_said limits m _
+no_reply limits m q (halt.BadRow place) fits over = over
 no_reply limits m q (halt.Unwritten other) fits over = nothing_said limits m _
 
 -- a halt that no limit made
@@ -120,6 +122,7 @@ other_halt limits beyond m questions bytes halt.NoMemory none x = x
 other_halt limits beyond m questions bytes halt.ReadFault none x = x
 other_halt limits beyond m questions bytes halt.WriteFault none x = x
 other_halt limits beyond m questions bytes halt.StoreFault none x = x
+other_halt limits beyond m questions bytes (halt.BadRow place) none x = none
 other_halt limits beyond m questions bytes (halt.Unwritten other) none x = x
 
 after_turn : (t : Turn) (A B : Type 0) → A → B → AfterTurn t A B
@@ -186,6 +189,7 @@ halted_more limits beyond a f g bytes halt.NoMemory x = front_more limits a f g 
 halted_more limits beyond a f g bytes halt.ReadFault x = front_more limits a f g bytes x
 halted_more limits beyond a f g bytes halt.WriteFault x = front_more limits a f g bytes x
 halted_more limits beyond a f g bytes halt.StoreFault x = front_more limits a f g bytes x
+halted_more limits beyond a f g bytes (halt.BadRow place) x = x
 halted_more limits beyond a f g bytes (halt.Unwritten other) x = front_more limits a f g bytes x
 
 -- what ended goes no further

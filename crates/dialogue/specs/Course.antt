@@ -22,26 +22,28 @@ pub record GoesUp (before now : ℕ) (was_spent spent : Type 0) : Type 0 where
   pub later : before ≤ now
   pub stays : was_spent → spent
 
--- each fault of a device has its cause, and so has a limit on a store
-abbrev pub HasCauses : (read write store limit : Type 0) → Halt → Type 0
-HasCauses read write store limit halt.NoMemory = ⊤
-HasCauses read write store limit halt.ReadFault = read
-HasCauses read write store limit halt.WriteFault = write
-HasCauses read write store limit halt.StoreFault = store
-HasCauses read write store limit (halt.Full full) = ⊤
-HasCauses read write store limit (halt.Unwritten full) = limit
+-- each fault of a device has its cause, and so have a place without a row and a limit on a store
+abbrev pub HasCauses : (read write store hidden limit : Type 0) → Halt → Type 0
+HasCauses read write store hidden limit halt.NoMemory = ⊤
+HasCauses read write store hidden limit halt.ReadFault = read
+HasCauses read write store hidden limit halt.WriteFault = write
+HasCauses read write store hidden limit halt.StoreFault = store
+HasCauses read write store hidden limit (halt.BadRow place) = hidden
+HasCauses read write store hidden limit (halt.Full full) = ⊤
+HasCauses read write store hidden limit (halt.Unwritten full) = limit
 
 -- a limit that only a run passes that takes a log
 abbrev pub when_takes : (takes : Bool) → (limit : Type 0) → Type 0
 when_takes true limit = limit
 when_takes false limit = ⊥
 
--- a limit that is named would be passed
+-- a limit that is named would be passed, and no place without a row is named
 abbrev pub IsDue : (Full → Type 0) → Halt → Type 0
 IsDue passes halt.NoMemory = ⊤
 IsDue passes halt.ReadFault = ⊤
 IsDue passes halt.WriteFault = ⊤
 IsDue passes halt.StoreFault = ⊤
+IsDue passes (halt.BadRow place) = ⊥
 IsDue passes (halt.Full full) = passes full
 IsDue passes (halt.Unwritten full) = ⊤
 
@@ -95,10 +97,11 @@ pub record Stopped (limits : Limits) (beyond : Beyond) (writes : List Reply → 
   pub fits : Fits limits to.history
   pub bytes_are : bytes ≡ writes said
 
--- a limit stopped the run, or it halted for another cause after a prefix of the replies was written
+-- A limit stopped the run, or it halted for another cause after a prefix of the replies was written. It met no place without a row
 abbrev pub Halted : Limits → Beyond → Moment → List (Option Ask) → List ℕ → Halt → Type 0
 Halted limits beyond from questions bytes (halt.Full full) =
     Stopped limits beyond texts from questions bytes full
+Halted limits beyond from questions bytes (halt.BadRow place) = ⊥
 Halted limits beyond from questions bytes _ = IsFront limits from questions bytes
 
 -- these bytes are what was answered to these questions, up to where the part ended

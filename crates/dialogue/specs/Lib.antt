@@ -4,6 +4,5 @@ pub mod Hearing
 pub mod Listening
 pub mod Runs
 pub mod Saves
-pub mod Sessions
 pub mod Settles
 pub mod StoreHalts

@@ -1,5 +1,5 @@
 -- A run over a log: where it began, what it takes, and what a crash or a halt leaves of it.
-use Rattle.std.specs.Prelude.{◌≡◌, ◌⊎◌, ◌≤◌, Bool, true, false, if◌then◌else◌, ⊤, ℕ, ◌+◌, ◌-◌, List, [], ◌∷◌, ◌++◌, map, length, drop, Option, Some, Result, Err, IfErr}
+use Rattle.std.specs.Prelude.{◌≡◌, ◌⊎◌, ◌≤◌, Bool, true, false, if◌then◌else◌, ⊤, ℕ, List, [], ◌∷◌, ◌++◌, map, length, drop, Option, Some, Result, Err, IfErr}
 use Rattle.std.specs.Io.KnownBytes.{Appends}
 use Rattle.flow_base.specs.declared.limits.Limits.{Limits}
 use Rattle.outside.specs.Disk.{DiskState, LeavesOnly, OnlyLooks}
@@ -13,7 +13,7 @@ use Rattle.dialogue.specs.declared.halt.StoreHalt.{StoreHalt}
 use Rattle.dialogue.specs.declared.halt.StoreHalt.TheVariants as over
 use Rattle.dialogue.specs.declared.halt.Halt.TheVariants as halt
 use Rattle.dialogue.specs.Dialogue.{Moment, settled_on, taken_on}
-use Rattle.dialogue.specs.Saves.{Begun, LacksAtMost, since}
+use Rattle.dialogue.specs.Saves.{Begun, LacksAtMost}
 
 -- what a run over a log began from: at the log's first byte, or after those of it that the store has taken
 abbrev pub begun_of : (resume : Bool) → History → (before : ℕ) → List ℕ → Begun

@@ -8,6 +8,8 @@ use Rattle.audit_lex.specs.History.{History, Step, Byte, Settle}
 use Rattle.batch_log.specs.Batches.{IsStore}
 use Rattle.batch_log.specs.Log.{Log}
 use Rattle.reach_model.specs.declared.modes.Mode.{Mode}
+use Rattle.reach_model.specs.Rows.{Row}
+use Rattle.kept_flows.specs.Answering.{AlwaysTold, NeverFail}
 use Rattle.row_codec.specs.declared.rows.StoreRow.{StoreRow}
 use Rattle.reduced_store.specs.OnDisk.{OnDisk}
 use Rattle.ingest.specs.Counting.{bytes_in}
@@ -238,3 +240,19 @@ UsesStore state faults spent old new = UsesDisk state faults spent old.disk new.
 
 abbrev pub RoseIn : {D : Type 0} → (D → ℕ) → (D → Type 0) → OnDisk D → OnDisk D → Type 0
 RoseIn faults spent old new = Rose (faults old.disk) (faults new.disk) (spent new.disk)
+
+-- How reads of rows belong to what is said of saving. A read that failed is a failed call. Either no read fails and the rows are always
+-- observable, or the rows may be hidden, and then they were so before.
+pub record ReadsLawfully {K : Type 0} (rows : K → Option (List Row)) (faults : K → ℕ) (spent : K → Type 0) (hidden : K → Type 0)
+    (uses rose : K → K → Type 0) : Type 0 where
+  pub failed : (a b : K) → Rose (faults a) (faults b) (spent b) → rose a b
+  pub seen : (a : K) → (NeverFail faults spent × AlwaysTold rows) ⊎ hidden a
+  pub before : (a b : K) → uses a b → hidden b → hidden a
+
+-- rows in memory are never hidden
+abbrev pub hides_none : {K : Type 0} → K → Type 0
+hides_none rows = ⊥
+
+-- the rows of a store may be hidden if its disk isn't observable
+abbrev pub IsHiddenIn : {D : Type 0} → (D → DiskState) → OnDisk D → Type 0
+IsHiddenIn state rows = ¬ (state rows.disk).told

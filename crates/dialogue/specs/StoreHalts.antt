@@ -4,6 +4,8 @@ use Rattle.flow_base.specs.declared.limits.Full.{Full}
 use Rattle.reach_model.specs.declared.modes.Mode.{Mode}
 use Rattle.batch_log.specs.declared.log.CommitFault.{CommitFault}
 use Rattle.batch_log.specs.declared.log.CommitFault.TheVariants as commit
+use Rattle.ingest.specs.declared.ask_fault.AskFault.{AskFault}
+use Rattle.ingest.specs.declared.ask_fault.AskFault.TheVariants as asking
 use Rattle.ingest.specs.declared.restoring.RestoreFault.{RestoreFault}
 use Rattle.ingest.specs.declared.restoring.RestoreFault.TheVariants as restore
 use Rattle.reduced_store.specs.declared.opened.OpenFault.{OpenFault}
@@ -19,6 +21,12 @@ abbrev pub commit_halt : CommitFault → Halt
 commit_halt commit.StoreFault = halt.StoreFault
 commit_halt (commit.Full full) = halt.Unwritten full
 commit_halt commit.NoMemory = halt.NoMemory
+
+-- a question that wasn't answered
+abbrev pub ask_halt : AskFault → Halt
+ask_halt asking.StoreFault = halt.StoreFault
+ask_halt (asking.BadStore place) = halt.BadRow place
+ask_halt asking.NoMemory = halt.NoMemory
 
 -- a disk that wasn't opened
 abbrev pub open_halt : OpenFault → StoreHalt
@@ -52,14 +60,14 @@ abbrev pub shorter_in : (resume : Bool) → ℕ → ℕ → Type 0
 shorter_in true = is_shorter
 shorter_in false = no_lengths
 
--- each fault of a device, and each refusal of a store, has its cause
-abbrev pub HasStoreCauses : (read write store : Type 0) (bad : ℕ → Type 0) (wrong : Mode → Mode → Type 0) (short : ℕ → ℕ → Type 0) → StoreHalt → Type 0
-HasStoreCauses read write store bad wrong short (over.Run why) = HasCauses read write store ⊤ why
-HasStoreCauses read write store bad wrong short (over.BadStore place) = bad place
-HasStoreCauses read write store bad wrong short (over.WrongMode kept asked) = wrong kept asked
-HasStoreCauses read write store bad wrong short (over.ShortLog taken had) = short taken had
+-- each fault of a device, each place without a row, and each refusal of a store, has its cause
+abbrev pub HasStoreCauses : (read write store hidden : Type 0) (bad : ℕ → Type 0) (wrong : Mode → Mode → Type 0) (short : ℕ → ℕ → Type 0) → StoreHalt → Type 0
+HasStoreCauses read write store hidden bad wrong short (over.Run why) = HasCauses read write store hidden ⊤ why
+HasStoreCauses read write store hidden bad wrong short (over.BadStore place) = bad place
+HasStoreCauses read write store hidden bad wrong short (over.WrongMode kept asked) = wrong kept asked
+HasStoreCauses read write store hidden bad wrong short (over.ShortLog taken had) = short taken had
 
--- a limit that is named would be passed
+-- a limit that is named would be passed, and no place without a row is named
 abbrev pub IsRunDue : (passes : Full → Type 0) → StoreHalt → Type 0
 IsRunDue passes (over.Run why) = IsDue passes why
 IsRunDue passes _ = ⊤

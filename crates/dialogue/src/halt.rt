@@ -3,11 +3,11 @@ ghost use Rattle.std.specs.Prelude.{◌≡◌};
 ghost use Rattle.dialogue.specs.declared.halt.Halt.TheVariants as halt;
 ghost use Rattle.dialogue.specs.declared.halt.StoreHalt.TheVariants as over;
 ghost use Rattle.dialogue.specs.Course.{halt_for};
-ghost use Rattle.dialogue.specs.StoreHalts.{commit_halt, open_halt, over_run, restore_halt};
+ghost use Rattle.dialogue.specs.StoreHalts.{ask_halt, commit_halt, open_halt, over_run, restore_halt};
 
 use batch_log::CommitFault;
 use flow_base::{Full, NoMemory};
-use ingest::{RestoreFault, StopWhy};
+use ingest::{AskFault, RestoreFault, StopWhy};
 use reach_model::Mode;
 use reduced_store::OpenFault;
 
@@ -19,6 +19,8 @@ pub enum Halt {
     WriteFault,
     /// A call on the disk of a store failed.
     StoreFault,
+    /// At this place of an opened store stands no row.
+    BadRow(u64),
     Full(Full),
     /// A batch would pass a limit of a store.
     Unwritten(Full),
@@ -92,6 +94,17 @@ pub fn halt_of_restore(fault: RestoreFault) -> StoreHalt
         RestoreFault::BadStore(place) => StoreHalt::BadStore(place),
         RestoreFault::Full(full) => StoreHalt::Run(Halt::Full(full)),
         RestoreFault::NoMemory => StoreHalt::Run(Halt::NoMemory),
+    }
+}
+
+/// Why a question wasn't answered, as a halt.
+pub fn halt_of_ask(fault: AskFault) -> Halt
+    ensures { result ≡ ask_halt fault }
+{
+    match fault {
+        AskFault::StoreFault => Halt::StoreFault,
+        AskFault::BadStore(place) => Halt::BadRow(place),
+        AskFault::NoMemory => Halt::NoMemory,
     }
 }
 

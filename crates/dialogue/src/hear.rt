@@ -63,7 +63,7 @@ fn hear_line<R: Reducer, K: Saves, L: Source, O: Sink>(
         (Rose (L.faults log.old) (L.faults log.new) (L.spent log.new))
         (Rose (O.faults out.old) (O.faults out.new) (O.spent out.new))
         (K.rose session.old.engine.joined.keep session.new.engine.joined.keep)
-        (when_takes takes K.limited)) }
+        (K.hidden session.old.engine.joined.keep) (when_takes takes K.limited)) }
     ensures log { GoesUp (L.faults log.old) (L.faults log.new) (L.spent log.old) (L.spent log.new) }
     ensures out { GoesUp (O.faults out.old) (O.faults out.new) (O.spent out.old) (O.spent out.new) }
     ensures uses { K.uses session.old.engine.joined.keep session.new.engine.joined.keep }
@@ -128,7 +128,7 @@ pub fn hear<R: Reducer, K: Saves, L: Source, O: Sink>(
         (Rose (L.faults log.old) (L.faults log.new) (L.spent log.new))
         (Rose (O.faults out.old) (O.faults out.new) (O.spent out.new))
         (K.rose session.old.engine.joined.keep session.new.engine.joined.keep)
-        (when_takes takes K.limited)) }
+        (K.hidden session.old.engine.joined.keep) (when_takes takes K.limited)) }
     ensures log { GoesUp (L.faults log.old) (L.faults log.new) (L.spent log.old) (L.spent log.new) }
     ensures out { GoesUp (O.faults out.old) (O.faults out.new) (O.spent out.old) (O.spent out.new) }
     ensures uses { K.uses session.old.engine.joined.keep session.new.engine.joined.keep }
@@ -137,6 +137,7 @@ pub fn hear<R: Reducer, K: Saves, L: Source, O: Sink>(
 {
     lines_stay();
     K::saves_lawfully();
+    K::reads_lawfully();
     K::lacks_lawfully();
     let mut at = 0;
     while at < piece.len() {

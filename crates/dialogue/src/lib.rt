@@ -13,7 +13,7 @@ mod saving;
 mod session;
 mod turn;
 
-pub use halt::{Halt, StoreHalt, halt_of, halt_of_open, halt_of_restore, halted};
+pub use halt::{Halt, StoreHalt, halt_of, halt_of_ask, halt_of_open, halt_of_restore, halted};
 pub use listen::watch;
 pub use log::pass_over;
 pub use saving::{Saves, settle_all, take};

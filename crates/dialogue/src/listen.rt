@@ -87,7 +87,7 @@ fn listen<R: Reducer, K: Saves, L: Source, Q: Source, O: Sink>(
         ⊎ Rose (Q.faults questions.old) (Q.faults questions.new) (Q.spent questions.new))
         (Rose (O.faults out.old) (O.faults out.new) (O.spent out.new))
         (K.rose session.old.engine.joined.keep session.new.engine.joined.keep)
-        (when_takes takes K.limited)) }
+        (K.hidden session.old.engine.joined.keep) (when_takes takes K.limited)) }
     ensures log { GoesUp (L.faults log.old) (L.faults log.new) (L.spent log.old) (L.spent log.new) }
     ensures questions { GoesUp
         (Q.faults questions.old) (Q.faults questions.new)
@@ -163,7 +163,7 @@ fn finish<R: Reducer, K: Saves, L: Source, O: Sink>(
         (Rose (L.faults log.old) (L.faults log.new) (L.spent log.new))
         (Rose (O.faults out.old) (O.faults out.new) (O.spent out.new))
         (K.rose session.old.engine.joined.keep session.new.engine.joined.keep)
-        (when_takes takes K.limited)) }
+        (K.hidden session.old.engine.joined.keep) (when_takes takes K.limited)) }
     ensures log { GoesUp (L.faults log.old) (L.faults log.new) (L.spent log.old) (L.spent log.new) }
     ensures out { GoesUp (O.faults out.old) (O.faults out.new) (O.spent out.old) (O.spent out.new) }
     ensures uses { K.uses session.old.engine.joined.keep session.new.engine.joined.keep }
@@ -234,13 +234,14 @@ pub fn watch<R: Reducer, K: Saves, L: Source, Q: Source, O: Sink>(
         ⊎ Rose (Q.faults questions.old) (Q.faults questions.new) (Q.spent questions.new))
         (Rose (O.faults out.old) (O.faults out.new) (O.spent out.new))
         (K.rose session.old.engine.joined.keep session.new.engine.joined.keep)
-        (when_takes takes K.limited)) }
+        (K.hidden session.old.engine.joined.keep) (when_takes takes K.limited)) }
     ensures uses { K.uses session.old.engine.joined.keep session.new.engine.joined.keep }
     ensures alike { takes ≡ false
         → K.alike session.old.engine.joined.keep session.new.engine.joined.keep }
 {
     lines_stay();
     K::saves_lawfully();
+    K::reads_lawfully();
     K::lacks_lawfully();
     let mut cut = LineCut::new(session.alloc, limits.question);
     let mut heard: u64 = 0;

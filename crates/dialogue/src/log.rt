@@ -33,7 +33,7 @@ fn take_piece<R: Reducer, K: Keep, L: Source>(
         → StandsAt limits engine.old (L.left log.old) m
         → IfErr result (IsDue (Stops limits (taken_on (length buf.old) m).history)) }
     ensures causes { IfErr result
-        (HasCauses (Rose (L.faults log.old) (L.faults log.new) (L.spent log.new)) ⊥ ⊥ ⊥) }
+        (HasCauses (Rose (L.faults log.old) (L.faults log.new) (L.spent log.new)) ⊥ ⊥ ⊥ ⊥) }
     ensures left { (bytes : List ℕ) → L.left log.old ≡ Some bytes
         → LeavesAllBut (count_of result (length buf.old)) bytes (L.left log.new) }
     ensures part { IfOk result (CountsOn engine.old.part engine.new.part) }
@@ -74,7 +74,7 @@ pub fn take_log<R: Reducer, K: Keep, L: Source>(
         → StandsAt limits engine.old (L.left log.old) m
         → IfErr result (IsDue (Stops limits (taken_on most m).history)) }
     ensures causes { IfErr result
-        (HasCauses (Rose (L.faults log.old) (L.faults log.new) (L.spent log.new)) ⊥ ⊥ ⊥) }
+        (HasCauses (Rose (L.faults log.old) (L.faults log.new) (L.spent log.new)) ⊥ ⊥ ⊥ ⊥) }
     ensures left { (bytes : List ℕ) → L.left log.old ≡ Some bytes
         → LeavesAllBut (count_of result most) bytes (L.left log.new) }
     ensures part { IfOk result (CountsOn engine.old.part engine.new.part) }
@@ -107,7 +107,7 @@ pub fn pass_over<L: Source>(log: &mut L, buf: &mut [u8], most: u64) -> Result<u6
         → LeavesAllBut most bytes (L.left log.new) }
     ensures due { IfErr result (λ why. why ≡ halt.ReadFault) }
     ensures causes { IfErr result
-        (HasCauses (Rose (L.faults log.old) (L.faults log.new) (L.spent log.new)) ⊥ ⊥ ⊥) }
+        (HasCauses (Rose (L.faults log.old) (L.faults log.new) (L.spent log.new)) ⊥ ⊥ ⊥ ⊥) }
     ensures counts { GoesUp
         (L.faults log.old) (L.faults log.new) (L.spent log.old) (L.spent log.new) }
 {

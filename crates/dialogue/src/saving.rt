@@ -13,7 +13,7 @@ ghost use Rattle.dialogue.specs.declared.halt.Halt.{Halt};
 ghost use Rattle.dialogue.specs.declared.halt.Halt.TheVariants as halt;
 ghost use Rattle.dialogue.specs.Dialogue.{Moment, settled_on, taken_on};
 ghost use Rattle.dialogue.specs.Course.{At, GoesUp, HasCauses, IsDue, kind_of, never};
-ghost use Rattle.dialogue.specs.Saves.{AddsLawfully, KeepsPace, LacksLawfully, SavesLawfully, Start, lack_of};
+ghost use Rattle.dialogue.specs.Saves.{AddsLawfully, KeepsPace, LacksLawfully, ReadsLawfully, SavesLawfully, Start, lack_of};
 
 use crate::halt::Halt;
 use crate::log::take_log;
@@ -56,6 +56,9 @@ pub trait Saves: Keep {
     /// The count of failed calls rose from one state to the other.
     ghost rose: { Self → Self → Type 0 };
 
+    /// The rows may not be observable, so a read may find no row at a place.
+    ghost hidden: { Self → Type 0 };
+
     /// Saves all that the engine has taken.
     fn save<R: Reducer>(engine: &mut Ingest<R, Self>) -> Result<(), Halt>
         requires can { can engine.old.joined.keep }
@@ -80,12 +83,16 @@ pub trait Saves: Keep {
         ensures stands { StandsStill engine.old engine.new }
         ensures due { IfErr result (IsDue never) }
         ensures causes { IfErr result
-            (HasCauses ⊥ ⊥ (rose engine.old.joined.keep engine.new.joined.keep) limited) }
+            (HasCauses ⊥ ⊥ (rose engine.old.joined.keep engine.new.joined.keep) ⊥ limited) }
         ensures uses { uses engine.old.joined.keep engine.new.joined.keep };
 
     /// How what is said of saving belongs together.
     fn saves_lawfully()
         ensures { SavesLawfully Self.alike can holds ends uses rose };
+
+    /// How reads of the rows belong to what is said of saving.
+    fn reads_lawfully()
+        ensures { ReadsLawfully Self.rows Self.faults Self.spent hidden uses rose };
 
     /// How what is said of lacking belongs together.
     fn lacks_lawfully()
@@ -98,7 +105,7 @@ pub trait Saves: Keep {
 
 impl Saves for VecRows {
     ghost use Rattle.std.specs.Prelude.{◌≡◌};
-    ghost use Rattle.dialogue.specs.Saves.{adds_nothing, can_always, lacks_nothing, nothing_cut, nothing_more, nothing_put, rises_never, uses_none};
+    ghost use Rattle.dialogue.specs.Saves.{adds_nothing, can_always, hides_none, lacks_nothing, nothing_cut, nothing_more, nothing_put, rises_never, uses_none};
 
     ghost can = { can_always };
 
@@ -118,11 +125,15 @@ impl Saves for VecRows {
 
     ghost rose = { rises_never };
 
+    ghost hidden = { hides_none };
+
     fn save<R: Reducer>(_engine: &mut Ingest<R, VecRows>) -> Result<(), Halt> {
         Ok(())
     }
 
     fn saves_lawfully() {}
+
+    fn reads_lawfully() {}
 
     fn lacks_lawfully() {}
 
@@ -132,7 +143,7 @@ impl Saves for VecRows {
 impl<D: Disk> Saves for Store<D> {
     ghost use Rattle.std.specs.Prelude.{◌≡◌, ⊤};
     ghost use Rattle.kept_flows.specs.Committing.{CanCommit};
-    ghost use Rattle.dialogue.specs.Saves.{AddsToStore, IsAllPutAway, IsCutShort, IsPutAway, LacksInStore, RoseIn, UsesStore};
+    ghost use Rattle.dialogue.specs.Saves.{AddsToStore, IsAllPutAway, IsCutShort, IsHiddenIn, IsPutAway, LacksInStore, RoseIn, UsesStore};
 
     ghost can = { CanCommit D.state };
 
@@ -152,6 +163,8 @@ impl<D: Disk> Saves for Store<D> {
 
     ghost rose = { RoseIn D.faults D.spent };
 
+    ghost hidden = { IsHiddenIn D.state };
+
     fn save<R: Reducer>(engine: &mut Ingest<R, Store<D>>) -> Result<(), Halt> {
         a_disk_reads_in_one_way();
         payloads_are_apart();
@@ -163,6 +176,8 @@ impl<D: Disk> Saves for Store<D> {
         what_can_commit_still_can::<D>();
         what_is_saved_stays_saved::<D>();
     }
+
+    fn reads_lawfully() {}
 
     fn lacks_lawfully() {}
 
@@ -200,7 +215,7 @@ fn fill<R: Reducer, K: Saves>(session: &mut Session<R, K>, taken: u64) -> Result
     ensures batch { session.new.batch ≡ session.old.batch }
     ensures due { IfErr result (IsDue never) }
     ensures causes { IfErr result (HasCauses ⊥ ⊥
-        (K.rose session.old.engine.joined.keep session.new.engine.joined.keep) K.limited) }
+        (K.rose session.old.engine.joined.keep session.new.engine.joined.keep) ⊥ K.limited) }
     ensures uses { K.uses session.old.engine.joined.keep session.new.engine.joined.keep }
 {
     K::saves_lawfully();
@@ -259,7 +274,7 @@ pub fn take<R: Reducer, K: Saves, L: Source>(
     ensures batch { session.new.batch ≡ session.old.batch }
     ensures causes { IfErr result
         (HasCauses (Rose (L.faults log.old) (L.faults log.new) (L.spent log.new)) ⊥
-        (K.rose session.old.engine.joined.keep session.new.engine.joined.keep) K.limited) }
+        (K.rose session.old.engine.joined.keep session.new.engine.joined.keep) ⊥ K.limited) }
     ensures uses { K.uses session.old.engine.joined.keep session.new.engine.joined.keep }
     ensures counts { GoesUp
         (L.faults log.old) (L.faults log.new) (L.spent log.old) (L.spent log.new) }
@@ -321,7 +336,7 @@ pub fn settle_all<R: Reducer, K: Saves>(session: &mut Session<R, K>) -> Result<R
         (lack_of result session.new.unsaved 0) left (most + session.old.batch) }
     ensures batch { session.new.batch ≡ session.old.batch }
     ensures causes { IfErr result (HasCauses ⊥ ⊥
-        (K.rose session.old.engine.joined.keep session.new.engine.joined.keep) K.limited) }
+        (K.rose session.old.engine.joined.keep session.new.engine.joined.keep) ⊥ K.limited) }
     ensures uses { K.uses session.old.engine.joined.keep session.new.engine.joined.keep }
 {
     K::saves_lawfully();

@@ -1,7 +1,5 @@
 //! What a dialogue works with: an engine, and the memory through which the log comes to it.
 ghost use Rattle.std.specs.Prelude.{◌≡◌, ◌<◌, IfOk, length};
-ghost use Rattle.kept_flows.specs.Answering.{AlwaysTold, NeverFail};
-ghost use Rattle.dialogue.specs.Sessions.{told_once};
 
 use flow_base::NoMemory;
 use ingest::Ingest;
@@ -13,9 +11,6 @@ pub const PIECE: usize = 65_536;
 
 /// An engine that answers, and the buffer for each read of its log. The buffer is allocated once a
 /// run, in memory that can be refused, and no question allocates another.
-///
-/// The engine keeps its flows in rows that are always observable and whose reads never fail, so only
-/// the allocation of an answer can fail.
 #[derive(Drop)]
 pub struct Session<R: Reducer, K: Keep> {
     pub alloc: Global,
@@ -27,8 +22,6 @@ pub struct Session<R: Reducer, K: Keep> {
     pub unsaved: u64,
     pub ghost few: { unsaved < batch },
     pub ghost room: { length piece.items ≡ 65536 },
-    pub ghost never: { NeverFail K.faults K.spent },
-    pub ghost told: { AlwaysTold K.rows } by { told_once K.rows },
 }
 
 /// A buffer for the bytes of one read.

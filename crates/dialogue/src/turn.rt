@@ -1,5 +1,5 @@
 //! One question and its reply.
-ghost use Rattle.std.specs.Prelude.{false, Bool, ◌+◌, ◌*◌, ◌≡◌, ◌∷◌, ◌++◌, [], ℕ, List, length, take, Some, Option, IfOk, IfErr, OnOk, OnErr};
+ghost use Rattle.std.specs.Prelude.{false, Bool, ◌+◌, ◌*◌, ◌≡◌, ◌∷◌, ◌++◌, [], ℕ, List, length, take, None, Some, Option, IfOk, IfErr, OnOk, OnErr};
 ghost use Rattle.std.specs.Io.KnownBytes.{Appends};
 ghost use Rattle.flow_base.specs.declared.limits.Limits.{Limits};
 ghost use Rattle.outside.specs.Cause.{Rose};
@@ -19,11 +19,11 @@ ghost use Rattle.dialogue.specs.Settles.{settles_in_one};
 ghost use Rattle.dialogue.specs.Saves.{CutShort, KeepsPace, Start, lack_of};
 ghost use Rattle.dialogue.specs.Course.{At, kind_of, GoesUp, HasCauses, IsDue, Talked, never, when_takes};
 
-use crate::halt::{Halt, Turn, halt_of};
+use crate::halt::{Halt, Turn, halt_of, halt_of_ask};
 use crate::saving::{Saves, settle_all, take};
 use crate::session::Session;
 use audit_lex::Line;
-use ingest::{AskFault, Ingest};
+use ingest::Ingest;
 use outside::{Sink, Source, put_all};
 use reach_rows::{Keep, Reducer};
 use report_json::{Ask, Reply, read_question, reply_text, what_is_found_is_asked};
@@ -52,7 +52,7 @@ pub fn settle<R: Reducer, K: Keep>(engine: &mut Ingest<R, K>) -> Result<Reply, H
         → IfOk result (λ r. r ≡ reply.Settle (length (events_of limits (h ++ Settle ∷ [])))) }
     ensures due { (limits : Limits) (h : History) → StandsFor limits engine.old h
         → IfErr result (IsDue (Stops limits (h ++ Settle ∷ []))) }
-    ensures causes { IfErr result (HasCauses ⊥ ⊥ ⊥ ⊥) }
+    ensures causes { IfErr result (HasCauses ⊥ ⊥ ⊥ ⊥ ⊥) }
     ensures part { engine.new.part ≡ engine.old.part }
     ensures alike { K.alike engine.old.joined.keep engine.new.joined.keep }
     ensures marked { engine.new.joined.tables.marked ≡ engine.old.joined.tables.marked }
@@ -63,19 +63,24 @@ pub fn settle<R: Reducer, K: Keep>(engine: &mut Ingest<R, K>) -> Result<Reply, H
     }
 }
 
-/// The engine's reply to what is asked about what was taken. No read of its rows fails and they are
-/// observable, so it can only fail to allocate.
+/// The engine's reply to what is asked about what was taken.
+///
+/// `StoreFault` means that a read of the rows failed during this call, or that the rows have stopped
+/// counting failed reads. `BadRow` comes only from rows that aren't observable.
 pub fn reply_of<R: Reducer, K: Keep>(
     engine: &mut Ingest<R, K>,
     ask: &Ask<'_>,
 ) -> Result<Reply, Halt>
     requires asks { IsQuestion ask.now }
-    requires never { NeverFail K.faults K.spent }
-    requires told { AlwaysTold K.rows }
     ensures reply { IfOk result (λ reply. (limits : Limits) (h : History)
         → StandsFor limits engine.old h → IsReply R.mode limits h ask.now reply) }
-    ensures memory { IfErr result (λ why. why ≡ halt.NoMemory) }
-    ensures causes { IfErr result (HasCauses ⊥ ⊥ ⊥ ⊥) }
+    ensures memory { NeverFail K.faults K.spent → AlwaysTold K.rows
+        → IfErr result (λ why. why ≡ halt.NoMemory) }
+    ensures due { (limits : Limits) (h : History) → StandsFor limits engine.old h
+        → IfErr result (IsDue never) }
+    ensures causes { IfErr result (HasCauses ⊥ ⊥
+        (Rose (K.faults engine.old.joined.keep) (K.faults engine.new.joined.keep)
+        (K.spent engine.new.joined.keep)) (engine.old.joined.kept.told ≡ None) ⊥) }
     ensures stands { (limits : Limits) (h : History)
         → StandsFor limits engine.old h → StandsFor limits engine.new h }
     ensures same { SameButRows engine.old engine.new }
@@ -83,9 +88,7 @@ pub fn reply_of<R: Reducer, K: Keep>(
 {
     match engine.ask(ask) {
         Ok(reply) => Ok(reply),
-        Err(AskFault::NoMemory) => Err(Halt::NoMemory),
-        Err(AskFault::StoreFault) => unreachable!(),
-        Err(AskFault::BadStore(_)) => unreachable!(),
+        Err(fault) => Err(halt_of_ask(fault)),
     }
 }
 
@@ -131,7 +134,7 @@ pub fn answer<R: Reducer, K: Saves, L: Source>(
     ensures causes { IfErr result
         (HasCauses (Rose (L.faults log.old) (L.faults log.new) (L.spent log.new)) ⊥
         (K.rose session.old.engine.joined.keep session.new.engine.joined.keep)
-        (when_takes takes K.limited)) }
+        (K.hidden session.old.engine.joined.keep) (when_takes takes K.limited)) }
     ensures counts { GoesUp
         (L.faults log.old) (L.faults log.new) (L.spent log.old) (L.spent log.new) }
     ensures uses { K.uses session.old.engine.joined.keep session.new.engine.joined.keep }
@@ -139,6 +142,7 @@ pub fn answer<R: Reducer, K: Saves, L: Source>(
         → K.alike session.old.engine.joined.keep session.new.engine.joined.keep }
 {
     K::saves_lawfully();
+    K::reads_lawfully();
     K::lacks_lawfully();
     K::adds_lawfully();
     match question {
@@ -162,7 +166,7 @@ pub fn say<O: Sink>(alloc: Global, out: &mut O, reply: &Reply) -> Result<(), Hal
     ensures cut { OnErr result ((done : ℕ)
         × Appends (O.written out.old) (O.written out.new) (take done (text_of reply.now))) }
     ensures causes { IfErr result
-        (HasCauses ⊥ (Rose (O.faults out.old) (O.faults out.new) (O.spent out.new)) ⊥ ⊥) }
+        (HasCauses ⊥ (Rose (O.faults out.old) (O.faults out.new) (O.spent out.new)) ⊥ ⊥ ⊥) }
     ensures due { IfErr result (IsDue never) }
     ensures counts { GoesUp
         (O.faults out.old) (O.faults out.new) (O.spent out.old) (O.spent out.new) }
@@ -221,7 +225,7 @@ pub fn take_turn<R: Reducer, K: Saves, L: Source, O: Sink>(
         (Rose (L.faults log.old) (L.faults log.new) (L.spent log.new))
         (Rose (O.faults out.old) (O.faults out.new) (O.spent out.new))
         (K.rose session.old.engine.joined.keep session.new.engine.joined.keep)
-        (when_takes takes K.limited)) }
+        (K.hidden session.old.engine.joined.keep) (when_takes takes K.limited)) }
     ensures log { GoesUp (L.faults log.old) (L.faults log.new) (L.spent log.old) (L.spent log.new) }
     ensures out { GoesUp (O.faults out.old) (O.faults out.new) (O.spent out.old) (O.spent out.new) }
     ensures uses { K.uses session.old.engine.joined.keep session.new.engine.joined.keep }

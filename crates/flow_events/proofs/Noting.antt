@@ -10,7 +10,7 @@ use Rattle.acts.specs.declared.held.Held.{Held}
 use Rattle.acts.specs.declared.held.Object.{Object}
 use Rattle.acts.specs.Holding.{is_at}
 use Rattle.fd_table.specs.Table.{Table as Fds, held_at, is_marked, object_in}
-use Rattle.flow_events.specs.Since.{AddsHeld, HasThose, any_touches, has_slot, touches}
+use Rattle.flow_events.specs.Since.{AddsHeld, HasEach, HasThose, StillHas, any_may_put, any_touches, has_slot, may_put, touches}
 
 true-false : {A : Type 0} → true ≡ false → A
 true-false e = absurd cc
@@ -144,3 +144,15 @@ acts_next fds old new acts i act inside is has adds noted p n any =
     let now : (list_any f (take i acts) || f act) ≡ true =
     sym (any_act f (take i acts) act) ∙ ap (λ (x : Act). list_any f (take i acts ++ x ∷ [])) is ∙ ap (list_any f) (sym (take_more acts i act inside)) ∙ any in
     either (list_any f (take i acts)) (f act) now (λ before. adds.stay p n (has p n before)) (noted p n)
+
+-- ---- where something is put
+
+pub still_again : (old mid new : List (ℕ × ℕ)) → StillHas old mid → StillHas mid new → StillHas old new
+still_again old mid new one two p n is = two p n (one p n is)
+
+pub puts_listed : (old new : List (ℕ × ℕ)) (acts : List Act) (i : ℕ) (act : Act) → i < length acts → act ≡ get_or acts i act → HasEach old (any_may_put (take i acts)) → StillHas old new → HasEach new (may_put act) → HasEach new (any_may_put (take (i + 1) acts))
+puts_listed old new acts i act inside is has stay noted p n any =
+    let f : Act → Bool = λ a. may_put a p n in
+    let now : (list_any f (take i acts) || f act) ≡ true =
+    sym (any_act f (take i acts) act) ∙ ap (λ (x : Act). list_any f (take i acts ++ x ∷ [])) is ∙ ap (list_any f) (sym (take_more acts i act inside)) ∙ any in
+    either (list_any f (take i acts)) (f act) now (λ before. stay p n (has p n before)) (noted p n)

@@ -15,7 +15,6 @@ use Rattle.acts.specs.declared.link.Link.{Link}
 use Rattle.acts.specs.Keys.{put_new}
 use Rattle.acts.specs.Flows.{acts_of, objects, link_of, with_ends}
 use Rattle.acts.specs.LookBack.{full_by}
-use Rattle.entity_names.specs.Known.{full_at}
 use Rattle.flow_events.specs.Added.{IsPast}
 use Rattle.flow_events.specs.Drafts.{turned}
 
@@ -47,11 +46,11 @@ still_past most full more acts is = record {
   past = (let past = is.past in let grown = objects_grow more acts in omega (arith, past, grown));
 }
 
--- it is passed where it is passed with the ends of the link
-pub link_past : (most : ℕ) (full : Full) (seen all : List Key) (link of_act : Option Link) → all ≡ seen → link ≡ of_act → (full ≡ full_at most) × (most < length (with_ends seen link)) → IsPast most full (with_ends all of_act)
+-- it is passed if it is passed with the ends of the link
+pub link_past : (most : ℕ) (full : Full) (seen all : List Key) (link of_act : Option Link) → all ≡ seen → link ≡ of_act → IsPast most full (with_ends seen link) → IsPast most full (with_ends all of_act)
 link_past most full seen all link of_act known same is = record {
-  limit_is = is.0;
-  past = subst (λ keys. most < length keys) (λ i. with_ends (sym known i) (same i)) is.1;
+  limit_is = is.limit_is;
+  past = subst (λ keys. most < length keys) (λ i. with_ends (sym known i) (same i)) is.past;
 }
 
 -- acts in two parts, turned

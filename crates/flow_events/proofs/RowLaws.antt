@@ -1,6 +1,6 @@
 -- The rows that say what is remembered are those of a commit. Every list of acts has the newest first.
 use Rattle.std.proofs.Common.{◌≡◌, ◌∙◌, ◌≤◌, refl, sym, ap, subst, inr, ℕ, Bool, true, false, List, [], ◌∷◌, ◌++◌, length, drop, Option, Some, None, is_some, arith}
-use Rattle.std.specs.Prelude.{◌==◌, ◌&&◌, ◌||◌, ◌+◌, if◌then◌else◌, unwrap_or}
+use Rattle.std.specs.Prelude.{◌==◌, ◌&&◌, ◌||◌, ◌+◌, not, if◌then◌else◌, unwrap_or}
 use Rattle.std.specs.Option.{option_map}
 use Rattle.std.specs.List.{Contains}
 use Rattle.std.proofs.lemmas.Bool.Decides.{nat_tests}
@@ -24,9 +24,9 @@ use Rattle.fd_table.specs.Table.{Table as Fds, HoldsAs, AddressesAs, held_at, ad
 use Rattle.entity_names.specs.Known.{Known, names_at as known_at}
 use Rattle.stored.specs.Batch.{AreTablesOf, Tells, IsCalledFor, HeldAs, WasHeld, left_held, names_at, names_pid, names_socket, since_names, said, stays}
 use Rattle.flow_events.specs.Births.{Table as Births, BornAs, born_at}
-use Rattle.flow_events.specs.Since.{Memory, ArePids, AreFiles, AreSockets, AreSlots, IsSince, LivesOn, Remembers, file_named, has_file, has_slot, has_socket, pid_in, pid_named}
+use Rattle.flow_events.specs.Since.{Memory, ArePids, AreFiles, AreSockets, AreSlots, ArePuts, IsSince, LivesOn, Remembers, file_named, has_file, has_slot, has_socket, is_since, is_touched, pid_in, pid_named}
 use Rattle.flow_events.specs.Remembering.{StandsSince}
-use Rattle.flow_events.specs.Rows.{AreTableRows, Parts, SayRemembered, TellRemembered, address_word, batch_of, births_word, held_word, is_live, life_word, slot_word}
+use Rattle.flow_events.specs.Rows.{AreTableRows, Parts, SayRemembered, TellRemembered, address_word, batch_of, births_word, goes_on, held_word, is_live, is_written, life_word, slot_word, word_in}
 use Rattle.flow_events.specs.declared.rows.TableRows.{TableRows}
 use Rattle.flow_events.specs.declared.tables.Tables.{Tables}
 use Rattle.flow_events.proofs.SinceLaws.{unnamed_stands}
@@ -162,7 +162,7 @@ module _ (memory : Memory) (procs : Procs) (before now : List Act) (lives : Live
       let there = life_there p one.0 one.1.0 in
       (there.0, ap (λ (s : Standing). s.live) (sym there.1) ∙ one.1.1)
 
-  module _ (fds : Fds) (held : HoldsAs fds (now ++ before)) (slots : AreSlots memory.slots before now) (admitted : Admitted (now ++ before)) where
+  module _ (fds : Fds) (held : HoldsAs fds (now ++ before)) (slots : AreSlots memory.slots before now) (puts : ArePuts memory.puts before now) (admitted : Admitted (now ++ before)) where
     abbrev touched : ℕ → ℕ → Bool
     touched p n = has_slot memory.slots p n
 
@@ -184,11 +184,46 @@ module _ (memory : Memory) (procs : Procs) (before now : List Act) (lives : Live
     dead_and true b x is = true-false is
     dead_and false b x is = refl
 
+    -- the life at the mark goes on, if it is the life of now
+    same_life : (p : ℕ) (m : Option (Option Life)) (l : Life) → pid_in memory p ≡ m → is_since m l ≡ true → (beginnings before p == l.life + 1) ≡ true
+    same_life p None l has is = true-false (sym is)
+    same_life p (Some None) l has is = true-false (sym is)
+    same_life p (Some (Some was)) l has is =
+        let stood : standing_of (Some was) ≡ standing before p = stood_by (Some was) (pid_named now before p) (standing before p) (ap (option_map standing_of) (sym has) ∙ pids.each p) in
+        let count : was.life + 1 ≡ beginnings before p = ap (λ (s : Standing). s.beginnings) stood in
+        let one : (was.life == l.life) ≡ true = and_both was.live (was.life == l.life) is in
+        grind (arith, nat_tests)
+      where
+        and_both : (a b : Bool) → (a && b) ≡ true → b ≡ true
+        and_both true b both = both
+        and_both false b both = true-false (sym both)
+
+    -- what isn't written is held as it was at the mark
+    unwritten_by : (g t u : Bool) → (not g || (t || u)) ≡ false → (g ≡ true) × (u ≡ false)
+    unwritten_by true true u is = true-false is
+    unwritten_by true false u is = (refl, is)
+    unwritten_by false t u is = true-false is
+
+    if_held : (b : Bool) (x y : Option Held) → b ≡ true → (if b then x else y) ≡ x
+    if_held true x y is = refl
+    if_held false x y is = true-false (sym is)
+
+    unwritten : (p n : ℕ) (l : Life) (h : Held) → l.live ≡ true → standing_of (Some l) ≡ standing (now ++ before) p → is_written memory (Some l) (p, n) ≡ false → held_at fds p n ≡ Some h → holds (now ++ before) p n ≡ left_held before p n (Some l)
+    unwritten p n l h on stands off has =
+        let both = unwritten_by (is_since (pid_in memory p) l) (touched p n) (has_slot memory.puts p n) off in
+        let is : (beginnings before p == l.life + 1) ≡ true = same_life p (pid_in memory p) l refl both.0 in
+        let count : beginnings before p ≡ l.life + 1 = grind (arith, nat_tests) in
+        let lives_on : LivesOn before now p = record { same = ap (λ (s : Standing). s.beginnings) (sym stands) ∙ sym count; live_is = ap (λ (s : Standing). s.live) (sym stands) ∙ on } in
+        let some : holds (now ++ before) p n ≡ Some h = sym (held.each p n) ∙ has in
+        some ∙ sym (puts.others p n h lives_on both.1 some) ∙ sym (live_and l.live (beginnings before p == l.life + 1) (holds before p n) on ∙ if_held (beginnings before p == l.life + 1) (holds before p n) None is)
+
     -- of a pid that is live
-    live_tells : (p n : ℕ) (l : Life) (t : Bool) (o : Option Held) → l.live ≡ true → standing_of (Some l) ≡ standing (now ++ before) p → touched p n ≡ t → held_at fds p n ≡ o → HeldAs (slot_word t o) (left_held before p n (Some l)) (holds (now ++ before) p n)
-    live_tells p n l t (Some h) on stands is has = sym has ∙ held.each p n
-    live_tells p n l true None on stands is has = sym has ∙ held.each p n
-    live_tells p n l false None on stands is has =
+    live_tells : (p n : ℕ) (l : Life) (t w : Bool) (o : Option Held) → l.live ≡ true → standing_of (Some l) ≡ standing (now ++ before) p → touched p n ≡ t → is_written memory (Some l) (p, n) ≡ w → held_at fds p n ≡ o
+        → HeldAs (slot_word t w o) (left_held before p n (Some l)) (holds (now ++ before) p n)
+    live_tells p n l t true (Some h) on stands is written has = sym has ∙ held.each p n
+    live_tells p n l t false (Some h) on stands is written has = unwritten p n l h on stands written has
+    live_tells p n l true w None on stands is written has = sym has ∙ held.each p n
+    live_tells p n l false w None on stands is written has =
         let none : holds (now ++ before) p n ≡ None = sym (held.each p n) ∙ has in
         none ∙ sym (live_and l.live (beginnings before p == l.life + 1) (holds before p n) on ∙ left_by p n l (beginnings before p == l.life + 1) refl on stands none is)
 
@@ -203,12 +238,12 @@ module _ (memory : Memory) (procs : Procs) (before now : List Act) (lives : Live
         let dead : live (now ++ before) p ≡ false = ap (λ (s : Standing). s.live) (sym (lives.each p) ∙ ap standing_of has) ∙ off in
         only_live (now ++ before) p n admitted dead ∙ sym (dead_and l.live (beginnings before p == l.life + 1) (holds before p n) off)
 
-    held_by : (p n : ℕ) (w : Option Life) (v : Bool) → life_word memory procs p ≡ w → is_live w ≡ v → HeldAs (if v then slot_word (touched p n) (held_at fds p n) else None) (left_held before p n w) (holds (now ++ before) p n)
+    held_by : (p n : ℕ) (w : Option Life) (v : Bool) → life_word memory procs p ≡ w → is_live w ≡ v → HeldAs (if v then word_in memory fds w (p, n) else None) (left_held before p n w) (holds (now ++ before) p n)
     held_by p n w false is off = subst (λ (o : Option Life). holds (now ++ before) p n ≡ left_held before p n o) is (dead_tells p n (pid_in memory p) (at procs p) refl refl (ap is_live is ∙ off))
     held_by p n w true is on =
         let one = live_word_is w on in
-        subst (λ (o : Option Life). HeldAs (slot_word (touched p n) (held_at fds p n)) (left_held before p n o) (holds (now ++ before) p n)) (sym one.1.0)
-        (live_tells p n one.0 (touched p n) (held_at fds p n) one.1.1 (life_there p one.0 (is ∙ one.1.0)).1 refl refl)
+        subst (λ (o : Option Life). HeldAs (word_in memory fds o (p, n)) (left_held before p n o) (holds (now ++ before) p n)) (sym one.1.0)
+        (live_tells p n one.0 (touched p n) (is_written memory (Some one.0) (p, n)) (held_at fds p n) one.1.1 (life_there p one.0 (is ∙ one.1.0)).1 refl refl refl)
 
     held_tells : (p n : ℕ) → HeldAs (held_word memory procs fds (p, n)) (left_held before p n (life_word memory procs p)) (holds (now ++ before) p n)
     held_tells p n = held_by p n (life_word memory procs p) (is_live (life_word memory procs p)) refl refl
@@ -217,13 +252,13 @@ module _ (memory : Memory) (procs : Procs) (before now : List Act) (lives : Live
     said_live true x h is = (refl, is)
     said_live false x h is = none-some h is
 
-    held_there : (p n : ℕ) (h : Option Held) → held_word memory procs fds (p, n) ≡ Some h → (is_live (life_word memory procs p) ≡ true) × (slot_word (touched p n) (held_at fds p n) ≡ Some h)
-    held_there p n h is = said_live (is_live (life_word memory procs p)) (slot_word (touched p n) (held_at fds p n)) h is
+    held_there : (p n : ℕ) (h : Option Held) → held_word memory procs fds (p, n) ≡ Some h → (is_live (life_word memory procs p) ≡ true) × (word_in memory fds (life_word memory procs p) (p, n) ≡ Some h)
+    held_there p n h is = said_live (is_live (life_word memory procs p)) (word_in memory fds (life_word memory procs p) (p, n)) h is
 
-    was_by : (p n : ℕ) (h : Option Held) (t : Bool) (o : Option Held) → touched p n ≡ t → held_at fds p n ≡ o → slot_word t o ≡ Some h → WasHeld now before p n
-    was_by p n h t (Some x) is has word = (0, omega arith, ap is_some (sym (held.each p n) ∙ has))
-    was_by p n h true None is has word = slots.were p n is
-    was_by p n h false None is has word = none-some h word
+    was_by : (p n : ℕ) (h : Option Held) (t w : Bool) (o : Option Held) → touched p n ≡ t → held_at fds p n ≡ o → slot_word t w o ≡ Some h → WasHeld now before p n
+    was_by p n h t w (Some x) is has word = (0, omega arith, ap is_some (sym (held.each p n) ∙ has))
+    was_by p n h true w None is has word = slots.were p n is
+    was_by p n h false w None is has word = none-some h word
 
 -- ---- addresses and births
 
@@ -252,11 +287,11 @@ tables_of memory procs fds counts table before now parts lives held addresses bi
   held = λ p n.
       subst (λ (o : Option (Option Held)). HeldAs o (left_held before p n (said (λ q. q == p) parts.lives)) (holds (now ++ before) p n)) (sym (say.held.said_is (p, n)))
       (subst (λ (o : Option Life). HeldAs (held_word memory procs fds (p, n)) (left_held before p n o) (holds (now ++ before) p n)) (sym (say.lives.said_is p))
-      (held_tells memory procs before now lives since.pids_are fds held since.slots_are admitted p n));
-  held_live = λ p n h there. (word_live memory procs before now lives since.pids_are p (held_there memory procs before now lives since.pids_are fds held since.slots_are admitted p n h (say.held.each (p, n) h there)).0).1;
-  held_was = λ p n h there. was_by memory procs before now lives since.pids_are fds held since.slots_are admitted p n h (has_slot memory.slots p n) (held_at fds p n) refl refl
-      (held_there memory procs before now lives since.pids_are fds held since.slots_are admitted p n h (say.held.each (p, n) h there)).1;
-  held_called = λ p n h there. inr (word_live memory procs before now lives since.pids_are p (held_there memory procs before now lives since.pids_are fds held since.slots_are admitted p n h (say.held.each (p, n) h there)).0).0;
+      (held_tells memory procs before now lives since.pids_are fds held since.slots_are since.puts_are admitted p n));
+  held_live = λ p n h there. (word_live memory procs before now lives since.pids_are p (held_there memory procs before now lives since.pids_are fds held since.slots_are since.puts_are admitted p n h (say.held.each (p, n) h there)).0).1;
+  held_was = λ p n h there. was_by memory procs before now lives since.pids_are fds held since.slots_are since.puts_are admitted p n h (has_slot memory.slots p n) (is_written memory (life_word memory procs p) (p, n)) (held_at fds p n) refl refl
+      (held_there memory procs before now lives since.pids_are fds held since.slots_are since.puts_are admitted p n h (say.held.each (p, n) h there)).1;
+  held_called = λ p n h there. inr (word_live memory procs before now lives since.pids_are p (held_there memory procs before now lives since.pids_are fds held since.slots_are since.puts_are admitted p n h (say.held.each (p, n) h there)).0).0;
   addresses = λ s. subst (λ (o : Option (List ℕ)). Tells (λ x. x) o (address_of before s) (address_of (now ++ before) s)) (sym (say.addresses.said_is s)) (address_tells memory fds before now s (has_socket memory s) (address_at fds s) addresses since.sockets_are refl refl);
   addresses_called = λ s a there. inr (since.sockets_are.named s (if_true (has_socket memory s) (address_at fds s) a (say.addresses.each s a there)));
   births = λ f. subst (λ (o : Option ℕ). Tells (λ x. unwrap_or x 0) o (born before f) (born (now ++ before) f)) (sym (say.births.said_is f)) (births_tell memory counts before now f (has_file memory f) births since.files_are refl);

@@ -21,8 +21,8 @@ use Rattle.proc_table.specs.declared.life.Life.{Life}
 use Rattle.proc_table.specs.Table.{Table as Procs, StandsFor as LivesAs, at, standing_of}
 use Rattle.fd_table.specs.Table.{Table as Fds, HoldsAs, AddressesAs, address_at}
 use Rattle.stored.specs.Batch.{names_pid, names_socket, since_names}
-use Rattle.flow_events.proofs.SlotLaws.{slots_next, slots_noted}
-use Rattle.flow_events.specs.Since.{Memory, AddsHeld, ArePids, AreFiles, AreSockets, AreSlots, DiffersInNamed, DiffersInSlots, DiffersInSockets, HasThose, IsSameMemory, any_touches, IsSince, NotesPid, NotesFile, NotesSocket, pid_in, has_file, has_socket, pid_named, file_named, is_address, changes_address}
+use Rattle.flow_events.proofs.SlotLaws.{puts_next, slots_next, slots_noted}
+use Rattle.flow_events.specs.Since.{Memory, AddsHeld, ArePids, AreFiles, AreSockets, AreSlots, ArePuts, DiffersInNamed, DiffersInSlots, DiffersInSockets, HasEach, HasThose, IsSameMemory, StillHas, any_may_put, any_touches, IsSince, NotesPid, NotesFile, NotesSocket, pid_in, has_file, has_socket, pid_named, file_named, is_address, changes_address}
 use Rattle.flow_events.specs.declared.plan.NewAddress.{NewAddress}
 use Rattle.flow_events.specs.Standing.{readdressed}
 
@@ -144,6 +144,7 @@ differs_again old mid new one two = record {
   known = two.known ∙ one.known;
   sockets = two.sockets ∙ one.sockets;
   slots = two.slots ∙ one.slots;
+  puts = two.puts ∙ one.puts;
   socket_spare = two.socket_spare ∙ one.socket_spare;
 }
 
@@ -299,7 +300,7 @@ sockets_next old new before now fresh have address alike plan notes are =
 pub event_noted : (old mid new : Memory) (procs : Procs) (fds : Fds) (acts before now fresh : List Act) (address : Option NewAddress) → LivesAs procs (now ++ before) → HoldsAs fds (now ++ before) → AddressesAs fds (now ++ before) → fresh ≡ reverse acts
     → ((s : ℕ) → address_of (fresh ++ (now ++ before)) s ≡ readdressed address (address_of (now ++ before)) s)
     → ((b n : List Act) → LivesAs procs (n ++ b) → ArePids old b n → ArePids mid b (reverse acts ++ n)) → ((b n : List Act) → AreFiles old b n → AreFiles mid b (reverse acts ++ n)) → DiffersInNamed old mid
-    → NotesSocket mid new (changes_address (address_at fds) address) → DiffersInSockets mid new → HasThose fds old.slots (any_touches acts) → IsSince old before now → IsSince new before (fresh ++ now)
+    → NotesSocket mid new (changes_address (address_at fds) address) → DiffersInSockets mid new → HasThose fds old.slots (any_touches acts) × HasEach old.puts (any_may_put acts) → IsSince old before now → IsSince new before (fresh ++ now)
 event_noted old mid new procs fds acts before now fresh address lives held addresses is plan pids files same notes rest touched since =
     let socket : NotesSocket old new (changes_address (address_at fds) address) = λ s. notes s ∙ ap (λ (l : List ℕ). changes_address (address_at fds) address s || list_any (nat_eq s) l) same.sockets in
     let first : ArePids mid before (fresh ++ now) = subst (λ (l : List Act). ArePids mid before (l ++ now)) (sym is) (pids before now lives since.pids_are) in
@@ -309,7 +310,8 @@ event_noted old mid new procs fds acts before now fresh address lives held addre
       pids_are = record { each = λ p. ap (λ (m : Memory). option_map standing_of (pid_in m p)) rest ∙ first.each p };
       files_are = record { each = λ f. ap (λ (m : Memory). has_file m f) rest ∙ second.each f };
       sockets_are = sockets_next old new before now fresh (address_at fds) address addresses.each plan socket since.sockets_are;
-      slots_are = subst (λ (l : List (ℕ × ℕ)). AreSlots l before (fresh ++ now)) (sym (ap (λ (m : Memory). m.slots) rest ∙ same.slots)) (slots_next old.slots fds acts before now fresh held is touched since.slots_are);
+      slots_are = subst (λ (l : List (ℕ × ℕ)). AreSlots l before (fresh ++ now)) (sym (ap (λ (m : Memory). m.slots) rest ∙ same.slots)) (slots_next old.slots fds acts before now fresh held is touched.0 since.slots_are);
+      puts_are = subst (λ (l : List (ℕ × ℕ)). ArePuts l before (fresh ++ now)) (sym (ap (λ (m : Memory). m.puts) rest ∙ same.puts)) (puts_next old.puts acts before now fresh is touched.1 since.puts_are);
     }
 
 -- the memory with other room remembers the same
@@ -324,8 +326,9 @@ since_still old new before now same since = record {
     there = λ s there. since.sockets_are.there s (ap (λ (l : List ℕ). list_any (nat_eq s) l) (sym same.sockets) ∙ there);
   };
   slots_are = subst (λ (l : List (ℕ × ℕ)). AreSlots l before now) (sym same.slots) since.slots_are;
+  puts_are = subst (λ (l : List (ℕ × ℕ)). ArePuts l before now) (sym same.puts) since.puts_are;
 }
 
 -- descriptors that hold something are noted, and then there is other room
-pub since_reserved : (fds : Fds) (old mid new : Memory) (before now : List Act) → AddsHeld fds old.slots mid.slots → DiffersInSlots old mid → IsSameMemory mid new → HoldsAs fds (now ++ before) → IsSince old before now → IsSince new before now
-since_reserved fds old mid new before now adds rest same held since = since_still mid new before now same (slots_noted fds old mid before now adds rest held since)
+pub since_reserved : (fds : Fds) (old mid new : Memory) (before now : List Act) → AddsHeld fds old.slots mid.slots → StillHas old.puts mid.puts → DiffersInSlots old mid → IsSameMemory mid new → HoldsAs fds (now ++ before) → IsSince old before now → IsSince new before now
+since_reserved fds old mid new before now adds stay rest same held since = since_still mid new before now same (slots_noted fds old mid before now adds stay rest held since)

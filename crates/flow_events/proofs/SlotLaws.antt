@@ -11,7 +11,7 @@ use Rattle.acts.specs.Holding.{holds, is_at, marked, unless_marked, socket_or}
 use Rattle.acts.specs.Lives.{live, awaited, awaits, beginnings, begins, begins_by_see, is_child}
 use Rattle.fd_table.specs.Table.{Table as Fds, HoldsAs, held_at, is_marked}
 use Rattle.stored.specs.Batch.{WasHeld}
-use Rattle.flow_events.specs.Since.{Memory, AddsHeld, ArePids, AreFiles, AreSockets, AreSlots, DiffersInSlots, HasThose, IsSince, LivesOn, any_touches, has_slot, touches}
+use Rattle.flow_events.specs.Since.{Memory, AddsHeld, ArePids, AreFiles, ArePuts, AreSockets, AreSlots, DiffersInSlots, HasEach, HasThose, IsSince, LivesOn, StillHas, any_may_put, any_touches, has_slot, may_put, touches}
 
 -- ---- lives
 
@@ -177,13 +177,83 @@ slots_next slots fds acts before now fresh holds_are is touched are = record {
   ];
 }
 
+-- ---- where something was put
+
+not_at : (b : Bool) (x y : Option Held) (h : Held) → b ≡ false → (if b then x else y) ≡ Some h → y ≡ Some h
+not_at true x y h off is = true-false off
+not_at false x y h off is = is
+
+unless_closed : (b : Bool) (y : Option Held) (h : Held) → (if b then None else y) ≡ Some h → y ≡ Some h
+unless_closed true y h is = none-some h is
+unless_closed false y h is = is
+
+unless_by : (c : Bool) (h g : Held) → (if c then None else Some h) ≡ Some g → Some h ≡ Some g
+unless_by true h g is = none-some g is
+unless_by false h g is = is
+
+unless_is : (o : Option Held) (h : Held) → unless_marked o ≡ Some h → o ≡ Some h
+unless_is None h is = none-some h is
+unless_is (Some g) h is = unless_by g.cloexec g h is
+
+unless_run : (b : Bool) (o : Option Held) (h : Held) → (if b then unless_marked o else o) ≡ Some h → o ≡ Some h
+unless_run true o h is = unless_is o h is
+unless_run false o h is = is
+
+-- what is held after an act that puts nothing there was held before it, if the life goes on
+held_before : (act : Act) (before : List Act) (p n : ℕ) (h : Held) → begins before act p ≡ false → live (act ∷ before) p ≡ true → may_put act p n ≡ false → holds (act ∷ before) p n ≡ Some h
+    → holds before p n ≡ Some h
+held_before (See pid ppid exe) before p n h new is off held = not_at (begins_by_see before pid p) _ (holds before p n) h new held
+held_before (Fork pid child) before p n h new is off held = not_at (begins before (Fork pid child) p) _ (holds before p n) h new held
+held_before (End pid) before p n h new is off held = unless_closed (pid == p) (holds before p n) h held
+held_before (Exec pid) before p n h new is off held = unless_run (pid == p) (holds before p n) h held
+held_before (Set pid fd what cloexec) before p n h new is off held = not_at (is_at pid fd p n) _ (holds before p n) h off held
+held_before (SetBoth pid first second cloexec) before p n h new is off held = not_at (is_at pid first p n || is_at pid second p n) _ (holds before p n) h off held
+held_before (Copy pid from to cloexec) before p n h new is off held = not_at (is_at pid to p n) _ (holds before p n) h off held
+held_before (Close pid fd) before p n h new is off held = unless_closed (is_at pid fd p n) (holds before p n) h held
+held_before (Mark pid fd cloexec) before p n h new is off held = not_at (is_at pid fd p n) _ (holds before p n) h off held
+held_before (Address pid fd bytes) before p n h new is off held = not_at (is_at pid fd p n) _ (holds before p n) h off held
+held_before (Birth file) before p n h new is off held = held
+held_before (Move pid inward how what) before p n h new is off held = held
+
+-- at the mark each descriptor holds what it held, whatever is among these
+pub puts_at_mark : (puts : List (ℕ × ℕ)) (before : List Act) → ArePuts puts before []
+puts_at_mark puts before = record { others = λ p n h on off held. held }
+
+neither : (a b : Bool) → (a || b) ≡ false → (a ≡ false) × (b ≡ false)
+neither true b is = true-false is
+neither false b is = (refl, is)
+
+-- and so it is with the acts of an event
+event_held : (fresh now before : List Act) (p n : ℕ) (h : Held) → LivesOn before (fresh ++ now) p → any_may_put fresh p n ≡ false → holds ((fresh ++ now) ++ before) p n ≡ Some h → holds (now ++ before) p n ≡ Some h
+event_held [] now before p n h on off held = held
+event_held (act ∷ fresh) now before p n h on off held =
+    let back = lives_back act (fresh ++ now) before p on in
+    let none = neither (may_put act p n) (any_may_put fresh p n) off in
+    event_held fresh now before p n h back.1 none.1 (held_before act ((fresh ++ now) ++ before) p n h back.0 on.live_is none.0 held)
+
+put_turned : (acts fresh : List Act) (p n : ℕ) → fresh ≡ reverse acts → any_may_put fresh p n ≡ any_may_put acts p n
+put_turned acts fresh p n is = ap (λ (l : List Act). any_may_put l p n) is ∙ any_reversed (λ act. may_put act p n) acts
+
+not_put : (a b : Bool) → (a ≡ true → b ≡ true) → b ≡ false → a ≡ false
+not_put true b to off = true-false (sym (to refl) ∙ off)
+not_put false b to off = refl
+
+-- with the acts of an event the descriptors are still those at which something was put, if all are among them at which the
+-- acts may put something
+pub puts_next : (slots : List (ℕ × ℕ)) (acts before now fresh : List Act) → fresh ≡ reverse acts → HasEach slots (any_may_put acts) → ArePuts slots before now → ArePuts slots before (fresh ++ now)
+puts_next slots acts before now fresh is put are = record {
+  others = λ p n h on off held.
+      are.others p n h (lived_before fresh now before p on) off
+      (event_held fresh now before p n h on (put_turned acts fresh p n is ∙ not_put (any_may_put acts p n) (has_slot slots p n) (put p n) off) held);
+}
+
 either : {P : Type 0} (a b : Bool) → (a || b) ≡ true → (a ≡ true → P) → (b ≡ true → P) → P
 either true b is f g = f refl
 either false b is f g = g is
 
--- descriptors that hold something may be noted at any moment
-pub slots_noted : (fds : Fds) (old new : Memory) (before now : List Act) → AddsHeld fds old.slots new.slots → DiffersInSlots old new → HoldsAs fds (now ++ before) → IsSince old before now → IsSince new before now
-slots_noted fds old new before now adds rest holds_are since = record {
+-- descriptors that hold something may be noted at any moment, and any at which something may be put
+pub slots_noted : (fds : Fds) (old new : Memory) (before now : List Act) → AddsHeld fds old.slots new.slots → StillHas old.puts new.puts → DiffersInSlots old new → HoldsAs fds (now ++ before) → IsSince old before now → IsSince new before now
+slots_noted fds old new before now adds stay rest holds_are since = record {
   known_is = ap (λ (m : Memory). m.known) rest ∙ since.known_is;
   pids_are = subst (λ (m : Memory). ArePids m before now) (sym rest) (record { each = since.pids_are.each });
   files_are = subst (λ (m : Memory). AreFiles m before now) (sym rest) (record { each = since.files_are.each });
@@ -194,4 +264,5 @@ slots_noted fds old new before now adds rest holds_are since = record {
         (λ some. (0, omega arith, ap is_some (sym (holds_are.each p n)) ∙ some));
     lost = λ p n on was gone. adds.stay p n (since.slots_are.lost p n on was gone);
   };
+  puts_are = record { others = λ p n h on off held. since.puts_are.others p n h on (not_put (has_slot old.puts p n) (has_slot new.puts p n) (stay p n) off) held };
 }

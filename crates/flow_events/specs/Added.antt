@@ -1,11 +1,16 @@
 -- What an event adds to the objects and flows.
-use Rattle.std.specs.Prelude.{◌≡◌, ◌≢◌, ◌<◌, ◌+◌, ◌++◌, ℕ, ⊤, Option, None, Some, List, [], ◌∷◌, length, reverse}
+use Rattle.std.specs.Prelude.{◌≡◌, ◌≢◌, ◌<◌, ◌+◌, ◌++◌, ℕ, ⊤, Option, None, Some, Result, Err, List, [], ◌∷◌, length, reverse}
 use Rattle.flow_base.specs.declared.types.Key.{Key}
 use Rattle.flow_base.specs.declared.types.Flow.{Flow}
+use Rattle.flow_base.specs.declared.types.Stamp.{Stamp}
 use Rattle.flow_base.specs.declared.limits.Full.{Full}
+use Rattle.flow_base.specs.contracts.types.KeyPartialEq.TheImpl.{ghosts}
 use Rattle.acts.specs.declared.link.Link.{Link}
-use Rattle.acts.specs.Flows.{number_in}
-use Rattle.entity_names.specs.Known.{full_at}
+use Rattle.acts.specs.Keys.{put_new}
+use Rattle.acts.specs.Flows.{number_in, with_ends}
+use Rattle.entity_names.specs.Known.{Known, full_at}
+use Rattle.flow_events.specs.declared.fault.PrepareFault.{PrepareFault}
+use Rattle.flow_events.specs.declared.fault.PrepareFault.TheVariants as fault
 use Rattle.flow_events.specs.Entering.{entered}
 use Rattle.reach_rows.specs.Kept.{GoOn, known_after}
 
@@ -39,6 +44,14 @@ pub record IsPast (most : ℕ) (full : Full) (seen : List Key) : Type 0 where
   pub limit_is : full ≡ full_at most
   pub past : most < length seen
 
+-- if the result is the fault that a limit is passed, this holds of that limit
+abbrev pub IfFull : {T : Type 0} → Result T PrepareFault → (Full → Type 0) → Type 0
+IfFull result fact = (full : Full) → result ≡ Err (fault.Full full) → fact full
+
+-- if the fault is that a limit is passed, this holds of that limit
+abbrev pub IfLimit : PrepareFault → (Full → Type 0) → Type 0
+IfLimit why fact = (full : Full) → why ≡ fault.Full full → fact full
+
 -- a link, if there is one, has two ends that differ
 abbrev pub HasTwoEnds : Option Link → Type 0
 HasTwoEnds None = ⊤
@@ -54,3 +67,28 @@ pub record AreNumbered (known : List Key) (ms place : ℕ) (added : Additions) :
   pub go_on : GoOn (length known) added.flows
   pub known_are : known_after (length known) added.flows ≡ length (known ++ added.keys)
   pub stand : StandFrom ms place added.flows
+
+-- the known objects, and then the new ones
+abbrev pub objects_in : Known → Additions → List Key
+objects_in known added = known.keys ++ added.keys
+
+-- the objects are those before with this key, which is appended if it is new
+abbrev pub AddsKey : Known → Additions → Additions → Key → Type 0
+AddsKey known old new key = objects_in known new ≡ put_new ghosts.eq (objects_in known old) key
+
+-- the objects are those before with the ends of the link, if there is one
+abbrev pub AddsEnds : Known → Additions → Additions → Option Link → Type 0
+AddsEnds known old new link = objects_in known new ≡ with_ends (objects_in known old) link
+
+-- the flows are those before, and then that of the link, if there is one
+abbrev pub AddsFlow : Known → Additions → Additions → Stamp → ℕ → Option Link → Type 0
+AddsFlow known old new at serial link = new.flows ≡ old.flows ++ flows_if (objects_in known new) at.ms serial at.place link
+
+-- if the added keys were each new when they came, those that are added now are too
+abbrev pub StayNew : Known → Additions → Additions → Type 0
+StayNew known old new = AreNew known.keys old.keys → AreNew known.keys new.keys
+
+-- if the flows were numbered from a place on, and the next one stands at the place after them, they are numbered with it
+abbrev pub StayNumbered : Known → Stamp → Additions → Additions → Type 0
+StayNumbered known at old new =
+    (place : ℕ) → at.place ≡ place + length old.flows → AreNumbered known.keys at.ms place old → AreNumbered known.keys at.ms place new

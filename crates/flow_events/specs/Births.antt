@@ -1,12 +1,12 @@
 -- The table of births, and what it stands for. Every list of acts is ordered newest first.
-use Rattle.std.specs.Prelude.{◌≡◌, ◌<◌, ℕ, List, unwrap_or, if◌then◌else◌}
+use Rattle.std.specs.Prelude.{◌≡◌, ◌<◌, ◌+◌, ◌-◌, ◌^◌, ℕ, List, ◌∷◌, unwrap_or, if◌then◌else◌}
 use Rattle.std.specs.List.{sum_by}
 use Rattle.std.specs.Map.{lookup}
 use Rattle.flow_base.specs.declared.types.FileId.{FileId}
 use Rattle.flow_base.specs.contracts.types.FileIdPartialEq.TheImpl.{ghosts}
 use Rattle.acts.specs.declared.act.Act.{Act}
 use Rattle.acts.specs.declared.act.Act.TheVariants.{Birth}
-use Rattle.acts.specs.Births.{born}
+use Rattle.acts.specs.Births.{born, same_file}
 
 -- how often each file number was born, and the room for more numbers
 pub record Table : Type 0 where
@@ -37,3 +37,12 @@ births_of other = 0
 -- how many of these acts are births
 abbrev pub births_in : List Act → ℕ
 births_in acts = sum_by births_of acts
+
+-- the file number was born once more, if its count isn't at its end, and the others as often as before
+abbrev pub CountsBirth : Table → Table → FileId → Type 0
+CountsBirth old new id =
+    born_at old id < 2 ^ 64 - 1 → (f : FileId) → born_at new f ≡ (if same_file id f then born_at old f + 1 else born_at old f)
+
+-- if no count is at its end, the table has the births of this act after those that it had
+abbrev pub BearsAct : Table → Table → Act → Type 0
+BearsAct old new act = BornBelow old (2 ^ 64 - 1) → (acts : List Act) → BornAs old acts → BornAs new (act ∷ acts)

@@ -1,8 +1,9 @@
 -- What a change of descriptors does.
-use Rattle.std.specs.Prelude.{◌==◌, ◌||◌, ℕ, if◌then◌else◌, Option, None, Some}
+use Rattle.std.specs.Prelude.{◌≡◌, ◌==◌, ◌||◌, ℕ, if◌then◌else◌, Option, None, Some}
 use Rattle.acts.specs.declared.held.Held.{Held}
 use Rattle.acts.specs.declared.held.Object.TheVariants.{Pipe}
 use Rattle.acts.specs.Holding.{is_at, marked, unless_marked}
+use Rattle.fd_table.specs.Table.{Table as Fds, held_at}
 use Rattle.flow_events.specs.declared.change.Change.{Change}
 use Rattle.flow_events.specs.declared.change.Change.TheVariants.{Nothing, Set, Pair, Close, Mark, Exec, Clear, Share}
 
@@ -26,3 +27,8 @@ need (Close pid fd) = 1
 need (Mark pid fd cloexec) = 1
 need (Share pid parent) = 1
 need other = 0
+
+-- both descriptors of the pid hold this, and the others what they held
+abbrev pub SetsBoth : Fds → Fds → ℕ → ℕ → ℕ → Held → Type 0
+SetsBoth old new pid first second held =
+    (p n : ℕ) → held_at new p n ≡ (if is_at pid first p n || is_at pid second p n then Some held else held_at old p n)

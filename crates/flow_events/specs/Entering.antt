@@ -40,3 +40,11 @@ pub record Covers (table : Known) (given : List Given) : Type 0 where
 -- each key had as many names at the mark as before
 abbrev pub SavedAlike : Known → Known → Type 0
 SavedAlike old new = (key : Key) → saved_at new key ≡ saved_at old key
+
+-- the table has these names after those that it had
+abbrev pub AddsNames : Known → Known → List (Key × List ℕ) → Type 0
+AddsNames old new more = (all : List (Key × List ℕ)) → NamesAs old all → NamesAs new (all ++ more)
+
+-- the tables differ at most in their keys and in the room for more keys
+abbrev pub ChangesKeys : Known → Known → Type 0
+ChangesKeys old new = new ≡ record old { keys = new.keys; spare = new.spare }

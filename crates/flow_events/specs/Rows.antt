@@ -1,5 +1,5 @@
 -- The table rows of a commit: what changed since the mark. Every list of acts is ordered newest first.
-use Rattle.std.specs.Prelude.{◌≡◌, ◌==◌, ◌<◌, ◌++◌, ℕ, Bool, false, List, map, drop, length, Option, Some, None, is_some, if◌then◌else◌}
+use Rattle.std.specs.Prelude.{◌≡◌, ◌==◌, ◌<◌, ◌++◌, ℕ, Bool, false, List, map, drop, length, Option, Some, None, is_some, not, ◌&&◌, ◌||◌, if◌then◌else◌}
 use Rattle.std.specs.List.{Contains}
 use Rattle.std.specs.List.Sorted.{IsStrictlySortedBy}
 use Rattle.std.specs.Map.{lookup, keys_of}
@@ -33,7 +33,7 @@ use Rattle.flow_events.specs.Births.{Table as Births, born_at}
 use Rattle.flow_events.specs.declared.rows.TableRows.{TableRows}
 use Rattle.flow_events.specs.declared.tables.Tables.{Tables}
 use Rattle.flow_events.specs.Remembering.{StandsSince}
-use Rattle.flow_events.specs.Since.{Memory, pid_in, has_file, has_socket, has_slot}
+use Rattle.flow_events.specs.Since.{Memory, pid_in, has_file, has_socket, has_slot, is_since, is_touched}
 
 -- the rows by kind, except those of flows, of what waits and of the state
 pub record Parts : Type 0 where
@@ -78,14 +78,27 @@ abbrev pub is_live : Option Life → Bool
 is_live None = false
 is_live (Some life) = life.live
 
--- what is held; or that nothing is, of a descriptor that was touched
-abbrev pub slot_word : Bool → Option Held → Option (Option Held)
-slot_word touched None = if touched then Some None else None
-slot_word touched (Some held) = Some (Some held)
+-- the last life of a pid goes on since the mark
+abbrev pub goes_on : Memory → ℕ → Option Life → Bool
+goes_on memory p None = false
+goes_on memory p (Some life) = is_since (pid_in memory p) life
+
+-- what a descriptor holds is written if the life is new, and of a life that goes on if the descriptor was touched
+abbrev pub is_written : Memory → Option Life → ℕ × ℕ → Bool
+is_written memory life q = not (goes_on memory q.0 life) || is_touched memory q
+
+-- what is held, if it is written; or that nothing is, of a descriptor that was touched while it held something
+abbrev pub slot_word : Bool → Bool → Option Held → Option (Option Held)
+slot_word touched written None = if touched then Some None else None
+slot_word touched written (Some held) = if written then Some (Some held) else None
+
+-- this of each descriptor of a pid with this life
+abbrev pub word_in : Memory → Fds → Option Life → ℕ × ℕ → Option (Option Held)
+word_in memory fds life q = slot_word (has_slot memory.slots q.0 q.1) (is_written memory life q) (held_at fds q.0 q.1)
 
 -- this of each descriptor of a pid that was named and is live
 abbrev pub held_word : Memory → Procs → Fds → ℕ × ℕ → Option (Option Held)
-held_word memory procs fds q = if is_live (life_word memory procs q.0) then slot_word (has_slot memory.slots q.0 q.1) (held_at fds q.0 q.1) else None
+held_word memory procs fds q = if is_live (life_word memory procs q.0) then word_in memory fds (life_word memory procs q.0) q else None
 
 -- Life rows
 abbrev pub SayLives : (ℕ → Option Life) → List (ℕ × Life) → Type 0
@@ -180,13 +193,21 @@ live_in lives p = is_live (found nat_cmp lives p)
 abbrev pub lost_word : List (ℕ × Life) → ℕ × ℕ → Option (Option Held)
 lost_word lives q = if live_in lives q.0 then Some None else None
 
+-- a value, if a test is passed
+abbrev pub only_if : {V : Type 0} → Bool → Option V → Option V
+only_if test value = if test then value else None
+
 -- what is held, if anything is
 abbrev pub kept_word : Fds → ℕ × ℕ → Option (Option Held)
 kept_word fds q = option_map (λ held. Some held) (held_at fds q.0 q.1)
 
--- this, if the pid is live
-abbrev pub live_word : List (ℕ × Life) → Fds → ℕ × ℕ → Option (Option Held)
-live_word lives fds q = if live_in lives q.0 then kept_word fds q else None
+-- this, if the descriptor was touched or all are written
+abbrev pub touched_word : Bool → Memory → Fds → ℕ × ℕ → Option (Option Held)
+touched_word all memory fds q = only_if (all || is_touched memory q) (kept_word fds q)
+
+-- what is held, if it is written and the pid is live
+abbrev pub live_word : Memory → List (ℕ × Life) → Fds → ℕ × ℕ → Option (Option Held)
+live_word memory lives fds q = if live_in lives q.0 then only_if (is_written memory (found nat_cmp lives q.0) q) (kept_word fds q) else None
 
 -- what is collected, by kind
 abbrev pub parts_of : Collected → Parts

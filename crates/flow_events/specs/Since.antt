@@ -21,13 +21,15 @@ use Rattle.flow_events.specs.declared.plan.NewAddress.{NewAddress}
 use Rattle.stored.specs.Batch.{names_pid, names_socket, since_names, WasHeld}
 
 -- how many objects there were at the mark; each pid that was named, with its last life at the mark; the file numbers that were
--- born; the sockets that got an address; the descriptors that were touched; and the room for more of some of them
+-- born; the sockets that got an address; the descriptors that were touched while they held something; those at which something
+-- was put; and the room for more of some of them
 pub record Memory : Type 0 where
   pub known : ℕ
   pub pids : List (ℕ × Option Life)
   pub files : List FileId
   pub sockets : List ℕ
   pub slots : List (ℕ × ℕ)
+  pub puts : List (ℕ × ℕ)
   pub pid_spare : ℕ
   pub file_spare : ℕ
   pub socket_spare : ℕ
@@ -70,6 +72,15 @@ pub record AreSockets (memory : Memory) (before now : List Act) : Type 0 where
 abbrev pub has_slot : List (ℕ × ℕ) → ℕ → ℕ → Bool
 has_slot slots p n = list_any (λ q. is_at q.0 q.1 p n) slots
 
+-- a descriptor was touched since the mark, or something was put there
+abbrev pub is_touched : Memory → ℕ × ℕ → Bool
+is_touched memory q = has_slot memory.slots q.0 q.1 || has_slot memory.puts q.0 q.1
+
+-- the life that a pid had at the mark, if the pid is remembered, is this one and was live
+abbrev pub is_since : Option (Option Life) → Life → Bool
+is_since (Some (Some was)) life = was.live && was.life == life.life
+is_since other life = false
+
 -- the life that a pid had at the mark goes on
 pub record LivesOn (before now : List Act) (p : ℕ) : Type 0 where
   pub same : beginnings (now ++ before) p ≡ beginnings before p
@@ -81,6 +92,10 @@ pub record AreSlots (slots : List (ℕ × ℕ)) (before now : List Act) : Type 0
   pub were : (p n : ℕ) → has_slot slots p n ≡ true → WasHeld now before p n
   pub lost : (p n : ℕ) → LivesOn before now p → is_some (holds before p n) ≡ true → holds (now ++ before) p n ≡ None → has_slot slots p n ≡ true
 
+-- a descriptor that isn't among these holds what it held at the mark, or nothing, if the life goes on
+pub record ArePuts (puts : List (ℕ × ℕ)) (before now : List Act) : Type 0 where
+  pub others : (p n : ℕ) (h : Held) → LivesOn before now p → has_slot puts p n ≡ false → holds (now ++ before) p n ≡ Some h → holds before p n ≡ Some h
+
 -- this is remembered of these acts after those before the mark
 pub record IsSince (memory : Memory) (before now : List Act) : Type 0 where
   pub known_is : memory.known ≡ length (objects before)
@@ -88,6 +103,7 @@ pub record IsSince (memory : Memory) (before now : List Act) : Type 0 where
   pub files_are : AreFiles memory before now
   pub sockets_are : AreSockets memory before now
   pub slots_are : AreSlots memory.slots before now
+  pub puts_are : ArePuts memory.puts before now
 
 -- what is remembered once a pid is named, which is as it was if it is remembered already
 abbrev pub NotesPid : Memory → Memory → Procs → (ℕ → Bool) → Type 0
@@ -115,6 +131,7 @@ pub record DiffersInNamed (old new : Memory) : Type 0 where
   pub known : new.known ≡ old.known
   pub sockets : new.sockets ≡ old.sockets
   pub slots : new.slots ≡ old.slots
+  pub puts : new.puts ≡ old.puts
   pub socket_spare : new.socket_spare ≡ old.socket_spare
 
 -- at most the sockets are others
@@ -123,7 +140,7 @@ DiffersInSockets old new = new ≡ record old { sockets = new.sockets; socket_sp
 
 -- at most the descriptors are others
 abbrev pub DiffersInSlots : Memory → Memory → Type 0
-DiffersInSlots old new = new ≡ record old { slots = new.slots }
+DiffersInSlots old new = new ≡ record old { slots = new.slots; puts = new.puts }
 
 -- at most the room is another
 pub record IsSameMemory (old new : Memory) : Type 0 where
@@ -132,6 +149,7 @@ pub record IsSameMemory (old new : Memory) : Type 0 where
   pub files : new.files ≡ old.files
   pub sockets : new.sockets ≡ old.sockets
   pub slots : new.slots ≡ old.slots
+  pub puts : new.puts ≡ old.puts
 
 -- what is remembered once sockets got another address
 abbrev pub NotesSocket : Memory → Memory → (ℕ → Bool) → Type 0
@@ -189,7 +207,28 @@ pub record AddsHeld (fds : Fds) (old new : List (ℕ × ℕ)) : Type 0 where
 abbrev pub HasThose : Fds → List (ℕ × ℕ) → (ℕ → ℕ → Option Held → Bool) → Type 0
 HasThose fds slots test = (p n : ℕ) → test p n (held_at fds p n) ≡ true → has_slot slots p n ≡ true
 
--- if anything is remembered, it has each descriptor that these acts touch
+-- an act may put something at this descriptor
+abbrev pub may_put : Act → ℕ → ℕ → Bool
+may_put (Set pid fd what cloexec) p n = is_at pid fd p n
+may_put (SetBoth pid first second cloexec) p n = is_at pid first p n || is_at pid second p n
+may_put (Copy pid from to cloexec) p n = is_at pid to p n
+may_put (Mark pid fd cloexec) p n = is_at pid fd p n
+may_put (Address pid fd bytes) p n = is_at pid fd p n
+may_put other p n = false
+
+-- one of these acts may
+abbrev pub any_may_put : List Act → ℕ → ℕ → Bool
+any_may_put acts p n = list_any (λ act. may_put act p n) acts
+
+-- those that were there are still there
+abbrev pub StillHas : List (ℕ × ℕ) → List (ℕ × ℕ) → Type 0
+StillHas old new = (p n : ℕ) → has_slot old p n ≡ true → has_slot new p n ≡ true
+
+-- each descriptor that passes is among these, whatever it holds
+abbrev pub HasEach : List (ℕ × ℕ) → (ℕ → ℕ → Bool) → Type 0
+HasEach slots test = (p n : ℕ) → test p n ≡ true → has_slot slots p n ≡ true
+
+-- if anything is remembered, it has each descriptor that these acts touch, and each at which they may put something
 abbrev pub HasTouched : Option Memory → Fds → List Act → Type 0
 HasTouched None fds acts = ⊤
-HasTouched (Some memory) fds acts = HasThose fds memory.slots (any_touches acts)
+HasTouched (Some memory) fds acts = HasThose fds memory.slots (any_touches acts) × HasEach memory.puts (any_may_put acts)

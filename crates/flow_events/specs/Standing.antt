@@ -1,11 +1,13 @@
 -- What the tables stand for, and what a plan does to them. Every list of acts is ordered newest first.
-use Rattle.std.specs.Prelude.{◌≡◌, ◌==◌, ◌≤◌, ◌<◌, ◌+◌, ◌-◌, ◌++◌, ◌^◌, ℕ, List, length, reverse, if◌then◌else◌, Option, None, Some}
+use Rattle.std.specs.Prelude.{◌≡◌, ◌==◌, ◌≤◌, ◌<◌, ◌+◌, ◌-◌, ◌++◌, ◌^◌, ℕ, List, ◌∷◌, length, reverse, if◌then◌else◌, Option, None, Some}
+use Rattle.acts.specs.declared.act.Act.{Act}
 use Rattle.acts.specs.declared.act.Taken.{Taken}
 use Rattle.acts.specs.Holding.{holds, address_of}
 use Rattle.acts.specs.Keys.{all_given}
 use Rattle.acts.specs.Flows.{acts_of, objects, flows}
 use Rattle.proc_table.specs.Table.{StandsFor as LivesAs}
 use Rattle.fd_table.specs.Table.{HoldsAs, AddressesAs, HoldsTheSame}
+use Rattle.flow_base.specs.declared.types.Flow.{Flow}
 use Rattle.flow_base.specs.declared.types.Key.{Key}
 use Rattle.flow_base.specs.declared.limits.Limits.{Limits}
 use Rattle.entity_names.specs.Known.{NamesAs, names_at}
@@ -126,3 +128,28 @@ pub record CountsTheSame (old new : Tables) : Type 0 where
 pub record HasLimits (limits : Limits) (tables : Tables) : Type 0 where
   pub limits_are : tables.limits ≡ limits
   pub names_are : tables.entities.most_names ≡ limits.names
+
+-- this holds of all acts that the tables stand for, whatever text an address has
+abbrev pub ByTables : Tables → ((List ℕ → List ℕ) → List Taken → Type 0) → Type 0
+ByTables tables fact = (text : List ℕ → List ℕ) (taken : List Taken) → StandsFor text tables taken → fact text taken
+
+-- the tables still stand for the acts that they stood for
+abbrev pub StandsAsBefore : Tables → Tables → Type 0
+StandsAsBefore old new = (text : List ℕ → List ℕ) (taken : List Taken) → StandsFor text old taken → StandsFor text new taken
+
+-- with the acts of the plan the tables stand for them too
+abbrev pub GoesOnStanding : Tables → Tables → Plan → Type 0
+GoesOnStanding old new plan =
+    (text : List ℕ → List ℕ) (before now : List Taken) → StandsFor text old before → IsPlanOf text plan before now → StandsFor text new (now ++ before)
+
+-- the acts of the plan add these flows
+abbrev pub AddsFlows : Plan → List Flow → Type 0
+AddsFlows plan added = (text : List ℕ → List ℕ) (before now : List Taken) → IsPlanOf text plan before now → flows (now ++ before) ≡ flows before ++ added
+
+-- the objects, with those of the plan, are no more than there may be
+abbrev pub PlanFits : Tables → Plan → Type 0
+PlanFits tables plan = length (entered tables.entities.keys plan.keys) ≤ tables.entities.limit
+
+-- the new address, if there is one, is what this act gives after these
+abbrev pub GivesAddress : Option NewAddress → List Act → Act → Type 0
+GivesAddress new acts act = (s : ℕ) → address_of (act ∷ acts) s ≡ readdressed new (address_of acts) s

@@ -15,10 +15,11 @@ use Rattle.flow_events.specs.declared.draft.Ground.{Ground}
 use Rattle.acts.specs.declared.act.Act.{Act}
 use Rattle.flow_events.specs.declared.work.Worked.{Worked}
 use Rattle.flow_events.specs.declared.work.Begun.{Begun}
+use Rattle.flow_events.specs.Acting.{DoesAs}
 use Rattle.flow_events.specs.Added.{IsPast}
 use Rattle.flow_events.specs.Births.{BornAs}
 use Rattle.flow_events.specs.Changes.{changed}
-use Rattle.flow_events.specs.Drafts.{Drafted, UnderWay}
+use Rattle.flow_events.specs.Drafts.{Drafted, UnderWay, taken_at, turned}
 use Rattle.flow_events.specs.Lives.{LivesBelow}
 use Rattle.flow_events.specs.Standing.{readdressed}
 
@@ -45,10 +46,6 @@ pub record IsWorked (ground : Ground) (worked : Worked) (before now : List Taken
   pub held_are : (p n : ℕ) → holds (acts_of now ++ acts_of before) p n ≡ changed worked.last (changed worked.see (holds (acts_of before))) p n
   pub addresses_are : (s : ℕ) → address_of (acts_of now ++ acts_of before) s ≡ readdressed worked.address (address_of (acts_of before)) s
 
--- an act of the event as a log has it
-abbrev pub taken_at : Ground → Act → Taken
-taken_at ground act = record { act = act; ms = ground.ms; serial = ground.serial }
-
 -- with these acts of the event the objects are more than there may be, and that is what is said
 pub record IsRefused (ground : Ground) (full : Full) (before now : List Taken) : Type 0 where
   pub past : IsPast ground.most full (objects (acts_of now ++ acts_of before))
@@ -65,3 +62,53 @@ pub record IsFew (ground : Ground) (before : List Taken) (acts more : ℕ) : Typ
   pub grounded : Grounded ground before
   pub acts_are : acts ≡ length before
   pub few : length before + (more + 2) < 2 ^ 63 - 1
+
+-- with this see the event is under way
+abbrev pub BeginsWay : Ground → ℕ → ℕ → Option (List ℕ) → Begun → Type 0
+BeginsWay ground pid ppid exe begun =
+    (before : List Taken) → Grounded ground before
+    → UnderWay ground begun.acting begun.draft before (see_at ground.ms ground.serial pid ppid exe ∷ [])
+
+-- the first change of the event is what this see does
+abbrev pub BeginsAs : Ground → ℕ → ℕ → Option (List ℕ) → Begun → Type 0
+BeginsAs ground pid ppid exe begun = (before : List Taken) → Grounded ground before → DoesAs begun.see (acts_of before) (See pid ppid exe)
+
+-- with this see the objects are more than there may be
+abbrev pub SeeIsPast : Ground → ℕ → ℕ → Option (List ℕ) → Full → Type 0
+SeeIsPast ground pid ppid exe full =
+    (before : List Taken) → Grounded ground before → IsPast ground.most full (objects (See pid ppid exe ∷ acts_of before))
+
+-- an event that was begun after this many acts does these births and moves, oldest first, and this last act
+abbrev pub GoesOnWith : Ground → Begun → ℕ → List Act → Act → Worked → Type 0
+GoesOnWith ground begun acts front last worked =
+    (before : List Taken) (first : Taken) → Grounded ground before → IsBegun ground begun before first acts (length front)
+    → DoesAs begun.see (acts_of before) first.act
+    → IsWorked ground worked before (taken_at ground last ∷ (turned ground.ms ground.serial front ++ first ∷ []))
+
+-- with the acts of such an event the objects are more than there may be
+abbrev pub GoesPast : Ground → Begun → ℕ → List Act → Act → Full → Type 0
+GoesPast ground begun acts front last full =
+    (before : List Taken) (first : Taken) → IsBegun ground begun before first acts (length front)
+    → IsPast ground.most full (objects (last ∷ (acts_of (turned ground.ms ground.serial front ++ first ∷ []) ++ acts_of before)))
+
+-- after this many acts, the event does this see and then the rest, oldest first
+abbrev pub DoesRest : Ground → ℕ → ℕ → ℕ → Option (List ℕ) → List Act → Worked → Type 0
+DoesRest ground acts pid ppid exe rest worked =
+    (before : List Taken) → Grounded ground before → IsFew ground before acts (length rest)
+    → IsWorked ground worked before (turned ground.ms ground.serial rest ++ see_at ground.ms ground.serial pid ppid exe ∷ [])
+
+-- after this many acts, the objects with those of this see and the rest are more than there may be
+abbrev pub RestIsPast : Ground → ℕ → ℕ → ℕ → Option (List ℕ) → List Act → Full → Type 0
+RestIsPast ground acts pid ppid exe rest full =
+    (before : List Taken) → IsFew ground before acts (length rest)
+    → IsRefused ground full before (turned ground.ms ground.serial rest ++ see_at ground.ms ground.serial pid ppid exe ∷ [])
+
+-- after this many earlier acts, the event does these, oldest first
+abbrev pub DoesEvent : Ground → ℕ → List Act → Worked → Type 0
+DoesEvent ground number acts worked =
+    (before : List Taken) → IsFew ground before number (length acts) → IsWorked ground worked before (turned ground.ms ground.serial acts)
+
+-- after this many earlier acts, the objects with those of the event are more than there may be
+abbrev pub EventIsPast : Ground → ℕ → List Act → Full → Type 0
+EventIsPast ground number acts full =
+    (before : List Taken) → IsFew ground before number (length acts) → IsRefused ground full before (turned ground.ms ground.serial acts)

@@ -5,21 +5,17 @@
 //! linked them.
 //!
 //! The numbers of lives and births that acts leave aren't at their end, but a store might say such ones. They stay there.
-ghost use Rattle.std.specs.Prelude.{◌≡◌, ◌==◌, ◌<◌, ◌++◌, ◌^◌, ◌-◌, ◌∷◌, ℕ, List, Option, Some, IfOk, false};
-ghost use Rattle.flow_base.specs.declared.types.Key.TheVariants as key;
+ghost use Rattle.std.specs.Prelude.{◌≡◌, ◌<◌, ◌^◌, ◌-◌, ◌∷◌, List, Some, IfOk, false};
 ghost use Rattle.acts.specs.declared.act.Act.{Act};
 ghost use Rattle.acts.specs.declared.act.Act.TheVariants as act;
 ghost use Rattle.acts.specs.declared.act.Thing.TheVariants as thing;
-ghost use Rattle.acts.specs.Admitted.{Admitted};
-ghost use Rattle.acts.specs.Lives.{life_of};
 ghost use Rattle.acts.specs.Births.{born, file_key, path_or_none};
-ghost use Rattle.acts.specs.Holding.{holds};
 ghost use Rattle.acts.specs.Keys.{object_key, held_key, thing_key};
 ghost use Rattle.acts.specs.Flows.{between, link_of};
-ghost use Rattle.proc_table.specs.Table.{Table, StandsFor, standing_of, at};
-ghost use Rattle.fd_table.specs.Table.{AddressesAs, Table as Descriptors};
+ghost use Rattle.proc_table.specs.Table.{Table, standing_of, at};
+ghost use Rattle.fd_table.specs.Table.{AddressesAs};
 ghost use Rattle.flow_events.specs.Lives.{LivesBelow};
-ghost use Rattle.flow_events.specs.Acting.{IsActing, IsBorn, is_process};
+ghost use Rattle.flow_events.specs.Acting.{ByBirths, ByDescriptors, ByEvent, ByLives, SeesHolder, SeesLife, SeesLink, is_process, process_of};
 ghost use Rattle.flow_events.specs.Added.{HasTwoEnds};
 
 use crate::births::Births;
@@ -40,8 +36,8 @@ pub struct Acting {
 /// The process once it is seen.
 pub fn see_acting(procs: &Procs, pid: u32, ppid: u32) -> Acting
     ensures pid { result.pid ≡ pid }
-    ensures life { LivesBelow procs.now (2 ^ 64 - 1) → (before : List Act) (exe : Option (List ℕ)) → StandsFor procs.now before → life_of (act.See pid ppid exe ∷ before) pid ≡ result.life }
-    ensures held { (before : List Act) (exe : Option (List ℕ)) → StandsFor procs.now before → Admitted before → (n : ℕ) → holds (act.See pid ppid exe ∷ before) pid n ≡ holds before result.holder n }
+    ensures life { SeesLife procs.now pid ppid result.life }
+    ensures held { SeesHolder procs.now pid ppid result.holder }
 {
     sees_hand_on();
     only_live_pids_hold();
@@ -63,7 +59,7 @@ pub fn see_acting(procs: &Procs, pid: u32, ppid: u32) -> Acting
 
 /// The link of the see: from its parent, if the see begins a life and the parent is another pid and live.
 pub fn see_link(procs: &Procs, pid: u32, ppid: u32) -> Option<Link>
-    ensures link { LivesBelow procs.now (2 ^ 64 - 1) → (before : List Act) (exe : Option (List ℕ)) → StandsFor procs.now before → result ≡ link_of before (act.See pid ppid exe) }
+    ensures link { SeesLink procs.now pid ppid result }
     ensures ends { HasTwoEnds result }
 {
     if ppid == pid || procs.life(pid).is_some() {
@@ -95,9 +91,8 @@ fn next_life(procs: &Procs, pid: u32) -> u64
 // How often a file number was born.
 #[tactic(auto, using(crate::proofs::Numbers::born_both))]
 fn born(births: &Births, fresh: &Births, id: FileId) -> u64
-    ensures born { (before now : List Act) → IsBorn births.now fresh.now before now → result ≡ born (now ++ before) id }
-    ensures few { (before now : List Act) → IsBorn births.now fresh.now before now
-        → result < 2 ^ 64 - 1 }
+    ensures born { ByBirths births.now fresh.now (λ acts. result ≡ born acts id) }
+    ensures few { ByBirths births.now fresh.now (λ acts. result < 2 ^ 64 - 1) }
 {
     births.count(id).saturating_add(fresh.count(id))
 }
@@ -109,7 +104,8 @@ pub fn file_key(
     fresh: &Births,
     file: &FileRef,
 ) -> Result<Key, NoMemory>
-    ensures { (before now : List Act) → IsBorn births.now fresh.now before now → IfOk result (λ made. made ≡ file_key (now ++ before) file.now) }
+    ensures { ByBirths births.now fresh.now
+        (λ acts. IfOk result (λ made. made ≡ file_key acts file.now)) }
 {
     match file.file {
         Some(id) => Ok(Key::Inode {
@@ -130,7 +126,8 @@ pub fn birth_key(
     fresh: &Births,
     file: &FileRef,
 ) -> Result<Key, NoMemory>
-    ensures { (before now : List Act) → IsBorn births.now fresh.now before now → IfOk result (λ made. made ≡ file_key (act.Birth file.now ∷ (now ++ before)) file.now) }
+    ensures { ByBirths births.now fresh.now
+        (λ acts. IfOk result (λ made. made ≡ file_key (act.Birth file.now ∷ acts) file.now)) }
 {
     match file.file {
         Some(id) => Ok(Key::Inode {
@@ -155,7 +152,8 @@ fn path_or_none(alloc: Global, path: &Option<Bytes>) -> Result<Bytes, NoMemory>
 
 // The key of an object that is held.
 fn object_key(fds: &Fds, object: &Object) -> Result<Key, NoMemory>
-    ensures { (acts : List Act) → AddressesAs fds.now acts → IfOk result (λ made. made ≡ object_key acts object.now) }
+    ensures { (acts : List Act) → AddressesAs fds.now acts
+        → IfOk result (λ made. made ≡ object_key acts object.now) }
 {
     match object {
         Object::File(key) => copy_key(key),
@@ -171,7 +169,8 @@ fn object_key(fds: &Fds, object: &Object) -> Result<Key, NoMemory>
 
 // The key of what a descriptor of the process holds, or of a descriptor of which nothing is known.
 fn held_key(fds: &Fds, acting: &Acting, fd: u32) -> Result<Key, NoMemory>
-    ensures { (procs : Table) (acts : List Act) → IsActing procs fds.now acting.now acts → IfOk result (λ made. made ≡ thing_key acts acting.now.pid (thing.Fd fd)) }
+    ensures { ByDescriptors fds.now acting.now
+        (λ acts. IfOk result (λ made. made ≡ thing_key acts acting.now.pid (thing.Fd fd))) }
 {
     match fds.held(acting.holder, fd) {
         Some(object) => object_key(fds, object),
@@ -192,7 +191,8 @@ pub fn thing_key(
     acting: &Acting,
     what: &Thing,
 ) -> Result<Key, NoMemory>
-    ensures { (procs : Table) (before now : List Act) → IsBorn births.now fresh.now before now → IsActing procs fds.now acting.now (now ++ before) → IfOk result (λ made. made ≡ thing_key (now ++ before) acting.now.pid what.now) }
+    ensures { (procs : Table) → ByEvent procs fds.now births.now fresh.now acting.now
+        (λ acts. IfOk result (λ made. made ≡ thing_key acts acting.now.pid what.now)) }
 {
     match what {
         Thing::Fd(fd) => held_key(fds, acting, *fd),
@@ -205,7 +205,8 @@ pub fn thing_key(
 
 /// Inward is from the thing to the process. A process is no thing.
 pub fn between(inward: bool, thing: Key, acting: &Acting, how: How) -> Option<Link>
-    ensures link { is_process thing ≡ false → result ≡ Some (between inward thing (key.Process acting.now.pid acting.now.life) how) }
+    ensures link { is_process thing ≡ false
+        → result ≡ Some (between inward thing (process_of acting.now) how) }
     ensures ends { HasTwoEnds result }
 {
     if matches!(&thing, Key::Process { .. }) {
@@ -225,7 +226,8 @@ pub fn between(inward: bool, thing: Key, acting: &Acting, how: How) -> Option<Li
 
 /// The link of a fork: to the child, unless the child is the caller or had this parent already.
 pub fn fork_link(procs: &Procs, acting: &Acting, child: u32) -> Option<Link>
-    ensures link { LivesBelow procs.now (2 ^ 64 - 1) → (fds : Descriptors) (acts : List Act) → IsActing procs.now fds acting.now acts → result ≡ link_of acts (act.Fork acting.now.pid child) }
+    ensures link { LivesBelow procs.now (2 ^ 64 - 1) → ByLives procs.now acting.now
+        (λ acts. result ≡ link_of acts (act.Fork acting.now.pid child)) }
     ensures ends { HasTwoEnds result }
 {
     if child == acting.pid {

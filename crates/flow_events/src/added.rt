@@ -1,13 +1,9 @@
 //! The objects and flows that an event adds.
-ghost use Rattle.std.specs.Prelude.{◌≡◌, ◌≤◌, ◌<◌, ◌+◌, ◌++◌, ◌∷◌, ◌≢◌, ℕ, [], List, Some, Err, length, OnOk, IfOk, reverse};
-ghost use Rattle.flow_base.specs.declared.types.Key.{Key};
-ghost use Rattle.flow_base.specs.declared.limits.Full.{Full};
+ghost use Rattle.std.specs.Prelude.{◌≡◌, ◌≤◌, ◌≢◌, [], Some, length, OnOk, IfOk, reverse};
 ghost use Rattle.flow_base.specs.contracts.types.KeyPartialEq.TheImpl.{ghosts};
 ghost use Rattle.acts.specs.Keys.{put_new};
 ghost use Rattle.acts.specs.Flows.{number_in, with_ends};
-ghost use Rattle.entity_names.specs.Known.{full_at};
-ghost use Rattle.flow_events.specs.declared.fault.PrepareFault.TheVariants as fault;
-ghost use Rattle.flow_events.specs.Added.{AreNew, AreNumbered, flow_of};
+ghost use Rattle.flow_events.specs.Added.{AddsEnds, AddsFlow, AddsKey, IfFull, IsPast, StayNew, StayNumbered, objects_in};
 
 use crate::fault::PrepareFault;
 use crate::parts::newest_keys;
@@ -48,12 +44,14 @@ impl Added {
     // The number of a key: the next number, if the key is new.
     fn number(&mut self, entities: &Entities, most: u32, key: Key) -> Result<EntityId, PrepareFault>
         requires limit { most ≡ entities.now.limit }
-        requires fits { length (entities.now.keys ++ self.old.keys) ≤ most }
-        ensures keys { OnOk result (entities.now.keys ++ self.new.keys ≡ put_new ghosts.eq (entities.now.keys ++ self.old.keys) key) }
-        ensures new { OnOk result (AreNew entities.now.keys self.old.keys → AreNew entities.now.keys self.new.keys) }
-        ensures id { IfOk result (λ (id : EntityId). id.0 ≡ number_in (entities.now.keys ++ self.old.keys) key) }
-        ensures full { (full : Full) → result ≡ Err (fault.Full full) → (full ≡ full_at most) × (most < length (put_new ghosts.eq (entities.now.keys ++ self.old.keys) key)) }
-        ensures fits { OnOk result (length (entities.now.keys ++ self.new.keys) ≤ most) }
+        requires fits { length (objects_in entities.now self.old) ≤ most }
+        ensures keys { OnOk result (AddsKey entities.now self.old self.new key) }
+        ensures new { OnOk result (StayNew entities.now self.old self.new) }
+        ensures id { IfOk result
+            (λ (id : EntityId). id.0 ≡ number_in (objects_in entities.now self.old) key) }
+        ensures full { IfFull result
+            (λ full. IsPast most full (put_new ghosts.eq (objects_in entities.now self.old) key)) }
+        ensures fits { OnOk result (length (objects_in entities.now self.new) ≤ most) }
         ensures flows { self.new.flows ≡ self.old.flows }
     {
         equal_keys_are_one();
@@ -91,15 +89,16 @@ impl Added {
         serial: u32,
     ) -> Result<(), PrepareFault>
         requires limit { most ≡ entities.now.limit }
-        requires fits { length (entities.now.keys ++ self.old.keys) ≤ most }
+        requires fits { length (objects_in entities.now self.old) ≤ most }
         requires ends { link.from ≢ link.to }
-        ensures keys { OnOk result (entities.now.keys ++ self.new.keys ≡ with_ends (entities.now.keys ++ self.old.keys) (Some link)) }
-        ensures new { OnOk result (AreNew entities.now.keys self.old.keys → AreNew entities.now.keys self.new.keys) }
-        ensures flows { OnOk result (self.new.flows ≡ self.old.flows ++ flow_of (entities.now.keys ++ self.new.keys) at.ms serial at.place link ∷ []) }
-        ensures numbered { OnOk result ((place : ℕ) → at.place ≡ place + length self.old.flows
-            → AreNumbered entities.now.keys at.ms place self.old → AreNumbered entities.now.keys at.ms place self.new) }
-        ensures full { (full : Full) → result ≡ Err (fault.Full full) → (full ≡ full_at most) × (most < length (with_ends (entities.now.keys ++ self.old.keys) (Some link))) }
-        ensures fits { OnOk result (length (entities.now.keys ++ self.new.keys) ≤ most) }
+        ensures keys { OnOk result (AddsEnds entities.now self.old self.new (Some link)) }
+        ensures new { OnOk result (StayNew entities.now self.old self.new) }
+        ensures flows { OnOk result
+            (AddsFlow entities.now self.old self.new at serial (Some link)) }
+        ensures numbered { OnOk result (StayNumbered entities.now at self.old self.new) }
+        ensures full { IfFull result
+            (λ full. IsPast most full (with_ends (objects_in entities.now self.old) (Some link))) }
+        ensures fits { OnOk result (length (objects_in entities.now self.new) ≤ most) }
     {
         equal_keys_are_one();
         let from = self.number(entities, most, link.from)?;

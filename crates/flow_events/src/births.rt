@@ -1,11 +1,8 @@
 //! How often each file number was born.
 //!
 //! Acts leave no count at the end of its numbers, but a store might say one. A count stays there then.
-ghost use Rattle.std.specs.Prelude.{◌≡◌, ◌≤◌, ◌<◌, ◌+◌, ◌-◌, ◌^◌, ◌∷◌, [], List, OnOk, if◌then◌else◌};
-ghost use Rattle.flow_base.specs.declared.types.FileId.{FileId};
-ghost use Rattle.acts.specs.declared.act.Act.{Act};
-ghost use Rattle.acts.specs.Births.{same_file};
-ghost use Rattle.flow_events.specs.Births.{BornAs, SetsBirths, born_at, BornBelow, births_of, births_in};
+ghost use Rattle.std.specs.Prelude.{◌≡◌, ◌≤◌, ◌+◌, [], OnOk};
+ghost use Rattle.flow_events.specs.Births.{BearsAct, BornAs, CountsBirth, SetsBirths, born_at, births_of, births_in};
 
 use acts::Act;
 use flow_base::{FileId, NoMemory, equal_files_are_one};
@@ -61,7 +58,7 @@ impl Births {
     /// A file with this number was born. It takes no memory.
     fn add(&mut self, id: FileId)
         requires room { 1 ≤ self.old.spare }
-        ensures added { born_at self.old id < 2 ^ 64 - 1 → (f : FileId) → born_at self.new f ≡ (if same_file id f then born_at self.old f + 1 else born_at self.old f) }
+        ensures added { CountsBirth self.old self.new id }
         ensures spare { self.old.spare ≤ self.new.spare + 1 }
     {
         equal_files_are_one();
@@ -87,7 +84,7 @@ impl Births {
     /// What an act does to births. It takes no memory.
     pub fn act(&mut self, act: &Act)
         requires room { 1 ≤ self.old.spare }
-        ensures next { BornBelow self.old (2 ^ 64 - 1) → (acts : List Act) → BornAs self.old acts → BornAs self.new (act.now ∷ acts) }
+        ensures next { BearsAct self.old self.new act.now }
         ensures spare { self.old.spare ≤ self.new.spare + 1 }
     {
         if let Act::Birth { file } = act {
@@ -123,7 +120,7 @@ pub fn births_in(acts: &[Act]) -> usize
 /// What an act does to births. If it is a birth, there must be room for it. It takes no memory.
 pub fn bear(births: &mut Births, act: &Act)
     requires room { births_of act.now ≤ births.old.spare }
-    ensures next { BornBelow births.old (2 ^ 64 - 1) → (acts : List Act) → BornAs births.old acts → BornAs births.new (act.now ∷ acts) }
+    ensures next { BearsAct births.old births.new act.now }
     ensures spare { births.old.spare ≤ births.new.spare + births_of act.now }
 {
     if let Act::Birth { .. } = act {

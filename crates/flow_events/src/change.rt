@@ -1,9 +1,8 @@
 //! What an act does to descriptors, with the memory for it.
-ghost use Rattle.std.specs.Prelude.{◌≡◌, ◌≤◌, ◌<◌, ◌+◌, ◌^◌, ◌||◌, ℕ, Some, if◌then◌else◌};
-ghost use Rattle.acts.specs.Holding.{is_at};
+ghost use Rattle.std.specs.Prelude.{◌≡◌, ◌≤◌, ◌<◌, ◌+◌, ◌^◌, ℕ};
 ghost use Rattle.acts.specs.declared.held.Object.TheVariants as object;
 ghost use Rattle.fd_table.specs.Table.{held_at};
-ghost use Rattle.flow_events.specs.Changes.{changed, need};
+ghost use Rattle.flow_events.specs.Changes.{SetsBoth, changed, need};
 
 use acts::{Held, Object};
 use fd_table::Fds;
@@ -102,7 +101,7 @@ pub fn make_change(fds: &mut Fds, change: Change)
 fn set_both(fds: &mut Fds, pid: u32, first: u32, second: u32, held: Held, again: Held)
     requires room { 2 ≤ fds.old.spare }
     requires same { again ≡ held }
-    ensures held { (p n : ℕ) → held_at fds.new p n ≡ (if is_at pid first p n || is_at pid second p n then Some held else held_at fds.old p n) }
+    ensures held { SetsBoth fds.old fds.new pid first second held }
     ensures addresses { fds.new.addresses ≡ fds.old.addresses }
     ensures spare { fds.old.spare ≤ fds.new.spare + 2 }
     ensures address_spare { fds.new.address_spare ≡ fds.old.address_spare }

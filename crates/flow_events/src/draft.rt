@@ -1,21 +1,12 @@
 //! What is worked out of an event, act by act.
-ghost use Rattle.std.specs.Prelude.{◌≡◌, ◌≤◌, ◌<◌, ◌+◌, ◌-◌, ◌++◌, ◌^◌, ◌∷◌, ℕ, [], List, Err, length, map, OnOk};
-ghost use Rattle.std.specs.Prelude.{All};
-ghost use Rattle.flow_base.specs.declared.limits.Full.{Full};
-ghost use Rattle.acts.specs.declared.act.Act.TheVariants as act;
-ghost use Rattle.acts.specs.declared.act.Taken.{Taken};
-ghost use Rattle.acts.specs.Lives.{life_of};
-ghost use Rattle.proc_table.specs.Table.{StandsFor as LivesAs};
-ghost use Rattle.acts.specs.Flows.{acts_of, flows, objects, with_ends};
-ghost use Rattle.entity_names.specs.Known.{full_at};
-ghost use Rattle.flow_events.specs.declared.fault.PrepareFault.TheVariants as fault;
+ghost use Rattle.std.specs.Prelude.{◌≡◌, ◌≤◌, ◌<◌, ◌+◌, ◌++◌, ◌^◌, [], All, IfOk, OnOk, length, map};
+ghost use Rattle.acts.specs.Flows.{with_ends};
 ghost use Rattle.call_acts.specs.Events.{IsCalmOf, IsOf};
 ghost use Rattle.flow_events.specs.Acting.{pair_if};
 ghost use Rattle.flow_events.specs.Births.{BornAs, births_of, births_in};
-ghost use Rattle.std.specs.Prelude.{IfOk};
-ghost use Rattle.flow_events.specs.Drafts.{Drafted, IsNumbered, MayGoOn, UnderWay, turned};
-ghost use Rattle.flow_events.specs.Lives.{LivesBelow};
-ghost use Rattle.flow_events.specs.Added.{AreNew, AreNumbered, HasTwoEnds, IsPast, flows_if};
+ghost use Rattle.flow_events.specs.Drafts.{ActPasses, AddsAct, AddsActs, AddsSee, DraftFits, DraftedActsPass, GrowsAtMost};
+ghost use Rattle.flow_events.specs.Drafts.{HasPlacesFor, SeePasses, StaysNew, StaysNumbered};
+ghost use Rattle.flow_events.specs.Added.{AddsEnds, AddsFlow, HasTwoEnds, IfFull, IsPast, StayNew, StayNumbered, objects_in};
 ghost use Rattle.flow_events.specs.Entering.{pair_of};
 
 use crate::acting::{Acting, see_link};
@@ -52,15 +43,15 @@ pub fn add_link(
     serial: u32,
 ) -> Result<(), PrepareFault>
     requires limit { most ≡ entities.now.limit }
-    requires fits { length (entities.now.keys ++ added.old.keys) ≤ most }
+    requires fits { length (objects_in entities.now added.old) ≤ most }
     requires ends { HasTwoEnds link }
-    ensures keys { OnOk result (entities.now.keys ++ added.new.keys ≡ with_ends (entities.now.keys ++ added.old.keys) link) }
-    ensures new { OnOk result (AreNew entities.now.keys added.old.keys → AreNew entities.now.keys added.new.keys) }
-    ensures flows { OnOk result (added.new.flows ≡ added.old.flows ++ flows_if (entities.now.keys ++ added.new.keys) at.ms serial at.place link) }
-    ensures numbered { OnOk result ((place : ℕ) → at.place ≡ place + length added.old.flows
-        → AreNumbered entities.now.keys at.ms place added.old → AreNumbered entities.now.keys at.ms place added.new) }
-    ensures full { (full : Full) → result ≡ Err (fault.Full full) → (full ≡ full_at most) × (most < length (with_ends (entities.now.keys ++ added.old.keys) link)) }
-    ensures fits { OnOk result (length (entities.now.keys ++ added.new.keys) ≤ most) }
+    ensures keys { OnOk result (AddsEnds entities.now added.old added.new link) }
+    ensures new { OnOk result (StayNew entities.now added.old added.new) }
+    ensures flows { OnOk result (AddsFlow entities.now added.old added.new at serial link) }
+    ensures numbered { OnOk result (StayNumbered entities.now at added.old added.new) }
+    ensures full { IfFull result
+        (λ full. IsPast most full (with_ends (objects_in entities.now added.old) link)) }
+    ensures fits { OnOk result (length (objects_in entities.now added.new) ≤ most) }
     ensures more { OnOk result (length added.new.flows ≤ length added.old.flows + 1) }
 {
     match link {
@@ -119,14 +110,14 @@ impl Draft {
         exe: &Option<Bytes>,
     ) -> Result<(), PrepareFault>
         requires limit { ground.now.most ≡ ground.now.entities.now.limit }
-        requires fits { length (ground.now.entities.now.keys ++ self.old.added.keys) ≤ ground.now.most }
+        requires fits { DraftFits ground.now self.old }
         requires flows { ground.now.flows + length self.old.added.flows < 2 ^ 64 }
-        ensures next { OnOk result (LivesBelow ground.now.procs.now (2 ^ 64 - 1) → (before : List Taken) → ground.now.flows ≡ length (flows before) → LivesAs ground.now.procs.now (acts_of before) → life_of (act.See acting.now.pid ppid exe.now ∷ acts_of before) acting.now.pid ≡ acting.now.life → Drafted ground.now.births.now ground.now.entities.now self.old before [] → Drafted ground.now.births.now ground.now.entities.now self.new before (record { act = act.See acting.now.pid ppid exe.now; ms = ground.now.ms; serial = ground.now.serial } ∷ [])) }
-        ensures new { OnOk result (AreNew ground.now.entities.now.keys self.old.added.keys → AreNew ground.now.entities.now.keys self.new.added.keys) }
-        ensures fits { OnOk result (length (ground.now.entities.now.keys ++ self.new.added.keys) ≤ ground.now.most) }
-        ensures more { OnOk result (length self.new.added.flows ≤ length self.old.added.flows + 1) }
-        ensures numbered { OnOk result (IsNumbered ground.now self.old → IsNumbered ground.now self.new) }
-        ensures full { (full : Full) → result ≡ Err (fault.Full full) → LivesBelow ground.now.procs.now (2 ^ 64 - 1) → (before : List Taken) → LivesAs ground.now.procs.now (acts_of before) → Drafted ground.now.births.now ground.now.entities.now self.old before [] → IsPast ground.now.most full (objects (act.See acting.now.pid ppid exe.now ∷ acts_of before)) }
+        ensures next { OnOk result (AddsSee ground.now acting.now ppid exe.now self.old self.new) }
+        ensures new { OnOk result (StaysNew ground.now self.old self.new) }
+        ensures fits { OnOk result (DraftFits ground.now self.new) }
+        ensures more { OnOk result (GrowsAtMost self.old self.new 1) }
+        ensures numbered { OnOk result (StaysNumbered ground.now self.old self.new) }
+        ensures full { IfFull result (SeePasses ground.now acting.now ppid exe.now self.old) }
         ensures room { self.new.births ≡ self.old.births }
     {
         let link = see_link(ground.procs, acting.pid, ppid);
@@ -156,15 +147,15 @@ impl Draft {
     ) -> Result<(), PrepareFault>
         requires of { IsOf acting.now.pid act.now }
         requires limit { ground.now.most ≡ ground.now.entities.now.limit }
-        requires fits { length (ground.now.entities.now.keys ++ self.old.added.keys) ≤ ground.now.most }
+        requires fits { DraftFits ground.now self.old }
         requires room { births_of act.now ≤ self.old.births.spare }
         requires flows { ground.now.flows + length self.old.added.flows < 2 ^ 64 }
-        ensures next { OnOk result ((before now : List Taken) → MayGoOn ground.now acting.now self.old before now 0 → Drafted ground.now.births.now ground.now.entities.now self.new before (record { act = act.now; ms = ground.now.ms; serial = ground.now.serial } ∷ now)) }
-        ensures new { OnOk result (AreNew ground.now.entities.now.keys self.old.added.keys → AreNew ground.now.entities.now.keys self.new.added.keys) }
-        ensures fits { OnOk result (length (ground.now.entities.now.keys ++ self.new.added.keys) ≤ ground.now.most) }
-        ensures more { OnOk result (length self.new.added.flows ≤ length self.old.added.flows + 1) }
-        ensures numbered { OnOk result (IsNumbered ground.now self.old → IsNumbered ground.now self.new) }
-        ensures full { (full : Full) → result ≡ Err (fault.Full full) → (before now : List Taken) → MayGoOn ground.now acting.now self.old before now 0 → IsPast ground.now.most full (objects (act.now ∷ (acts_of now ++ acts_of before))) }
+        ensures next { OnOk result (AddsAct ground.now acting.now act.now self.old self.new) }
+        ensures new { OnOk result (StaysNew ground.now self.old self.new) }
+        ensures fits { OnOk result (DraftFits ground.now self.new) }
+        ensures more { OnOk result (GrowsAtMost self.old self.new 1) }
+        ensures numbered { OnOk result (StaysNumbered ground.now self.old self.new) }
+        ensures full { IfFull result (ActPasses ground.now acting.now act.now self.old) }
         ensures room { self.old.births.spare ≤ self.new.births.spare + births_of act.now }
     {
         let link = link_of(
@@ -204,15 +195,15 @@ impl Draft {
     ) -> Result<(), PrepareFault>
         requires calm { All (IsCalmOf acting.now.pid) acts.now }
         requires limit { ground.now.most ≡ ground.now.entities.now.limit }
-        requires fits { length (ground.now.entities.now.keys ++ self.old.added.keys) ≤ ground.now.most }
+        requires fits { DraftFits ground.now self.old }
         requires room { births_in acts.now ≤ self.old.births.spare }
-        requires flows { ground.now.flows + (length self.old.added.flows + length acts.now) < 2 ^ 64 }
-        ensures next { OnOk result ((before now : List Taken) → MayGoOn ground.now acting.now self.old before now (length acts.now) → UnderWay ground.now acting.now self.new before (turned ground.now.ms ground.now.serial acts.now ++ now)) }
-        ensures new { OnOk result (AreNew ground.now.entities.now.keys self.old.added.keys → AreNew ground.now.entities.now.keys self.new.added.keys) }
-        ensures fits { OnOk result (length (ground.now.entities.now.keys ++ self.new.added.keys) ≤ ground.now.most) }
-        ensures more { OnOk result (length self.new.added.flows ≤ length self.old.added.flows + length acts.now) }
-        ensures numbered { OnOk result (IsNumbered ground.now self.old → IsNumbered ground.now self.new) }
-        ensures full { (full : Full) → result ≡ Err (fault.Full full) → (before now : List Taken) → MayGoOn ground.now acting.now self.old before now (length acts.now) → IsPast ground.now.most full (objects (acts_of (turned ground.now.ms ground.now.serial acts.now ++ now) ++ acts_of before)) }
+        requires flows { HasPlacesFor ground.now self.old (length acts.now) }
+        ensures next { OnOk result (AddsActs ground.now acting.now acts.now self.old self.new) }
+        ensures new { OnOk result (StaysNew ground.now self.old self.new) }
+        ensures fits { OnOk result (DraftFits ground.now self.new) }
+        ensures more { OnOk result (GrowsAtMost self.old self.new (length acts.now)) }
+        ensures numbered { OnOk result (StaysNumbered ground.now self.old self.new) }
+        ensures full { IfFull result (DraftedActsPass ground.now acting.now acts.now self.old) }
         ensures room { self.old.births.spare ≤ self.new.births.spare + births_in acts.now }
     {
         for act in acts {

@@ -1,22 +1,17 @@
 //! What each act of an event does to descriptors and addresses, and which name it gives.
-ghost use Rattle.std.specs.Prelude.{◌≡◌, ◌==◌, ◌<◌, ◌++◌, ◌∷◌, ℕ, List, Option, None, Some, Bool, IfOk, length, option_copied};
+ghost use Rattle.std.specs.Prelude.{◌≡◌, ◌∷◌, ℕ, List, Option, Bool, IfOk, length, option_copied};
 ghost use Rattle.acts.specs.declared.act.Act.{Act};
 ghost use Rattle.acts.specs.declared.act.Act.TheVariants as act;
 ghost use Rattle.acts.specs.declared.act.Opens.TheVariants as opens;
-ghost use Rattle.acts.specs.declared.act.FileRef.{FileRef};
 ghost use Rattle.acts.specs.Admitted.{Admitted};
-ghost use Rattle.acts.specs.Births.{file_key};
 ghost use Rattle.acts.specs.Holding.{holds, opened, address_of, addressed, socket_held};
-ghost use Rattle.acts.specs.Keys.{given, name_if};
-ghost use Rattle.acts.specs.declared.held.Held.{Held};
 ghost use Rattle.flow_base.specs.declared.types.Key.TheVariants as key;
 ghost use Rattle.name_text.specs.Addresses.{text_of};
 ghost use Rattle.acts.specs.Standing.{is_awaiting};
-ghost use Rattle.proc_table.specs.Table.{Table, StandsFor, standing_of, at};
-ghost use Rattle.fd_table.specs.Table.{Table as Fds};
-ghost use Rattle.flow_events.specs.Acting.{IsActing, IsBorn, DoesAs, address_through, pair_if, stated};
+ghost use Rattle.proc_table.specs.Table.{StandsFor, standing_of, at};
+ghost use Rattle.flow_events.specs.Acting.{ByBirths, ByDescriptors, ByLives, DoesAs, address_through, exe_name, pair_if, path_name, stated};
 ghost use Rattle.flow_events.specs.Entering.{pair_of};
-ghost use Rattle.flow_events.specs.Standing.{readdressed};
+ghost use Rattle.flow_events.specs.Standing.{GivesAddress};
 
 use crate::acting::{Acting, birth_key, file_key};
 use crate::births::Births;
@@ -54,8 +49,8 @@ pub fn see_change(procs: &Procs, pid: u32, ppid: u32) -> Change
 
 /// A fork that begins a life gives it what the caller holds.
 pub fn fork_change(procs: &Procs, acting: &Acting, child: u32) -> Change
-    ensures { (fds : Fds) (acts : List Act) → IsActing procs.now fds acting.now acts
-        → DoesAs result acts (act.Fork acting.now.pid child) }
+    ensures { ByLives procs.now acting.now
+        (λ acts. DoesAs result acts (act.Fork acting.now.pid child)) }
 {
     forks_hand_on();
     if child == acting.pid || is_awaiting(procs, child, acting.pid) {
@@ -85,7 +80,8 @@ pub fn opened(
     number: u64,
     what: &Opens,
 ) -> Result<Object, NoMemory>
-    ensures { (before now : List Act) → IsBorn births.now fresh.now before now → number ≡ length (now ++ before) → IfOk result (λ object. object ≡ opened (now ++ before) what.now) }
+    ensures { ByBirths births.now fresh.now
+        (λ acts. number ≡ length acts → IfOk result (λ object. object ≡ opened acts what.now)) }
 {
     match what {
         Opens::File(file) => Ok(Object::File(file_key(alloc, births, fresh, file)?)),
@@ -101,7 +97,8 @@ pub fn copy_change(
     to: u32,
     cloexec: bool,
 ) -> Result<Change, NoMemory>
-    ensures { (procs : Table) (acts : List Act) → IsActing procs fds.now acting.now acts → IfOk result (λ change. DoesAs change acts (act.Copy acting.now.pid from to cloexec)) }
+    ensures { ByDescriptors fds.now acting.now (λ acts. IfOk result
+        (λ change. DoesAs change acts (act.Copy acting.now.pid from to cloexec))) }
 {
     let object = match fds.held(acting.holder, from) {
         Some(object) => object.copy()?,
@@ -120,7 +117,8 @@ pub fn copy_change(
 
 // The socket that a descriptor of the process holds.
 fn socket_at(fds: &Fds, acting: &Acting, fd: u32) -> Option<u64>
-    ensures { (procs : Table) (acts : List Act) → IsActing procs fds.now acting.now acts → result ≡ socket_held (holds acts acting.now.pid fd) }
+    ensures { ByDescriptors fds.now acting.now
+        (λ acts. result ≡ socket_held (holds acts acting.now.pid fd)) }
 {
     match fds.held(acting.holder, fd) {
         Some(Object::Sock(act)) => Some(*act),
@@ -130,7 +128,8 @@ fn socket_at(fds: &Fds, acting: &Acting, fd: u32) -> Option<u64>
 
 /// If no socket is held at a descriptor, an address puts a new socket there.
 pub fn address_change(fds: &Fds, acting: &Acting, fd: u32, number: u64) -> Change
-    ensures { (procs : Table) (acts : List Act) (bytes : List ℕ) → IsActing procs fds.now acting.now acts → number ≡ length acts → DoesAs result acts (act.Address acting.now.pid fd bytes) }
+    ensures { ByDescriptors fds.now acting.now (λ acts. number ≡ length acts
+        → (bytes : List ℕ) → DoesAs result acts (act.Address acting.now.pid fd bytes)) }
 {
     match socket_at(fds, acting, fd) {
         Some(_) => Change::Nothing,
@@ -153,7 +152,8 @@ pub fn address_at(
     number: u64,
     bytes: &Bytes,
 ) -> Result<Option<NewAddress>, NoMemory>
-    ensures { (procs : Table) (acts : List Act) → IsActing procs fds.now acting.now acts → number ≡ length acts → IfOk result (λ new. (s : ℕ) → address_of (act.Address acting.now.pid fd bytes.now ∷ acts) s ≡ readdressed new (address_of acts) s) }
+    ensures { ByDescriptors fds.now acting.now (λ acts. number ≡ length acts
+        → IfOk result (λ new. GivesAddress new acts (act.Address acting.now.pid fd bytes.now))) }
 {
     Ok(Some(NewAddress {
         socket: socket_or(fds, acting, fd, number),
@@ -163,7 +163,8 @@ pub fn address_at(
 
 // The socket that a descriptor of the process holds, or else the new one.
 fn socket_or(fds: &Fds, acting: &Acting, fd: u32, number: u64) -> u64
-    ensures { (procs : Table) (acts : List Act) → IsActing procs fds.now acting.now acts → number ≡ length acts → result ≡ addressed acts acting.now.pid fd }
+    ensures { ByDescriptors fds.now acting.now
+        (λ acts. number ≡ length acts → result ≡ addressed acts acting.now.pid fd) }
 {
     match socket_at(fds, acting, fd) {
         Some(socket) => socket,
@@ -179,7 +180,9 @@ pub fn socket_address(
     address: &Option<Bytes>,
     listener: Option<u32>,
 ) -> Result<Option<NewAddress>, NoMemory>
-    ensures { (procs : Table) (acts : List Act) (fd : ℕ) (cloexec : Bool) → IsActing procs fds.now acting.now acts → number ≡ length acts → IfOk result (λ new. (s : ℕ) → address_of (act.Set acting.now.pid fd (opens.Socket address.now listener) cloexec ∷ acts) s ≡ readdressed new (address_of acts) s) }
+    ensures { ByDescriptors fds.now acting.now (λ acts. number ≡ length acts
+        → (fd : ℕ) (cloexec : Bool) → IfOk result (λ new. GivesAddress new acts
+        (act.Set acting.now.pid fd (opens.Socket address.now listener) cloexec))) }
 {
     sockets_are_of_acts();
     match stated(fds, acting, address, listener) {
@@ -198,7 +201,8 @@ fn stated<'a>(
     address: &'a Option<Bytes>,
     listener: Option<u32>,
 ) -> Option<&'a Bytes>
-    ensures { (procs : Table) (acts : List Act) → IsActing procs fds.now acting.now acts → option_copied result ≡ stated (address_of acts) (holds acts acting.now.pid) address.now listener }
+    ensures { ByDescriptors fds.now acting.now (λ acts. option_copied result
+        ≡ stated (address_of acts) (holds acts acting.now.pid) address.now listener) }
 {
     match (address, listener) {
         (Some(bytes), _) => Some(bytes),
@@ -209,7 +213,8 @@ fn stated<'a>(
 
 // The address of a listener, if it is a socket with an address.
 fn heard<'a>(fds: &'a Fds, acting: &Acting, listener: u32) -> Option<&'a Bytes>
-    ensures { (procs : Table) (acts : List Act) → IsActing procs fds.now acting.now acts → option_copied result ≡ address_through (address_of acts) (socket_held (holds acts acting.now.pid listener)) }
+    ensures { ByDescriptors fds.now acting.now (λ acts. option_copied result
+        ≡ address_through (address_of acts) (socket_held (holds acts acting.now.pid listener))) }
 {
     match socket_at(fds, acting, listener) {
         Some(socket) => fds.address(socket),
@@ -236,7 +241,8 @@ pub fn file_name(
     fresh: &Births,
     file: &FileRef,
 ) -> Result<Option<Given>, NoMemory>
-    ensures { (before now : List Act) → IsBorn births.now fresh.now before now → IfOk result (λ given. pair_if given ≡ name_if (file_key (now ++ before) file.now) file.now.path) }
+    ensures { ByBirths births.now fresh.now
+        (λ acts. IfOk result (λ given. pair_if given ≡ path_name acts file.now)) }
 {
     match &file.path {
         None => Ok(None),
@@ -254,7 +260,8 @@ pub fn birth_name(
     fresh: &Births,
     file: &FileRef,
 ) -> Result<Option<Given>, NoMemory>
-    ensures { (before now : List Act) → IsBorn births.now fresh.now before now → IfOk result (λ given. pair_if given ≡ name_if (file_key (act.Birth file.now ∷ (now ++ before)) file.now) file.now.path) }
+    ensures { ByBirths births.now fresh.now (λ acts. IfOk result
+        (λ given. pair_if given ≡ path_name (act.Birth file.now ∷ acts) file.now)) }
 {
     match &file.path {
         None => Ok(None),
@@ -267,7 +274,7 @@ pub fn birth_name(
 
 /// A process is named by its program, if that is known.
 pub fn see_name(acting: &Acting, exe: &Option<Bytes>) -> Result<Option<Given>, NoMemory>
-    ensures { IfOk result (λ given. pair_if given ≡ name_if (key.Process acting.now.pid acting.now.life) exe.now) }
+    ensures { IfOk result (λ given. pair_if given ≡ exe_name acting.now exe.now) }
 {
     match exe {
         None => Ok(None),

@@ -3,9 +3,7 @@
 //! Each event gives its process the program that it runs, and nearly always the process has that name by then. So the
 //! name of a program is looked up before it is copied.
 ghost use Rattle.std.specs.Prelude.{◌≡◌, ◌∷◌, [], IfOk, true};
-ghost use Rattle.flow_base.specs.declared.types.Key.TheVariants as key;
-ghost use Rattle.acts.specs.Keys.{name_if};
-ghost use Rattle.flow_events.specs.Acting.{pair_if};
+ghost use Rattle.flow_events.specs.Acting.{exe_name, pair_if};
 ghost use Rattle.flow_events.specs.Entering.{NameAlike};
 
 use crate::acting::Acting;
@@ -20,7 +18,8 @@ pub fn new_exe(
     acting: &Acting,
     exe: &Option<Bytes>,
 ) -> Result<Option<Given>, NoMemory>
-    ensures { IfOk result (λ given. NameAlike entities.now (name_if (key.Process acting.now.pid acting.now.life) exe.now) (pair_if given)) }
+    ensures { IfOk result
+        (λ given. NameAlike entities.now (exe_name acting.now exe.now) (pair_if given)) }
 {
     if has_exe(entities, acting, exe) {
         return Ok(None);
@@ -40,7 +39,7 @@ pub fn if_new(entities: &Entities, name: Option<Given>) -> Option<Given>
 
 // Whether a process has its program as a name.
 fn has_exe(entities: &Entities, acting: &Acting, exe: &Option<Bytes>) -> bool
-    ensures { result ≡ true → NameAlike entities.now (name_if (key.Process acting.now.pid acting.now.life) exe.now) [] }
+    ensures { result ≡ true → NameAlike entities.now (exe_name acting.now exe.now) [] }
 {
     match exe {
         Some(exe) => {

@@ -1,13 +1,13 @@
 //! What the acts of an event do to each part of the tables. Nothing here takes memory.
-ghost use Rattle.std.specs.Prelude.{◌≡◌, ◌≤◌, ◌<◌, ◌+◌, ◌-◌, ◌^◌, ◌∷◌, ◌++◌, ℕ, [], List, length, reverse};
+ghost use Rattle.std.specs.Prelude.{◌≡◌, ◌≤◌, ◌<◌, ◌+◌, ◌-◌, ◌^◌, ◌∷◌, ◌++◌, [], List, length, reverse};
 ghost use Rattle.flow_base.specs.declared.types.Key.{Key};
 ghost use Rattle.acts.specs.declared.act.Act.{Act};
 ghost use Rattle.acts.specs.Keys.{put_new};
 ghost use Rattle.flow_base.specs.contracts.types.KeyPartialEq.TheImpl.{ghosts};
 ghost use Rattle.proc_table.specs.Table.{StandsFor};
-ghost use Rattle.entity_names.specs.Known.{NamesAs, HasPlace, names_at, capacity_at};
+ghost use Rattle.entity_names.specs.Known.{HasPlace, names_at, capacity_at};
 ghost use Rattle.flow_events.specs.Births.{BornAs};
-ghost use Rattle.flow_events.specs.Entering.{Covers, SavedAlike, entered, pair_of, pairs_of};
+ghost use Rattle.flow_events.specs.Entering.{AddsNames, ChangesKeys, Covers, SavedAlike, entered, pair_of, pairs_of};
 
 use crate::births::Births;
 use crate::given::Given;
@@ -20,7 +20,8 @@ use proc_table::Procs;
 /// What these acts, the oldest first, do to lives.
 pub fn live_through(procs: &mut Procs, acts: &[Act])
     requires room { length acts.now ≤ procs.old.spare }
-    ensures next { (before : List Act) → length before + length acts.now < 2 ^ 64 - 1 → StandsFor procs.old before → StandsFor procs.new (reverse acts.now ++ before) }
+    ensures next { (before : List Act) → length before + length acts.now < 2 ^ 64 - 1
+        → StandsFor procs.old before → StandsFor procs.new (reverse acts.now ++ before) }
 {
     each_beginning_is_an_act();
     for act in acts {
@@ -31,7 +32,8 @@ pub fn live_through(procs: &mut Procs, acts: &[Act])
 /// What these acts, the oldest first, do to births.
 pub fn bear_through(births: &mut Births, acts: &[Act])
     requires room { length acts.now ≤ births.old.spare }
-    ensures next { (before : List Act) → length before + length acts.now < 2 ^ 64 - 1 → BornAs births.old before → BornAs births.new (reverse acts.now ++ before) }
+    ensures next { (before : List Act) → length before + length acts.now < 2 ^ 64 - 1
+        → BornAs births.old before → BornAs births.new (reverse acts.now ++ before) }
 {
     for act in acts {
         births.act(act);
@@ -41,8 +43,9 @@ pub fn bear_through(births: &mut Births, acts: &[Act])
 // Gives a key a name for which there is a place.
 fn give(entities: &mut Entities, given: Given)
     requires place { HasPlace entities.old given.key }
-    ensures next { (all : List (Key × List ℕ)) → NamesAs entities.old all → NamesAs entities.new (all ++ pair_of given ∷ []) }
-    ensures more { (key : Key) → length (names_at entities.new key) ≤ length (names_at entities.old key) + 1 }
+    ensures next { AddsNames entities.old entities.new (pair_of given ∷ []) }
+    ensures more { (key : Key)
+        → length (names_at entities.new key) ≤ length (names_at entities.old key) + 1 }
     ensures capacity { (key : Key) → capacity_at entities.old key ≤ capacity_at entities.new key }
     ensures saved { SavedAlike entities.old entities.new }
     ensures rest { entities.new ≡ record entities.old { names = entities.new.names } }
@@ -56,7 +59,7 @@ fn give(entities: &mut Entities, given: Given)
 /// Gives keys these names, the newest of which stands first.
 pub fn give_all(entities: &mut Entities, given: List<Given>)
     requires room { Covers entities.old given }
-    ensures next { (all : List (Key × List ℕ)) → NamesAs entities.old all → NamesAs entities.new (all ++ pairs_of given) }
+    ensures next { AddsNames entities.old entities.new (pairs_of given) }
     ensures saved { SavedAlike entities.old entities.new }
     ensures rest { entities.new ≡ record entities.old { names = entities.new.names } }
 {
@@ -73,7 +76,7 @@ pub fn enter(entities: &mut Entities, key: Key)
     requires fits { length (put_new ghosts.eq entities.old.keys key) ≤ entities.old.limit }
     ensures keys { entities.new.keys ≡ put_new ghosts.eq entities.old.keys key }
     ensures spare { entities.old.spare ≤ entities.new.spare + 1 }
-    ensures rest { entities.new ≡ record entities.old { keys = entities.new.keys; spare = entities.new.spare } }
+    ensures rest { ChangesKeys entities.old entities.new }
 {
     match entities.enter(key) {
         Ok(_) => {}
@@ -86,7 +89,7 @@ pub fn enter_all(entities: &mut Entities, keys: List<Key>)
     requires room { length keys ≤ entities.old.spare }
     requires fits { length (entered entities.old.keys keys) ≤ entities.old.limit }
     ensures keys { entities.new.keys ≡ entered entities.old.keys keys }
-    ensures rest { entities.new ≡ record entities.old { keys = entities.new.keys; spare = entities.new.spare } }
+    ensures rest { ChangesKeys entities.old entities.new }
 {
     let mut keys = keys;
     while let Some(key) = keys.pop() {

@@ -97,7 +97,8 @@ impl Plan {
 /// Gives a socket its new address, if there is one. It takes no memory.
 pub fn readdress(fds: &mut Fds, address: Option<NewAddress>)
     requires room { addresses_in address ≤ fds.old.address_spare }
-    ensures addresses { (s : ℕ) → address_at fds.new s ≡ readdressed address (address_at fds.old) s }
+    ensures addresses { (s : ℕ)
+        → address_at fds.new s ≡ readdressed address (address_at fds.old) s }
     ensures held { HoldsTheSame fds.old fds.new }
 {
     if let Some(new) = address {

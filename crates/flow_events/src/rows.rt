@@ -1,18 +1,19 @@
 //! The table rows of a commit: what changed since the mark.
 //!
-//! Each kind of rows is collected in a map first, so that its rows ascend.
-ghost use Rattle.std.specs.Prelude.{◌≡◌, ◌++◌, ◌==◌, ◌<◌, ℕ, [], List, map, OnOk, IfOk, Some, None, option_copied, if◌then◌else◌};
+//! Each kind of rows is collected in a map first, so that its rows ascend. Of a process whose life goes on since the mark
+//! only the descriptors are written that an act touched, however many others it holds.
+ghost use Rattle.std.specs.Prelude.{◌≡◌, ◌++◌, ◌==◌, ◌||◌, ◌<◌, ℕ, [], List, map, OnOk, IfOk, Some, None, option_copied, if◌then◌else◌};
 ghost use Rattle.row_codec.specs.declared.rows.StoreRow.TheVariants as row;
 ghost use Rattle.std.specs.List.Sorted.{IsStrictlySortedBy};
 ghost use Rattle.std.specs.Map.{keys_of};
 ghost use Rattle.std.specs.Ordering.{nat_cmp};
-ghost use Rattle.flow_events.specs.Since.{has_slot};
+ghost use Rattle.flow_events.specs.Since.{has_slot, is_touched};
 ghost use Rattle.proc_table.specs.Table.{at};
 ghost use Rattle.fd_table.specs.Table.{held_at, address_at};
 ghost use Rattle.entity_names.specs.Known.{pairs_of};
 ghost use Rattle.stored.specs.Batch.{name_row, life_row, held_row, address_row, born_row};
 ghost use Rattle.flow_events.specs.Births.{born_at};
-ghost use Rattle.flow_events.specs.Rows.{AreParts, Puts, PutsEach, SayLives, SayHeld, SayAddresses, SayBirths, SayRemembered, TellRemembered, life_word, address_word, births_word, slot_word, found, slot_cmp, is_live, live_in, lost_word, kept_word, live_word, parts_of};
+ghost use Rattle.flow_events.specs.Rows.{AreParts, Puts, PutsEach, SayLives, SayHeld, SayAddresses, SayBirths, SayRemembered, TellRemembered, life_word, address_word, births_word, slot_word, found, slot_cmp, is_live, live_in, is_written, lost_word, kept_word, live_word, parts_of, goes_on, only_if, touched_word, word_in};
 
 use crate::births::Births;
 use crate::parts::newest_first;
@@ -235,66 +236,85 @@ fn lost_of(
     Ok(held)
 }
 
-// Puts what a descriptor holds.
+// Puts what a descriptor holds, if it was touched or all are written.
 fn put_entry(
     held: &mut BTreeMap<(u32, u32), Option<Held>>,
+    since: &Since,
     pid: u32,
+    all: bool,
     entry: FdEntry,
 ) -> Result<(), NoMemory>
-    ensures { OnOk result (Puts slot_cmp held.old.entries held.new.entries
-        (pid, entry.fd) (Some (Some entry.held))) }
+    ensures { OnOk result (Puts slot_cmp held.old.entries held.new.entries (pid, entry.fd)
+        (only_if (all || is_touched since.now (pid, entry.fd)) (Some (Some entry.held)))) }
 {
-    held.insert((pid, entry.fd), Some(entry.held))?;
-    Ok(())
-}
-
-// Puts what all descriptors of a pid hold that hold something.
-fn put_entries(
-    held: &mut BTreeMap<(u32, u32), Option<Held>>,
-    fds: &Fds,
-    pid: u32,
-) -> Result<(), NoMemory>
-    ensures { OnOk result (PutsEach slot_cmp held.old.entries held.new.entries
-        (λ q. if pid == q.0 then kept_word fds.now q else None)) }
-{
-    let mut entries = fds.entries(pid)?;
-    while let Some(entry) = entries.pop() {
-        put_entry(held, pid, entry)?;
+    if all || since.touched(pid, entry.fd) {
+        held.insert((pid, entry.fd), Some(entry.held))?;
     }
     Ok(())
 }
 
-// Puts the same, if the pid is live.
+// Puts what all descriptors of a pid hold that hold something, or only what those do that were touched.
+fn put_entries(
+    held: &mut BTreeMap<(u32, u32), Option<Held>>,
+    since: &Since,
+    fds: &Fds,
+    pid: u32,
+    all: bool,
+) -> Result<(), NoMemory>
+    ensures { OnOk result (PutsEach slot_cmp held.old.entries held.new.entries
+        (λ q. if pid == q.0 then touched_word all since.now fds.now q else None)) }
+{
+    let mut entries = fds.entries(pid)?;
+    while let Some(entry) = entries.pop() {
+        put_entry(held, since, pid, all, entry)?;
+    }
+    Ok(())
+}
+
+// Whether the last life of a pid goes on since the mark.
+fn goes_on(since: &Since, pid: u32, life: Option<&Life>) -> bool
+    ensures { result ≡ goes_on since.now pid (option_copied life.entry) }
+{
+    match life {
+        Some(life) => since.goes_on(pid, life),
+        None => false,
+    }
+}
+
+// Puts what is to be written of a pid, if it is live.
 fn put_pid(
     held: &mut BTreeMap<(u32, u32), Option<Held>>,
+    since: &Since,
     fds: &Fds,
     lives: &BTreeMap<u32, Life>,
     pid: u32,
 ) -> Result<(), NoMemory>
     ensures { OnOk result (PutsEach slot_cmp held.old.entries held.new.entries
-        (λ q. if pid == q.0 then live_word lives.now.entries fds.now q else None)) }
+        (λ q. if pid == q.0 then live_word since.now lives.now.entries fds.now q else None)) }
 {
-    if is_live(lives.get(&pid)) {
-        put_entries(held, fds, pid)?;
+    let life = lives.get(&pid);
+    if is_live(life) {
+        let all = !goes_on(since, pid, life);
+        put_entries(held, since, fds, pid, all)?;
     }
     Ok(())
 }
 
-/// What each descriptor holds of the pids that are live by these lives; nothing, of one of these descriptors that holds
-/// nothing.
+/// What is to be written of the descriptors of the pids that are live by these lives: what each holds, of a life that goes
+/// on if it was touched; nothing, of one that was touched and holds nothing.
 fn held_of(
     alloc: Global,
-    slots: &[(u32, u32)],
+    since: &Since,
     fds: &Fds,
     lives: &BTreeMap<u32, Life>,
 ) -> Result<BTreeMap<(u32, u32), Option<Held>>, NoMemory>
     ensures { IfOk result (λ held. SayHeld (λ q. if live_in lives.now.entries q.0
-        then slot_word (has_slot slots.now q.0 q.1) (held_at fds.now q.0 q.1) else None)
+        then word_in since.now fds.now (found nat_cmp lives.now.entries q.0) q else None)
         held.entries) }
 {
-    let mut held = lost_of(alloc, slots, lives)?;
+    let mut held = lost_of(alloc, since.slots(), lives)?;
     for pid in lives.keys() {
-        put_pid(&mut held, fds, lives, *pid)?;
+        put_pid(&mut held, since, fds, lives, *pid)?;
     }
     Ok(held)
 }
@@ -323,7 +343,7 @@ fn collect(
         entities.now (parts_of all)) }
 {
     let lives = lives_of(alloc, since, procs)?;
-    let held = held_of(alloc, since.slots(), fds, &lives)?;
+    let held = held_of(alloc, since, fds, &lives)?;
     Ok(Collected {
         keys: entities.copy_from(since.known())?,
         names: entities.new_names()?,

@@ -10,7 +10,7 @@ ghost use Rattle.acts.specs.Flows.{objects};
 ghost use Rattle.proc_table.specs.Table.{StandsFor as LivesAs};
 ghost use Rattle.fd_table.specs.Table.{address_at};
 ghost use Rattle.stored.specs.Batch.{names_pid};
-ghost use Rattle.flow_events.specs.Since.{AddsHeld, ArePids, AreFiles, DiffersInFiles, DiffersInNamed, DiffersInPids, DiffersInSlots, DiffersInSockets, HasRoom, HasRoomFor, HasThose, HasTouched, IsMarked, IsSameMemory, IsSince, NotesPid, NotesFile, NotesSocket, RemembersTheSame, any_touches, changes_address, is_address};
+ghost use Rattle.flow_events.specs.Since.{AddsHeld, ArePids, AreFiles, DiffersInFiles, DiffersInNamed, DiffersInPids, DiffersInSlots, DiffersInSockets, HasEach, HasRoom, HasRoomFor, HasThose, HasTouched, IsMarked, IsSameMemory, IsSince, NotesPid, NotesFile, NotesSocket, RemembersTheSame, StillHas, any_may_put, any_touches, changes_address, is_address, is_since, is_touched, pid_in};
 ghost use Rattle.flow_events.specs.Remembering.{NotesEvent};
 
 use crate::plan::NewAddress;
@@ -34,8 +34,10 @@ pub struct Since {
     files: IndexSet<FileId>,
     /// The sockets that got another address.
     sockets: IndexSet<u64>,
-    /// The descriptors that were touched.
+    /// The descriptors that were touched while they held something.
     slots: Slots,
+    /// The descriptors at which something was put.
+    puts: Slots,
 }
 
 impl Model for Since {
@@ -51,6 +53,7 @@ impl Model for Since {
       files = a.files.keys;
       sockets = a.sockets.keys;
       slots = a.slots;
+      puts = a.puts;
       pid_spare = map.spare a.pids;
       file_spare = set.spare a.files;
       socket_spare = set.spare a.sockets;
@@ -69,6 +72,7 @@ impl Since {
             files: IndexSet::new(alloc),
             sockets: IndexSet::new(alloc),
             slots: Slots::new(alloc),
+            puts: Slots::new(alloc),
         }
     }
 
@@ -82,6 +86,7 @@ impl Since {
         self.files.clear();
         self.sockets.clear();
         self.slots.clear();
+        self.puts.clear();
     }
 
     /// How many objects there were at the mark.
@@ -112,11 +117,28 @@ impl Since {
         self.sockets.as_slice()
     }
 
-    /// The descriptors that were touched.
+    /// The descriptors that were touched while they held something.
     pub fn slots(&self) -> &[(u32, u32)]
         ensures { result.now ≡ self.now.slots }
     {
         self.slots.as_slice()
+    }
+
+    /// Whether a descriptor was touched while it held something, or something was put there.
+    pub fn touched(&self, pid: u32, fd: u32) -> bool
+        ensures { result ≡ is_touched self.now (pid, fd) }
+    {
+        self.slots.has(pid, fd) || self.puts.has(pid, fd)
+    }
+
+    /// Whether this life of a pid goes on since the mark.
+    pub fn goes_on(&self, pid: u32, life: &Life) -> bool
+        ensures { result ≡ is_since (pid_in self.now pid) life.now }
+    {
+        match self.pids.get(&pid) {
+            Some(Some(was)) => was.live && was.life == life.life,
+            _ => false,
+        }
     }
 
     /// Makes room for this many acts, and for one address.
@@ -132,13 +154,17 @@ impl Since {
         Ok(())
     }
 
-    /// Notes the descriptors that these acts touch. They hold what they do before the acts.
+    /// Notes the descriptors that these acts touch, and those at which they may put something. They hold what they do
+    /// before the acts.
     pub fn note_slots(&mut self, fds: &Fds, acts: &[Act]) -> Result<(), NoMemory>
         ensures adds { AddsHeld fds.now self.old.slots self.new.slots }
+        ensures stay { StillHas self.old.puts self.new.puts }
         ensures noted { OnOk result (HasThose fds.now self.new.slots (any_touches acts.now)) }
+        ensures put { OnOk result (HasEach self.new.puts (any_may_put acts.now)) }
         ensures rest { DiffersInSlots self.old self.new }
     {
-        self.slots.note_acts(fds, acts)
+        self.slots.note_acts(fds, acts)?;
+        self.puts.put_acts(acts)
     }
 
     // Remembers a pid as it stands, unless it is remembered already.

@@ -1,10 +1,10 @@
-//! Descriptors that were touched since a mark while they held something, so that a commit can say which of them hold
-//! nothing any more.
+//! Descriptors that were noted since a mark: those that were touched while they held something, so that a commit can say
+//! which of them hold nothing any more, or those at which something was put, so that it says what these hold and no more.
 ghost use Rattle.std.specs.Prelude.{◌≡◌, ◌==◌, ◌&&◌, ◌||◌, ℕ, [], OnOk, OnErr, is_some};
 ghost use Rattle.std.specs.List.{list_any};
 ghost use Rattle.acts.specs.Holding.{is_at};
 ghost use Rattle.fd_table.specs.Table.{held_at, is_marked};
-ghost use Rattle.flow_events.specs.Since.{AddsHeld, HasThose, any_touches, has_slot, touches};
+ghost use Rattle.flow_events.specs.Since.{AddsHeld, HasEach, HasThose, StillHas, any_may_put, any_touches, has_slot, may_put, touches};
 
 use acts::Act;
 use fd_table::Fds;
@@ -49,6 +49,13 @@ impl Slots {
         ensures { result.now ≡ self.now }
     {
         self.all.as_slice()
+    }
+
+    /// Whether a descriptor was noted.
+    pub fn has(&self, pid: u32, fd: u32) -> bool
+        ensures { result ≡ has_slot self.now pid fd }
+    {
+        self.all.contains(&(pid, fd))
     }
 
     // Puts a descriptor.
@@ -118,6 +125,47 @@ impl Slots {
             Act::Address { pid, fd, .. } => self.note(fds, *pid, *fd),
             _ => Ok(()),
         }
+    }
+
+    // Puts two descriptors.
+    fn put_both(&mut self, pid: u32, first: u32, second: u32) -> Result<(), NoMemory>
+        ensures stay { StillHas self.old self.new }
+        ensures noted { OnOk result (HasEach self.new
+            (λ p n. is_at pid first p n || is_at pid second p n)) }
+    {
+        self.put(pid, first)?;
+        self.put(pid, second)
+    }
+
+    // Puts the descriptors at which an act may put something.
+    fn put_act(&mut self, act: &Act) -> Result<(), NoMemory>
+        ensures stay { StillHas self.old self.new }
+        ensures noted { OnOk result (HasEach self.new (may_put act.now)) }
+    {
+        match act {
+            Act::Set { pid, fd, .. } => self.put(*pid, *fd),
+            Act::SetBoth {
+                pid,
+                first,
+                second,
+                ..
+            } => self.put_both(*pid, *first, *second),
+            Act::Copy { pid, to, .. } => self.put(*pid, *to),
+            Act::Mark { pid, fd, .. } => self.put(*pid, *fd),
+            Act::Address { pid, fd, .. } => self.put(*pid, *fd),
+            _ => Ok(()),
+        }
+    }
+
+    /// Puts the descriptors at which these acts may put something.
+    pub fn put_acts(&mut self, acts: &[Act]) -> Result<(), NoMemory>
+        ensures stay { StillHas self.old self.new }
+        ensures noted { OnOk result (HasEach self.new (any_may_put acts.now)) }
+    {
+        for act in acts {
+            self.put_act(act)?;
+        }
+        Ok(())
     }
 
     /// Notes the descriptors that these acts touch. They hold what they do before the acts.

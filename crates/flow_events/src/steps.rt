@@ -1,16 +1,13 @@
 //! What an act of an event does, of whatever kind it is, except the see that comes first.
-ghost use Rattle.std.specs.Prelude.{◌≡◌, ◌++◌, ◌∷◌, ◌^◌, ◌-◌, ℕ, List, IfOk, length};
-ghost use Rattle.acts.specs.declared.act.Act.{Act};
-ghost use Rattle.acts.specs.Holding.{address_of};
+ghost use Rattle.std.specs.Prelude.{◌≡◌, ◌^◌, ◌-◌, IfOk, length};
 ghost use Rattle.acts.specs.Keys.{given};
 ghost use Rattle.acts.specs.Flows.{link_of};
 ghost use Rattle.name_text.specs.Addresses.{text_of};
-ghost use Rattle.proc_table.specs.Table.{Table};
 ghost use Rattle.flow_events.specs.Lives.{LivesBelow};
 ghost use Rattle.call_acts.specs.Events.{IsOf};
-ghost use Rattle.flow_events.specs.Acting.{IsActing, IsBorn, IsNoSee, DoesAs, pair_if};
+ghost use Rattle.flow_events.specs.Acting.{ByBirths, ByDescriptors, ByEvent, IsNoSee, DoesAs, pair_if};
 ghost use Rattle.flow_events.specs.Added.{HasTwoEnds};
-ghost use Rattle.flow_events.specs.Standing.{readdressed};
+ghost use Rattle.flow_events.specs.Standing.{GivesAddress};
 
 use crate::acting::{Acting, between, fork_link, thing_key};
 use crate::births::Births;
@@ -38,7 +35,9 @@ pub fn link_of(
     act: &Act,
 ) -> Result<Option<Link>, NoMemory>
     requires of { IsOf acting.now.pid act.now }
-    ensures link { LivesBelow procs.now (2 ^ 64 - 1) → (before now : List Act) → IsBorn births.now fresh.now before now → IsActing procs.now fds.now acting.now (now ++ before) → IfOk result (λ link. link ≡ link_of (now ++ before) act.now) }
+    ensures link { LivesBelow procs.now (2 ^ 64 - 1)
+        → ByEvent procs.now fds.now births.now fresh.now acting.now
+        (λ acts. IfOk result (λ link. link ≡ link_of acts act.now)) }
     ensures ends { IfOk result HasTwoEnds }
 {
     match act {
@@ -65,7 +64,8 @@ pub fn name_of(
     act: &Act,
 ) -> Result<Option<Given>, NoMemory>
     requires kind { IsNoSee act.now }
-    ensures { (before now : List Act) → IsBorn births.now fresh.now before now → IfOk result (λ name. pair_if name ≡ given text_of (now ++ before) act.now) }
+    ensures { ByBirths births.now fresh.now
+        (λ acts. IfOk result (λ name. pair_if name ≡ given text_of acts act.now)) }
 {
     match act {
         Act::See { .. } => unreachable!(),
@@ -106,7 +106,8 @@ pub fn change_of(
     number: u64,
 ) -> Result<Change, NoMemory>
     requires of { IsOf acting.now.pid act.now }
-    ensures { (before now : List Act) → IsBorn births.now fresh.now before now → IsActing procs.now fds.now acting.now (now ++ before) → number ≡ length (now ++ before) → IfOk result (λ change. DoesAs change (now ++ before) act.now) }
+    ensures { ByEvent procs.now fds.now births.now fresh.now acting.now
+        (λ acts. number ≡ length acts → IfOk result (λ change. DoesAs change acts act.now)) }
 {
     let pid = acting.pid;
     match act {
@@ -167,7 +168,8 @@ pub fn address_of(
     number: u64,
 ) -> Result<Option<NewAddress>, NoMemory>
     requires of { IsOf acting.now.pid act.now }
-    ensures { (procs : Table) (acts : List Act) → IsActing procs fds.now acting.now acts → number ≡ length acts → IfOk result (λ new. (s : ℕ) → address_of (act.now ∷ acts) s ≡ readdressed new (address_of acts) s) }
+    ensures { ByDescriptors fds.now acting.now
+        (λ acts. number ≡ length acts → IfOk result (λ new. GivesAddress new acts act.now)) }
 {
     match act {
         Act::Set { what, .. } => match what {

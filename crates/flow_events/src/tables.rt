@@ -1,27 +1,21 @@
 //! The tables of all that acts are about.
-ghost use Rattle.std.specs.Prelude.{◌≡◌, ◌++◌, ◌^◌, ℕ, [], List, Err, None, Some, OnOk, IfSome, length};
-ghost use Rattle.flow_base.specs.declared.limits.Full.{Full};
+ghost use Rattle.std.specs.Prelude.{◌≡◌, ◌≤◌, ◌^◌, ℕ, [], List, None, Some, OnOk, IfOk, IfSome, length};
 ghost use Rattle.flow_base.specs.declared.limits.Limits.{Limits};
-ghost use Rattle.acts.specs.declared.act.Taken.{Taken};
 ghost use Rattle.acts.specs.Keys.{all_given};
 ghost use Rattle.acts.specs.Flows.{acts_of, objects, flows};
-ghost use Rattle.acts.specs.LookBack.{full_at};
 ghost use Rattle.call_acts.specs.Acts.{event_acts, is_unmapped};
-ghost use Rattle.flow_events.specs.declared.fault.PrepareFault.TheVariants as fault;
 ghost use Rattle.entity_names.specs.Known.{NamesAs};
-ghost use Rattle.std.specs.Prelude.{IfOk, ◌≤◌};
 ghost use Rattle.std.specs.Option.{option_map};
-ghost use Rattle.name_text.specs.Addresses.{text_of};
-ghost use Rattle.flow_events.specs.Added.{IsPast};
-ghost use Rattle.flow_events.specs.Drafts.{turned};
-ghost use Rattle.flow_events.specs.Entering.{entered};
-ghost use Rattle.flow_events.specs.Following.{HasNumbersFor, MayFollow, PlansEvent, EventFits, EventPasses};
+ghost use Rattle.flow_events.specs.Added.{IfFull};
+ghost use Rattle.flow_events.specs.Following.{ActsFit, ActsPass, ActsPassObjects, PlansActs};
+ghost use Rattle.flow_events.specs.Following.{EventFits, EventPasses, HasNumbersFor, PlansEvent, acts_of_event};
 ghost use Rattle.call_acts.specs.Events.{IsEvent};
 ghost use Rattle.store_check.specs.Store.{keys};
 ghost use Rattle.flow_events.specs.Filling.{AreRestored, HasCountsOf};
 ghost use Rattle.flow_events.specs.Remembering.{BeginsAnew, BeginsToRemember, GoesOnMarked, GoesOnSince, MarksAnew, MarksNow, StaysMarked, StaysSince};
 ghost use Rattle.flow_events.specs.Rows.{AreRowsSince};
-ghost use Rattle.flow_events.specs.Standing.{AreSafe, CountsTheSame, StandsFor, HasGrown, HasLimits, IsPlanOf, IsReady, HasRooms, DiffersInRoom, PlanFlows};
+ghost use Rattle.flow_events.specs.Standing.{AddsFlows, AreSafe, ByTables, CountsTheSame, DiffersInRoom, GoesOnStanding};
+ghost use Rattle.flow_events.specs.Standing.{HasGrown, HasLimits, HasRooms, IsReady, PlanFits, PlanFlows, StandsAsBefore, StandsFor};
 ghost use Rattle.stored.specs.Words.{state_of};
 
 use crate::births::Births;
@@ -182,22 +176,24 @@ impl Tables {
     /// The objects by number, and the names of keys.
     pub fn entities(&self) -> &Entities
         ensures same { result.now ≡ self.now.entities }
-        ensures objects { (text : List ℕ → List ℕ) (taken : List Taken) → StandsFor text self.now taken → result.now.keys ≡ objects (acts_of taken) }
-        ensures names { (text : List ℕ → List ℕ) (taken : List Taken) → StandsFor text self.now taken → NamesAs result.now (all_given text (acts_of taken)) }
+        ensures objects { ByTables self.now
+            (λ text taken. result.now.keys ≡ objects (acts_of taken)) }
+        ensures names { ByTables self.now
+            (λ text taken. NamesAs result.now (all_given text (acts_of taken))) }
     {
         &self.entities
     }
 
     /// How many flows there were.
     pub fn flows(&self) -> u64
-        ensures { (text : List ℕ → List ℕ) (taken : List Taken) → StandsFor text self.now taken → result ≡ length (flows taken) }
+        ensures { ByTables self.now (λ text taken. result ≡ length (flows taken)) }
     {
         self.flows
     }
 
     /// How many acts there were.
     pub fn acts(&self) -> u64
-        ensures { (text : List ℕ → List ℕ) (taken : List Taken) → StandsFor text self.now taken → result ≡ length taken }
+        ensures { ByTables self.now (λ text taken. result ≡ length taken) }
     {
         self.acts
     }
@@ -205,21 +201,20 @@ impl Tables {
     /// Works out what an event will do, and takes all the memory for it. The tables stand for the same acts as before.
     pub fn prepare(&mut self, alloc: Global, event: &EventView<'_>) -> Result<Plan, PrepareFault>
         requires safe { AreSafe self.old }
-        requires few { HasNumbersFor self.old
-            (length (event_acts self.old.limits.path event.now.records.now)) }
+        requires few { HasNumbersFor self.old (length (acts_of_event self.old.limits event.now)) }
         ensures plan { IfOk result (PlansEvent self.old event.now) }
-        ensures acts { IfOk result (λ plan. plan.acts ≡ event_acts self.old.limits.path event.now.records.now) }
+        ensures acts { IfOk result (λ plan. plan.acts ≡ acts_of_event self.old.limits event.now) }
         ensures flows { IfOk result (PlanFlows self.old event.now.ms) }
         ensures unmapped { IfOk result (λ plan. plan.unmapped ≡ is_unmapped event.now.records.now) }
         ensures ready { IfOk result (λ plan. IsReady self.new plan) }
-        ensures same { (text : List ℕ → List ℕ) (taken : List Taken) → StandsFor text self.old taken → StandsFor text self.new taken }
+        ensures same { StandsAsBefore self.old self.new }
         ensures safe { AreSafe self.new }
         ensures room { DiffersInRoom self.old self.new }
         ensures since { StaysSince self.old self.new }
         ensures marks { StaysMarked self.old self.new }
         ensures limits { (limits : Limits) → HasLimits limits self.old → HasLimits limits self.new }
         ensures fits { OnOk result (EventFits self.old event.now) }
-        ensures full { (full : Full) → result ≡ Err (fault.Full full) → EventPasses self.old event.now full }
+        ensures full { IfFull result (EventPasses self.old event.now) }
     {
         acts_are_of_one_event();
         let acts = call_acts::acts(alloc, event, &self.limits)?;
@@ -241,19 +236,19 @@ impl Tables {
         requires event { IsEvent acts }
         requires safe { AreSafe self.old }
         requires few { HasNumbersFor self.old (length acts) }
-        ensures plan { IfOk result (λ plan. (before : List Taken) → MayFollow self.old before (length acts) → IsPlanOf text_of plan before (turned ms serial acts)) }
+        ensures plan { IfOk result (PlansActs self.old ms serial acts) }
         ensures acts { IfOk result (λ plan. plan.acts ≡ acts) }
         ensures flows { IfOk result (PlanFlows self.old ms) }
         ensures unmapped { IfOk result (λ plan. plan.unmapped ≡ unmapped) }
         ensures ready { IfOk result (λ plan. IsReady self.new plan) }
-        ensures same { (text : List ℕ → List ℕ) (taken : List Taken) → StandsFor text self.old taken → StandsFor text self.new taken }
+        ensures same { StandsAsBefore self.old self.new }
         ensures safe { AreSafe self.new }
         ensures room { DiffersInRoom self.old self.new }
         ensures since { StaysSince self.old self.new }
         ensures marks { StaysMarked self.old self.new }
         ensures limits { (limits : Limits) → HasLimits limits self.old → HasLimits limits self.new }
-        ensures fits { IfOk result (λ plan. (limits : Limits) → HasLimits limits self.old → (before : List Taken) → MayFollow self.old before (length acts) → full_at limits.entities limits.flows (turned ms serial acts ++ before) ≡ None) }
-        ensures full { (full : Full) → result ≡ Err (fault.Full full) → (limits : Limits) → HasLimits limits self.old → (before : List Taken) → MayFollow self.old before (length acts) → full_at limits.entities limits.flows (turned ms serial acts ++ before) ≡ Some full }
+        ensures fits { IfOk result (λ plan. ActsFit self.old ms serial acts) }
+        ensures full { IfFull result (ActsPass self.old ms serial acts) }
     {
         let plan = self.plan(alloc, acts, ms, serial, unmapped)?;
         if self.limits.flows < self.flows + plan.flows.as_slice().len() as u64 {
@@ -278,13 +273,13 @@ impl Tables {
         requires event { IsEvent acts }
         requires safe { AreSafe self.now }
         requires few { HasNumbersFor self.now (length acts) }
-        ensures plan { IfOk result (λ plan. (before : List Taken) → MayFollow self.now before (length acts) → IsPlanOf text_of plan before (turned ms serial acts)) }
+        ensures plan { IfOk result (PlansActs self.now ms serial acts) }
         ensures acts { IfOk result (λ plan. plan.acts ≡ acts) }
         ensures unmapped { IfOk result (λ plan. plan.unmapped ≡ unmapped) }
-        ensures fits { IfOk result (λ plan. length (entered self.now.entities.keys plan.keys) ≤ self.now.entities.limit) }
+        ensures fits { IfOk result (PlanFits self.now) }
         ensures flows { IfOk result (PlanFlows self.now ms) }
         ensures more { IfOk result (λ plan. length plan.flows ≤ length acts) }
-        ensures full { (full : Full) → result ≡ Err (fault.Full full) → (before : List Taken) → MayFollow self.now before (length acts) → IsPast self.now.limits.entities full (objects (acts_of (turned ms serial acts ++ before))) }
+        ensures full { IfFull result (ActsPassObjects self.now ms serial acts) }
     {
         each_beginning_is_an_act();
         let ground = Ground {
@@ -323,8 +318,8 @@ impl Tables {
     pub fn apply(&mut self, plan: Plan) -> List<Flow>
         requires ready { IsReady self.old plan }
         requires safe { AreSafe self.old }
-        ensures next { (text : List ℕ → List ℕ) (before now : List Taken) → StandsFor text self.old before → IsPlanOf text plan before now → StandsFor text self.new (now ++ before) }
-        ensures flows { (text : List ℕ → List ℕ) (before now : List Taken) → IsPlanOf text plan before now → flows (now ++ before) ≡ flows before ++ result }
+        ensures next { GoesOnStanding self.old self.new plan }
+        ensures flows { AddsFlows plan result }
         ensures limits { (limits : Limits) → HasLimits limits self.old → HasLimits limits self.new }
         ensures since { GoesOnSince self.old self.new plan }
         ensures marks { GoesOnMarked self.old self.new plan }

@@ -1,17 +1,10 @@
 //! How an event is worked out: its see, the births and moves after it, and its last act.
-ghost use Rattle.std.specs.Prelude.{◌≡◌, ◌≤◌, ◌<◌, ◌+◌, ◌-◌, ◌++◌, ◌^◌, ◌∷◌, [], List, Err, IfErr, IfOk, length};
-ghost use Rattle.flow_base.specs.declared.limits.Full.{Full};
-ghost use Rattle.acts.specs.declared.act.Act.TheVariants as act;
-ghost use Rattle.std.specs.Prelude.{All};
-ghost use Rattle.acts.specs.declared.act.Taken.{Taken};
-ghost use Rattle.acts.specs.Flows.{acts_of, objects};
+ghost use Rattle.std.specs.Prelude.{◌≡◌, ◌≤◌, ◌<◌, ◌+◌, ◌^◌, All, IfErr, IfOk, length};
 ghost use Rattle.call_acts.specs.Events.{AreRest, IsCalmOf, IsEvent, IsOf};
-ghost use Rattle.flow_events.specs.declared.fault.PrepareFault.TheVariants as fault;
-ghost use Rattle.flow_events.specs.Acting.{DoesAs};
-ghost use Rattle.flow_events.specs.Added.{AreNew, IsPast};
+ghost use Rattle.flow_events.specs.Added.{IfFull, IfLimit};
 ghost use Rattle.flow_events.specs.Births.{births_in, births_of};
-ghost use Rattle.flow_events.specs.Drafts.{IsNumbered, UnderWay, turned};
-ghost use Rattle.flow_events.specs.Working.{Grounded, IsBegun, IsFew, IsRefused, IsWorked, see_at, taken_at};
+ghost use Rattle.flow_events.specs.Drafts.{DraftFits, GrowsAtMost, HasNewKeys, HasPlacesFor, IsNumbered, StaysNew, StaysNumbered};
+ghost use Rattle.flow_events.specs.Working.{BeginsAs, BeginsWay, DoesEvent, DoesRest, EventIsPast, GoesOnWith, GoesPast, RestIsPast, SeeIsPast};
 
 use crate::acting::{Acting, see_acting};
 use crate::births::births_in;
@@ -52,15 +45,15 @@ pub fn begin(
     requires limit { ground.now.most ≡ ground.now.entities.now.limit }
     requires fits { length ground.now.entities.now.keys ≤ ground.now.most }
     requires flows { ground.now.flows < 2 ^ 64 }
-    ensures way { IfOk result (λ begun. (before : List Taken) → Grounded ground.now before → UnderWay ground.now begun.acting begun.draft before (see_at ground.now.ms ground.now.serial pid ppid exe.now ∷ [])) }
-    ensures see { IfOk result (λ begun. (before : List Taken) → Grounded ground.now before → DoesAs begun.see (acts_of before) (act.See pid ppid exe.now)) }
+    ensures way { IfOk result (BeginsWay ground.now pid ppid exe.now) }
+    ensures see { IfOk result (BeginsAs ground.now pid ppid exe.now) }
     ensures pid { IfOk result (λ begun. begun.acting.pid ≡ pid) }
     ensures room { IfOk result (λ begun. more ≤ begun.draft.births.spare) }
-    ensures new { IfOk result (λ begun. AreNew ground.now.entities.now.keys begun.draft.added.keys) }
+    ensures new { IfOk result (λ begun. HasNewKeys ground.now begun.draft) }
     ensures numbered { IfOk result (λ begun. IsNumbered ground.now begun.draft) }
-    ensures fits { IfOk result (λ begun. length (ground.now.entities.now.keys ++ begun.draft.added.keys) ≤ ground.now.most) }
+    ensures fits { IfOk result (λ begun. DraftFits ground.now begun.draft) }
     ensures flows { IfOk result (λ begun. length begun.draft.added.flows ≤ 1) }
-    ensures full { (full : Full) → result ≡ Err (fault.Full full) → (before : List Taken) → Grounded ground.now before → IsPast ground.now.most full (objects (act.See pid ppid exe.now ∷ acts_of before)) }
+    ensures full { IfFull result (SeeIsPast ground.now pid ppid exe.now) }
 {
     let acting = see_acting(ground.procs, pid, ppid);
     let see = see_change(ground.procs, pid, ppid);
@@ -79,19 +72,19 @@ pub fn go_on(
 ) -> Result<Worked, PrepareFault>
     requires few { acts + (length front.now + 2) < 2 ^ 64 }
     requires limit { ground.now.most ≡ ground.now.entities.now.limit }
-    requires fits { length (ground.now.entities.now.keys ++ begun.draft.added.keys) ≤ ground.now.most }
+    requires fits { DraftFits ground.now begun.draft }
     requires calm { All (IsCalmOf begun.acting.pid) front.now }
     requires of { IsOf begun.acting.pid last.now }
     requires room { births_in front.now + births_of last.now ≤ begun.draft.births.spare }
-    requires flows { ground.now.flows + (length begun.draft.added.flows + (length front.now + 1)) < 2 ^ 64 }
-    ensures worked { IfOk result (λ worked. (before : List Taken) (first : Taken) → Grounded ground.now before → IsBegun ground.now begun before first acts (length front.now) → DoesAs begun.see (acts_of before) first.act → IsWorked ground.now worked before (taken_at ground.now last.now ∷ (turned ground.now.ms ground.now.serial front.now ++ first ∷ []))) }
-    ensures new { IfOk result (λ worked. AreNew ground.now.entities.now.keys begun.draft.added.keys → AreNew ground.now.entities.now.keys worked.draft.added.keys) }
-    ensures numbered { IfOk result
-        (λ worked. IsNumbered ground.now begun.draft → IsNumbered ground.now worked.draft) }
-    ensures fits { IfOk result (λ worked. length (ground.now.entities.now.keys ++ worked.draft.added.keys) ≤ ground.now.most) }
+    requires flows { HasPlacesFor ground.now begun.draft (length front.now + 1) }
+    ensures worked { IfOk result (GoesOnWith ground.now begun acts front.now last.now) }
+    ensures new { IfOk result (λ worked. StaysNew ground.now begun.draft worked.draft) }
+    ensures numbered { IfOk result (λ worked. StaysNumbered ground.now begun.draft worked.draft) }
+    ensures fits { IfOk result (λ worked. DraftFits ground.now worked.draft) }
     ensures more { IfOk result
-        (λ worked. length worked.draft.added.flows ≤ length begun.draft.added.flows + (length front.now + 1)) }
-    ensures full { IfErr result (λ why. (full : Full) → why ≡ fault.Full full → (before : List Taken) (first : Taken) → IsBegun ground.now begun before first acts (length front.now) → IsPast ground.now.most full (objects (last.now ∷ (acts_of (turned ground.now.ms ground.now.serial front.now ++ first ∷ []) ++ acts_of before)))) }
+        (λ worked. GrowsAtMost begun.draft worked.draft (length front.now + 1)) }
+    ensures full { IfErr result
+        (λ why. IfLimit why (GoesPast ground.now begun acts front.now last.now)) }
 {
     let Begun {
         acting,
@@ -134,12 +127,13 @@ pub fn work_out(
     requires fits { length ground.now.entities.now.keys ≤ ground.now.most }
     requires rest { AreRest pid rest.now }
     requires flows { ground.now.flows + (length rest.now + 1) < 2 ^ 64 }
-    ensures worked { IfOk result (λ worked. (before : List Taken) → Grounded ground.now before → IsFew ground.now before acts (length rest.now) → IsWorked ground.now worked before (turned ground.now.ms ground.now.serial rest.now ++ see_at ground.now.ms ground.now.serial pid ppid exe.now ∷ [])) }
-    ensures new { IfOk result (λ worked. AreNew ground.now.entities.now.keys worked.draft.added.keys) }
+    ensures worked { IfOk result (DoesRest ground.now acts pid ppid exe.now rest.now) }
+    ensures new { IfOk result (λ worked. HasNewKeys ground.now worked.draft) }
     ensures numbered { IfOk result (λ worked. IsNumbered ground.now worked.draft) }
-    ensures fits { IfOk result (λ worked. length (ground.now.entities.now.keys ++ worked.draft.added.keys) ≤ ground.now.most) }
+    ensures fits { IfOk result (λ worked. DraftFits ground.now worked.draft) }
     ensures more { IfOk result (λ worked. length worked.draft.added.flows ≤ length rest.now + 1) }
-    ensures full { IfErr result (λ why. (full : Full) → why ≡ fault.Full full → (before : List Taken) → IsFew ground.now before acts (length rest.now) → IsRefused ground.now full before (turned ground.now.ms ground.now.serial rest.now ++ see_at ground.now.ms ground.now.serial pid ppid exe.now ∷ [])) }
+    ensures full { IfErr result
+        (λ why. IfLimit why (RestIsPast ground.now acts pid ppid exe.now rest.now)) }
 {
     let begun = begin(ground, pid, ppid, exe, births_in(rest))?;
     match rest {
@@ -160,12 +154,12 @@ pub fn work_event(ground: &Ground<'_>, number: u64, acts: &[Act]) -> Result<Work
     requires fits { length ground.now.entities.now.keys ≤ ground.now.most }
     requires event { IsEvent acts.now }
     requires flows { ground.now.flows + (length acts.now + 1) < 2 ^ 64 }
-    ensures worked { IfOk result (λ worked. (before : List Taken) → IsFew ground.now before number (length acts.now) → IsWorked ground.now worked before (turned ground.now.ms ground.now.serial acts.now)) }
-    ensures new { IfOk result (λ worked. AreNew ground.now.entities.now.keys worked.draft.added.keys) }
+    ensures worked { IfOk result (DoesEvent ground.now number acts.now) }
+    ensures new { IfOk result (λ worked. HasNewKeys ground.now worked.draft) }
     ensures numbered { IfOk result (λ worked. IsNumbered ground.now worked.draft) }
-    ensures fits { IfOk result (λ worked. length (ground.now.entities.now.keys ++ worked.draft.added.keys) ≤ ground.now.most) }
+    ensures fits { IfOk result (λ worked. DraftFits ground.now worked.draft) }
     ensures more { IfOk result (λ worked. length worked.draft.added.flows ≤ length acts.now) }
-    ensures full { IfErr result (λ why. (full : Full) → why ≡ fault.Full full → (before : List Taken) → IsFew ground.now before number (length acts.now) → IsRefused ground.now full before (turned ground.now.ms ground.now.serial acts.now)) }
+    ensures full { IfErr result (λ why. IfLimit why (EventIsPast ground.now number acts.now)) }
 {
     match acts {
         [] => Ok(Worked {

@@ -28,6 +28,10 @@ MayBecome at [] old new = new ≡ old
 MayBecome at (byte ∷ []) old new = (new ≡ old) ⊎ (new ≡ put_at at (byte ∷ []) old)
 MayBecome at (a ∷ b ∷ bytes) old new = Torn at (length (a ∷ b ∷ bytes)) old new
 
+-- the bytes before this place read as before
+abbrev pub KeepsFront : ℕ → (old new : DiskState) → Type 0
+KeepsFront at old new = take at new.reads ≡ take at old.reads
+
 -- each image now is an earlier image after a step
 abbrev pub Follows : (List ℕ → List ℕ → Type 0) → (List ℕ → Type 0) → (List ℕ → Type 0) → Type 0
 Follows step old new = (c : List ℕ) → new c → (d : List ℕ) × old d × step d c

@@ -1,16 +1,17 @@
 //! Whole reads, and writes through to what outlives a crash: a write, and the sync that makes it stay.
 ghost use Rattle.std.specs.Prelude.{◌≡◌, ◌≤◌, ◌<◌, ◌+◌, ◌^◌, length, take, drop, IsTrue, IsErr, IfOk, OnOk};
-ghost use Rattle.outside.specs.Disk.{put_at, IsDurable, LeavesOnly, MayHaveWritten, OnlyLooks, UsesDisk};
+ghost use Rattle.outside.specs.Disk.{put_at, IsDurable, KeepsFront, LeavesOnly, MayHaveWritten, OnlyLooks, UsesDisk};
 
 use crate::disk::Disk;
 use crate::streams::Failed;
 
 /// Writes these bytes at this place, and syncs. A crash before the end leaves what the write may
-/// have made of an earlier image.
+/// have made of an earlier image. Whatever is answered, the bytes before this place read as before.
 pub fn write_through<D: Disk>(disk: &mut D, at: u64, bytes: &[u8]) -> Result<(), Failed>
     requires within { (D.state disk.old).told → at ≤ length (D.state disk.old).reads }
     ensures written { (D.state disk.old).told
         → OnOk result ((D.state disk.new).reads ≡ put_at at bytes.now (D.state disk.old).reads) }
+    ensures front { (D.state disk.old).told → KeepsFront at (D.state disk.old) (D.state disk.new) }
     ensures durable { OnOk result (IsDurable (D.state disk.new)) }
     ensures any_moment { LeavesOnly (D.state disk.old) (D.state disk.new)
         (MayHaveWritten at bytes.now (D.state disk.old).image) }

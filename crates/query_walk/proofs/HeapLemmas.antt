@@ -14,8 +14,5 @@ Contains-first xs x = (0, omega arith, refl)
 pub popped : {X : Type 0} (old new : List X) (x y : X) → IsPermutation old (x ∷ new) → Contains old y → (x ≡ y) ⊎ Contains new y
 popped old new x y perm c = Contains-cons_cases new x y (Contains-permutation old (x ∷ new) y perm c)
 
-pub was_there : {X : Type 0} (old new : List X) (x : X) → IsPermutation old (x ∷ new) → Contains old x
-was_there old new x perm = Contains-permutation (x ∷ new) old x (IsPermutation-sym old (x ∷ new) perm) (Contains-first new x)
-
 pub left_was_there : {X : Type 0} (old new : List X) (x y : X) → IsPermutation old (x ∷ new) → Contains new y → Contains old y
 left_was_there old new x y perm c = Contains-permutation (x ∷ new) old y (IsPermutation-sym old (x ∷ new) perm) (Contains-cons new x y c)

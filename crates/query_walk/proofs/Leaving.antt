@@ -17,12 +17,12 @@ abbrev no_row : Row
 no_row = record { first = no_flow; last = no_flow }
 
 -- the link names the last row out of x before n, and the arrivals of the flows of x from n on into objects that are not marked wait
-pub record IsLeftAt (R : List Row) (marks : List Bool) (x low : ℕ) (s : Option ℕ) (link : Option ℕ) (before waiting : List Arrival) (start steps : ℕ) : Type 0 where
+pub record IsLeftAt (R : List Row) (marks : List Bool) (x low : ℕ) (s : Option ℕ) (link : Option ℕ) (before waiting : Arrival → Type 0) (start steps : ℕ) : Type 0 where
   pub n : ℕ
   pub top : n ≤ length (firsts R)
   pub last : IsLastOf (take n (firsts R)) (Leaves x) link
   pub read : steps ≡ start + count_by (leaves x) (drop n (firsts R))
-  pub waits : (a : Arrival) → Contains waiting a ↔ (Contains before a ⊎ ((j : ℕ) × (n ≤ j) × (j < length (lasts R)) × LeadsOn marks x low s (get_or (lasts R) j no_flow) a))
+  pub waits : (a : Arrival) → waiting a ↔ (before a ⊎ ((j : ℕ) × (n ≤ j) × (j < length (lasts R)) × LeadsOn marks x low s (get_or (lasts R) j no_flow) a))
 
 module _ (R : List Row) (lawful : AreRows R) (marks : List Bool) (x low : ℕ) (s : Option ℕ) where
   longs : length (lasts R) ≡ length (firsts R)
@@ -37,7 +37,7 @@ module _ (R : List Row) (lawful : AreRows R) (marks : List Bool) (x low : ℕ) (
       let pair = lawful.pairs (get_or R j no_row) (Contains-get_or R j no_row long) in
       ap source first ∙ sym pair.0 ∙ sym (ap source last)
 
-  pub left_none : (link : Option ℕ) (waiting : List Arrival) (start : ℕ) → IsLastOf (firsts R) (Leaves x) link → IsLeftAt R marks x low s link waiting waiting start start
+  pub left_none : (link : Option ℕ) (waiting : Arrival → Type 0) (start : ℕ) → IsLastOf (firsts R) (Leaves x) link → IsLeftAt R marks x low s link waiting waiting start start
   left_none link waiting start last =
       let F = firsts R in
       let none : count_by (leaves x) (drop (length F) F) ≡ 0 = ap (count_by (leaves x)) (drop_all (length F) F (omega arith)) in
@@ -49,15 +49,15 @@ module _ (R : List Row) (lawful : AreRows R) (marks : List Bool) (x low : ℕ) (
         waits = λ a. (λ m. inl m, λ m. elim m [ inl old ↦ old | inr f ↦ absurd (omega (arith, f.1, f.2, longs)) ]);
       }
 
-  module _ (i : ℕ) (before waiting : List Arrival) (start steps : ℕ) (l : IsLeftAt R marks x low s (Some i) before waiting start steps) where
+  module _ (i : ℕ) (before waiting : Arrival → Type 0) (start steps : ℕ) (l : IsLeftAt R marks x low s (Some i) before waiting start steps) where
     pub left_low : i < l.n
     left_low = last_low (Leaves x) (leaves x) (leaves_yes x) (leaves_no x) (firsts R) l.n i l.top l.last
 
     pub left_source : (d : Flow) → source (get_or (firsts R) i d) ≡ x
     left_source d = last_meets (Leaves x) (leaves x) (leaves_yes x) (leaves_no x) (firsts R) l.n i d l.top l.last
 
-    pub left_more : (next : Option ℕ) (waiting' : List Arrival) → IsLastOf (take i (firsts R)) (Leaves x) next
-        → ((a : Arrival) → Contains waiting' a ↔ (Contains waiting a ⊎ LeadsOn marks x low s (get_or (lasts R) i no_flow) a)) → IsLeftAt R marks x low s next before waiting' start (steps + 1)
+    pub left_more : (next : Option ℕ) (waiting' : Arrival → Type 0) → IsLastOf (take i (firsts R)) (Leaves x) next
+        → ((a : Arrival) → waiting' a ↔ (waiting a ⊎ LeadsOn marks x low s (get_or (lasts R) i no_flow) a)) → IsLeftAt R marks x low s next before waiting' start (steps + 1)
     left_more next waiting' last more = record {
       n = i;
       top = omega (arith, left_low, l.top);
@@ -84,8 +84,8 @@ module _ (R : List Row) (lawful : AreRows R) (marks : List Bool) (x low : ℕ) (
       );
     }
 
-  module _ (before waiting : List Arrival) (start steps : ℕ) (l : IsLeftAt R marks x low s None before waiting start steps) where
-    pub left_all : (a : Arrival) → Contains waiting a ↔ (Contains before a ⊎ ((f : Flow) × Contains (lasts R) f × LeadsOn marks x low s f a))
+  module _ (before waiting : Arrival → Type 0) (start steps : ℕ) (l : IsLeftAt R marks x low s None before waiting start steps) where
+    pub left_all : (a : Arrival) → waiting a ↔ (before a ⊎ ((f : Flow) × Contains (lasts R) f × LeadsOn marks x low s f a))
     left_all a = (
       λ m. elim ((l.waits a).0 m) [
         | inl was ↦ inl was

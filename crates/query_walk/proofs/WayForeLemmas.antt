@@ -16,7 +16,7 @@ use Rattle.reach_model.proofs.PathLemmas.{Below}
 use Rattle.reach_model.proofs.Within.{Among}
 use Rattle.reach_rows.specs.Kept.{AreRows}
 use Rattle.query_walk.specs.Links.{leaves, leaves_marked}
-use Rattle.query_walk.specs.Arrivals.{Arrival, IsNextArrival, LeadsOn, arrival, at_object, at_place}
+use Rattle.query_walk.specs.Arrivals.{Arrival, IsLeastFrom, LeadsOn, NoneFrom, StayFrom, arrival, at_object, at_place}
 use Rattle.query_walk.specs.WayFore.{IsForeAt, IsReached}
 use Rattle.query_walk.proofs.Observed.{AreObserved}
 use Rattle.query_walk.proofs.ForeReach.{reach_more, reach_no_more, reach_step, reach_weaker, reach_within, reach_none}
@@ -89,7 +89,7 @@ module _ (R : List Row) (count known : ℕ) (observed : AreObserved R count know
     ])
   ]
 
-  module _ (u : ℕ) (s : Option ℕ) (b : ℕ) (M : List Bool) (W : List Arrival) (i : IsForeAt (lasts R) known b u s M W) where
+  module _ (u : ℕ) (s : Option ℕ) (b : ℕ) (M : List Bool) (W : Arrival → Type 0) (i : IsForeAt (lasts R) known b u s M W) where
     abbrev pub S : Flow → Type 0
     S = Among (lasts R) (IsSince s)
 
@@ -97,7 +97,7 @@ module _ (R : List Row) (count known : ℕ) (observed : AreObserved R count know
     marked_source f a r = (i.exact (source f) (last_source f a.0)).1 r
 
     -- nothing waits any more
-    pub fore_ended : ((a : Arrival) → Contains W a → at_place a < b) → (v : ℕ) → v < known → IsMarked M v ↔ Fore (lasts R) u s v
+    pub fore_ended : NoneFrom W b → (v : ℕ) → v < known → IsMarked M v ↔ Fore (lasts R) u s v
     fore_ended end v low = (
       λ m. reach_within S b u v ((i.exact v low).0 m),
       λ r. (i.exact v low).1 (reach_no_more S S (λ f a. a) b u (λ f a after r. elim (i.waits f a.0 (marked_source f a r) a.1 after) [
@@ -106,7 +106,7 @@ module _ (R : List Row) (count known : ℕ) (observed : AreObserved R count know
       ]) v r),
     )
 
-    module _ (a : Arrival) (W' : List Arrival) (next : IsNextArrival W b a W') where
+    module _ (a : Arrival) (W' : Arrival → Type 0) (next : IsLeastFrom W b a) (stay : StayFrom W b W') where
       abbrev pub q : ℕ
       q = at_place a
 
@@ -148,12 +148,12 @@ module _ (R : List Row) (count known : ℕ) (observed : AreObserved R count know
         exact = λ v low. let e = exact_next v low in (λ k. e.0 (inl k), λ r. elim (e.1 r) [ inl old ↦ old | inr new ↦ subst (IsMarked M) (sym new) m ]);
         waits = λ f c k since after. elim (i.waits f c k since (omega (arith, after, next.high))) [
           | inl there ↦ inl there
-          | inr waits ↦ inr (next.rest (arrival (place f) (target f)) waits (omega arith))
+          | inr waits ↦ inr (stay.rest (arrival (place f) (target f)) waits (omega (arith, after, next.high)))
         ];
-        only = λ o c after. let f = i.only o (next.no_more o c) (omega (arith, after, next.high)) in (f.0, f.1, f.2, record { leaves = refl; after = omega (arith, after, ap at_place (f.3).is); since = (f.3).since; is = (f.3).is });
+        only = λ o c after. let f = i.only o (stay.no_more o c) (omega (arith, after, next.high)) in (f.0, f.1, f.2, record { leaves = refl; after = omega (arith, after, ap at_place (f.3).is); since = (f.3).since; is = (f.3).is });
       }
 
-      pub reached : (W2 : List Arrival) (M' : List Bool) (n n' : ℕ) → y < length M → IsReached R q y s M W' n M' W2 n' → IsForeAt (lasts R) known (q + 1) u s M' W2
+      pub reached : (W2 : Arrival → Type 0) (M' : List Bool) (n n' : ℕ) → y < length M → IsReached R q y s M W' n M' W2 n' → IsForeAt (lasts R) known (q + 1) u s M' W2
       reached W2 M' n n' len now =
           let more : (v : ℕ) → IsMarked M' v ↔ (IsMarked M v ⊎ (v ≡ y)) = λ v. subst (λ m. IsMarked m v ↔ (IsMarked M v ⊎ (v ≡ y))) (sym now.marks_it) (marked_more M y v len) in
           record {
@@ -161,7 +161,7 @@ module _ (R : List Row) (count known : ℕ) (observed : AreObserved R count know
             waits = λ f c k since after. elim ((more (source f)).0 k) [
               | inl old ↦ elim (i.waits f c old since (omega (arith, after, next.high))) [
                 | inl there ↦ inl ((more (target f)).1 (inl there))
-                | inr waits ↦ inr ((now.joins (arrival (place f) (target f))).1 (inl (next.rest (arrival (place f) (target f)) waits (omega arith))))
+                | inr waits ↦ inr ((now.joins (arrival (place f) (target f))).1 (inl (stay.rest (arrival (place f) (target f)) waits (omega (arith, after, next.high)))))
               ]
               | inr e ↦ elim (cases_Bool (get_or M' (target f) false)) [
                 | inl there ↦ inl there
@@ -169,14 +169,14 @@ module _ (R : List Row) (count known : ℕ) (observed : AreObserved R count know
               ]
             ];
             only = λ o c after. elim ((now.joins o).0 c) [
-              | inl old ↦ let f = i.only o (next.no_more o old) (omega (arith, after, next.high)) in (f.0, f.1, (more (source f.0)).1 (inl f.2), record { leaves = refl; after = omega (arith, after, ap at_place (f.3).is); since = (f.3).since; is = (f.3).is })
+              | inl old ↦ let f = i.only o (stay.no_more o old) (omega (arith, after, next.high)) in (f.0, f.1, (more (source f.0)).1 (inl f.2), record { leaves = refl; after = omega (arith, after, ap at_place (f.3).is); since = (f.3).since; is = (f.3).is })
               | inr f ↦ let leads = (f.2).leads in (f.0, f.1, (more (source f.0)).1 (inr leads.leaves), record { leaves = refl; after = leads.after; since = leads.since; is = leads.is })
             ];
           }
 
 -- at first an object alone is marked, and the arrivals of its flows wait
-pub fore_begun : (F : List Flow) (known u : ℕ) (s : Option ℕ) (M : List Bool) (W : List Arrival) → ((v : ℕ) → IsMarked M v ↔ (v ≡ u))
-    → ((a : Arrival) → Contains W a ↔ (Contains [] a ⊎ ((f : Flow) × Contains F f × LeadsOn M u 0 s f a))) → IsForeAt F known 0 u s M W
+pub fore_begun : (F : List Flow) (known u : ℕ) (s : Option ℕ) (M : List Bool) (W : Arrival → Type 0) → ((v : ℕ) → IsMarked M v ↔ (v ≡ u))
+    → ((a : Arrival) → W a ↔ (⊥ ⊎ ((f : Flow) × Contains F f × LeadsOn M u 0 s f a))) → IsForeAt F known 0 u s M W
 fore_begun F known u s M W one joins = record {
   exact = λ v low. (λ m. ([], sym ((one v).0 m)), λ r. (one v).1 (sym (reach_none (Among F (IsSince s)) u v r)));
   waits = λ f c m since after. elim (cases_Bool (get_or M (target f) false)) [
@@ -184,7 +184,7 @@ fore_begun F known u s M W one joins = record {
     | inr not_yet ↦ inr ((joins (arrival (place f) (target f))).1 (inr (f, c, record { leads = record { leaves = (one (source f)).0 m; after = after; since = since; is = refl }; new = λ t. false≢true (sym not_yet ∙ t) })))
   ];
   only = λ a c after. elim ((joins a).0 c) [
-    | inl none ↦ absurd (omega (arith, none.1))
+    | inl none ↦ absurd none
     | inr f ↦ let leads = (f.2).leads in (f.0, f.1, (one (source f.0)).1 leads.leaves, record { leaves = refl; after = leads.after; since = leads.since; is = leads.is })
   ];
 }

@@ -1,5 +1,5 @@
 //! Places of which each is set or not, a bit for each.
-ghost use Rattle.std.specs.Prelude.{◌≡◌, ◌+◌, ◌*◌, ◌^◌, ◌<◌, ◌≤◌, ◌↔◌, ◌⊎◌, ℕ, length, IfOk, IfSome, IfNone};
+ghost use Rattle.std.specs.Prelude.{◌≡◌, ◌+◌, ◌*◌, ◌^◌, ◌<◌, ◌≤◌, ◌↔◌, ◌⊎◌, ℕ, length, IfOk, IfSome, IfNone, IsTrue};
 ghost use Rattle.query_walk.specs.Bits.{IsFirstSet, IsSet};
 
 use flow_base::NoMemory;
@@ -40,6 +40,15 @@ impl Bits {
     {
         let word = (place / 64) as usize;
         self.words[word] |= 1u64 << (place % 64);
+    }
+
+    /// Whether a place is set.
+    pub fn has(&self, place: u64) -> bool
+        requires { place < 64 * length self.now }
+        ensures { IsTrue result ↔ IsSet self.now place }
+    {
+        let word = self.words[(place / 64) as usize];
+        (word >> (place % 64)) % 2 == 1
     }
 
     /// The first place that is set from one on.

@@ -3,14 +3,14 @@
 //! An object is reached at the place of a last flow into it. Then its rows are read, and their targets wait by the places
 //! of their last flows, if these come after it and the targets weren't reached yet. The object that waits at the least
 //! place is taken next.
-ghost use Rattle.std.specs.Prelude.{◌≡◌, ◌↔◌, ℕ, ◌<◌, ◌≤◌, [], length, IfOk, IfSome, IsTrue, OnOk, vec_len};
+ghost use Rattle.std.specs.Prelude.{◌≡◌, ◌↔◌, ℕ, ◌<◌, ◌≤◌, length, IfOk, IfSome, IsTrue, OnOk, vec_len};
 ghost use Rattle.reach_model.specs.Flows.{place};
 ghost use Rattle.reach_model.specs.Marks.{IsMarked};
 ghost use Rattle.reach_model.specs.Numbers.{known as known_of};
 ghost use Rattle.reach_model.specs.Paths.{IsSince};
 ghost use Rattle.reach_model.specs.Rows.{firsts};
 ghost use Rattle.reach_rows.specs.Kept.{AreRows, row_of_kept};
-ghost use Rattle.query_walk.specs.Arrivals.{AddsLed, AddsOver, AreAtBelow, place_after};
+ghost use Rattle.query_walk.specs.Arrivals.{AddsLed, AddsOver, AreAtBelow, IsDue, place_after};
 ghost use Rattle.query_walk.specs.Fault.{IsWalkOver};
 ghost use Rattle.query_walk.specs.Links.{CountsFrom, CountsFromMarked};
 ghost use Rattle.query_walk.specs.Walks.{SameRows};
@@ -72,9 +72,9 @@ fn begin_fore<W: Rows, L: Ledger>(
     requires known { of.0 < W.known rows.old }
     ensures len { IfOk result (λ fore. vec_len fore.marks ≡ W.known rows.old) }
     ensures marks { IfOk result (λ fore. (v : ℕ) → IsMarked fore.marks.items v ↔ (v ≡ of.0)) }
-    ensures below { IfOk result (λ fore. AreAtBelow (W.known rows.old) fore.waiting) }
+    ensures below { IfOk result (λ fore. AreAtBelow (W.known rows.old) (IsDue fore.waiting)) }
     ensures waits { IfOk result (λ fore.
-        AddsOver (W.rows rows.old) fore.marks.items [] of.0 0 since fore.waiting) }
+        AddsOver (W.rows rows.old) fore.marks.items (λ _. ⊥) of.0 0 since (IsDue fore.waiting)) }
     ensures steps { IfOk result (λ _. CountsFrom (W.rows rows.old) of.0 steps.old steps.new) }
     ensures lawful { IfOk result (λ _. IfSome (W.rows rows.old) AreRows) }
     ensures told { IfSome (W.rows rows.old) (λ R. known_of (firsts R) ≡ W.known rows.old) }
@@ -83,7 +83,7 @@ fn begin_fore<W: Rows, L: Ledger>(
     ensures alike { W.alike rows.old rows.new }
 {
     let marks = only(alloc, of, rows.known())?;
-    let mut waiting = Arrivals::new(alloc);
+    let mut waiting = Arrivals::new(alloc, rows.count())?;
     leave(&mut waiting, &marks, rows, of, None, since, steps)?;
     Ok(WayFore { marks, waiting })
 }
@@ -100,8 +100,8 @@ fn arrive<W: Rows, L: Ledger>(
     requires len { vec_len fore.old.marks ≡ W.known rows.old }
     ensures len { vec_len fore.new.marks ≡ vec_len fore.old.marks }
     ensures marks { (u : ℕ) → IsMarked fore.old.marks.items u → IsMarked fore.new.marks.items u }
-    ensures below { IfOk result (λ _. AreAtBelow (W.known rows.old) fore.old.waiting
-        → AreAtBelow (W.known rows.old) fore.new.waiting) }
+    ensures below { IfOk result (λ _. AreAtBelow (W.known rows.old) (IsDue fore.old.waiting)
+        → AreAtBelow (W.known rows.old) (IsDue fore.new.waiting)) }
     ensures again { IsMarked fore.old.marks.items at.1
         → (fore.new ≡ fore.old) × (steps.new ≡ steps.old) }
     ensures first { IfOk result (λ _.
@@ -128,8 +128,8 @@ fn reach<W: Rows, L: Ledger>(
     requires len { vec_len fore.old.marks ≡ W.known rows.old }
     ensures len { vec_len fore.new.marks ≡ vec_len fore.old.marks }
     ensures marks { (u : ℕ) → IsMarked fore.old.marks.items u → IsMarked fore.new.marks.items u }
-    ensures below { IfOk result (λ _. AreAtBelow (W.known rows.old) fore.old.waiting
-        → AreAtBelow (W.known rows.old) fore.new.waiting) }
+    ensures below { IfOk result (λ _. AreAtBelow (W.known rows.old) (IsDue fore.old.waiting)
+        → AreAtBelow (W.known rows.old) (IsDue fore.new.waiting)) }
     ensures reached { IfOk result (λ _.
         ReachesAt (W.rows rows.old) at.0 at.1 since fore.old steps.old fore.new steps.new) }
     ensures same { SameRows W.rows W.count W.known rows.old rows.new }
@@ -162,10 +162,10 @@ fn leave<W: Rows, L: Ledger>(
 ) -> Result<(), WalkFault>
     requires known { of.0 < W.known rows.old }
     requires len { length marks.now ≡ W.known rows.old }
-    ensures below { IfOk result (λ _. AreAtBelow (W.known rows.old) waiting.old
-        → AreAtBelow (W.known rows.old) waiting.new) }
-    ensures exact { IfOk result (λ _. AddsOver (W.rows rows.old) marks.now waiting.old of.0
-        (place_after after) since waiting.new) }
+    ensures below { IfOk result (λ _. AreAtBelow (W.known rows.old) (IsDue waiting.old)
+        → AreAtBelow (W.known rows.old) (IsDue waiting.new)) }
+    ensures exact { IfOk result (λ _. AddsOver (W.rows rows.old) marks.now (IsDue waiting.old) of.0
+        (place_after after) since (IsDue waiting.new)) }
     ensures steps { IfOk result (λ _. CountsFrom (W.rows rows.old) of.0 steps.old steps.new) }
     ensures lawful { IfSome (W.rows rows.old) AreRows }
     ensures same { SameRows W.rows W.count W.known rows.old rows.new }
@@ -191,8 +191,8 @@ fn wait(
     since: Option<u64>,
 ) -> Result<(), NoMemory>
     requires { row.now.to.0 < length marks.now }
-    ensures { OnOk result (AddsLed marks.now waiting.old row.now.from.0 (place_after after) since
-        (row_of_kept row.now).last waiting.new) }
+    ensures { OnOk result (AddsLed marks.now (IsDue waiting.old) row.now.from.0 (place_after after)
+        since (row_of_kept row.now).last (IsDue waiting.new)) }
 {
     if !marks[row.to.0 as usize] && is_wanted(row, after, since) {
         waiting.put(row.last.at.place, row.to.0)?;

@@ -1,4 +1,6 @@
 pub mod AskedLemmas
 pub mod NextFlow
 pub mod ObjectLemmas
+pub mod PackedLemmas
+pub mod PackedObjectLemmas
 pub mod RowLemmas

@@ -4,5 +4,6 @@ pub mod Questions
 pub mod Asked
 pub mod Verdicts
 pub mod Objects
+pub mod Packed
 pub mod InMemory
 pub mod Alike

@@ -8,6 +8,8 @@
 
 mod laws;
 mod objects;
+mod packed;
+mod packed_objects;
 mod plain;
 mod questions;
 mod reducer;

@@ -1,12 +1,13 @@
 //! Rows in memory.
-ghost use Rattle.std.specs.Prelude.{◌≡◌, ◌-◌, ◌<◌, ⊤, [], Some, map, length, vec_len, vec_capacity};
+ghost use Rattle.std.specs.Prelude.{◌≡◌, ◌<◌, ⊤, [], Some, map, length};
 ghost use Rattle.reach_model.specs.Numbers.{known};
 ghost use Rattle.reach_model.specs.Rows.{firsts};
 ghost use Rattle.reach_rows.specs.Alike.{all_alike};
 ghost use Rattle.reach_rows.specs.Kept.{row_of_kept};
 ghost use Rattle.reach_rows.specs.InMemory.{InMemory, HasRoom, AreKept};
 
-use crate::objects::{Object, enter, last_from_of, last_into_of, leave};
+use crate::packed::PackedRows;
+use crate::packed_objects::PackedObjects;
 use crate::questions::First;
 use crate::rows::{Keep, Mark, Row, RowFault, Rows};
 use crate::steps::Steps;
@@ -18,20 +19,20 @@ use std::sync::ledger::Ledger;
 /// Rows in memory, which are always observable and never fail to be read.
 #[derive(Drop)]
 pub struct VecRows {
-    rows: Vec<Row>,
-    objects: Vec<Object>,
+    rows: PackedRows,
+    objects: PackedObjects,
 }
 
 impl Model for VecRows {
     ghost Value = { InMemory };
 
     ghost view = { λ a. record {
-      rows = map row_of_kept a.rows.items;
-      rows_room = vec_capacity a.rows - vec_len a.rows;
-      objects_room = vec_capacity a.objects - vec_len a.objects;
+      rows = map row_of_kept a.rows.rows;
+      rows_room = a.rows.room;
+      objects_room = a.objects.room;
     } };
 
-    ghost invariant = { λ a. AreKept a.rows.items a.objects.items };
+    ghost invariant = { λ a. AreKept a.rows.rows a.objects.objects };
 }
 
 impl VecRows {
@@ -40,8 +41,8 @@ impl VecRows {
         ensures { result.rows ≡ [] }
     {
         VecRows {
-            rows: Vec::new(alloc),
-            objects: Vec::new(alloc),
+            rows: PackedRows::new(alloc),
+            objects: PackedObjects::new(alloc),
         }
     }
 }
@@ -60,7 +61,7 @@ impl Rows for VecRows {
     ghost alike = { λ _ _. ⊤ };
 
     fn count(&self) -> u64 {
-        self.rows.len() as u64
+        self.rows.len()
     }
 
     fn known(&self) -> u32 {
@@ -68,20 +69,20 @@ impl Rows for VecRows {
     }
 
     fn first(&self, id: EntityId) -> First {
-        self.objects[id.0 as usize].first
+        self.objects.object(id).first
     }
 
     fn last_into(&self, id: EntityId) -> Option<u64> {
-        self.objects[id.0 as usize].last_into
+        self.objects.object(id).last_into
     }
 
     fn last_from(&self, id: EntityId) -> Option<u64> {
-        self.objects[id.0 as usize].last_from
+        self.objects.object(id).last_from
     }
 
     fn row<L: Ledger>(&mut self, index: u64, steps: &mut Steps<L>) -> Result<Row, RowFault> {
         steps.tick();
-        Ok(self.rows[index as usize])
+        Ok(self.rows.row(index))
     }
 
     ghost goes_along = { all_alike };
@@ -92,29 +93,23 @@ impl Keep for VecRows {
 
     fn reserve(&mut self, flows: usize) -> Result<(), NoMemory> {
         self.rows.reserve(flows)?;
-        // Two objects a flow. The room for rows holds fewer than 2^63 flows, so the product doesn't overflow.
+        // Two objects a flow. The room for rows holds fewer than 2^63 flows, so the product doesn't
+        // overflow.
         self.objects.reserve(2 * flows)?;
         Ok(())
     }
 
     fn add(&mut self, flow: &Flow) {
-        let row = self.rows.len() as u64;
-        let mark = mark_of(flow);
-        let kept = Row {
-            from: flow.from,
-            to: flow.to,
-            first: mark,
-            last: mark,
-            before_to: last_into_of(&self.objects, flow.to),
-            before_from: last_from_of(&self.objects, flow.from),
-        };
-        self.rows.push_reserved(kept);
-        leave(&mut self.objects, flow, row);
-        enter(&mut self.objects, flow, row);
+        let row = self.rows.len();
+        let before_to = self.objects.last_into_of(flow.to);
+        let before_from = self.objects.last_from_of(flow.from);
+        self.rows.push(flow, before_to, before_from);
+        self.objects.leave(flow, row);
+        self.objects.enter(flow, row);
     }
 
     fn extend(&mut self, row: u64, flow: &Flow) {
-        self.rows[row as usize].last = mark_of(flow);
+        self.rows.extend(row, mark_of(flow));
     }
 }
 

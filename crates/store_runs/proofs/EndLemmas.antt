@@ -83,18 +83,19 @@ at_query state limits mode engine left h before stays lawful x told = record {
 }
 
 -- a halt that has no limit on a store for a cause names none
-pub run_names : (read write store : Type 0) (r : Result Unit Halt) → IfErr r (HasCauses read write store ⊥) → IfErr (over_run r) NamesNoBatch
-run_names read write store (Ok t) causes = tt
-run_names read write store (Err why) causes = λ full is. names_none read write store why causes full (let e : why ≡ halt.Unwritten full = cc in e)
+pub run_names : (read write store hidden : Type 0) (r : Result Unit Halt) → IfErr r (HasCauses read write store hidden ⊥) → IfErr (over_run r) NamesNoBatch
+run_names read write store hidden (Ok t) causes = tt
+run_names read write store hidden (Err why) causes = λ full is. names_none read write store hidden why causes full (let e : why ≡ halt.Unwritten full = cc in e)
 
-pub any_limit : (read write store : Type 0) (r : Result Unit Halt) → IfErr r (HasCauses read write store ⊥) → IfErr r (HasCauses read write store ⊤)
-any_limit read write store (Ok t) causes = tt
-any_limit read write store (Err halt.NoMemory) causes = causes
-any_limit read write store (Err halt.ReadFault) causes = causes
-any_limit read write store (Err halt.WriteFault) causes = causes
-any_limit read write store (Err halt.StoreFault) causes = causes
-any_limit read write store (Err (halt.Full full)) causes = causes
-any_limit read write store (Err (halt.Unwritten full)) causes = tt
+pub any_limit : (read write store hidden : Type 0) (r : Result Unit Halt) → IfErr r (HasCauses read write store hidden ⊥) → IfErr r (HasCauses read write store hidden ⊤)
+any_limit read write store hidden (Ok t) causes = tt
+any_limit read write store hidden (Err halt.NoMemory) causes = causes
+any_limit read write store hidden (Err halt.ReadFault) causes = causes
+any_limit read write store hidden (Err halt.WriteFault) causes = causes
+any_limit read write store hidden (Err halt.StoreFault) causes = causes
+any_limit read write store hidden (Err (halt.BadRow place)) causes = causes
+any_limit read write store hidden (Err (halt.Full full)) causes = causes
+any_limit read write store hidden (Err (halt.Unwritten full)) causes = tt
 
 -- a run that takes no log stays at its moment
 if_put : (b : Bool) (m next : Moment) → b ≡ false → (if b then next else m) ≡ m
@@ -165,16 +166,17 @@ not_bad_or_none state limits mode disk h before place no_bad sound one stood som
     by (inr none) =
         some (nothing_stored one limits mode (state disk).reads h before place stood.stores none) (subst (λ (p : ℕ). StoresNothing limits p (state disk).reads) none.is none)
 
-pub queried_all : NeverStops → (limits : Limits) (mode : Mode) (h : History) (asked : List ℕ) (rest old new : Option (List ℕ)) (r : Result Unit StoreHalt) (read write store : Type 0) (bad : ℕ → Type 0) (wrong : Mode → Mode → Type 0) (short : ℕ → ℕ → Type 0)
-    → IsQueried limits mode h asked rest old new r → IfErr r (HasStoreCauses read write store bad wrong short) → (read → ⊥) → (write → ⊥) → (store → ⊥) → ((kept want : Mode) → wrong kept want → ⊥) → ((place : ℕ) → bad place → ⊥)
+pub queried_all : NeverStops → (limits : Limits) (mode : Mode) (h : History) (asked : List ℕ) (rest old new : Option (List ℕ)) (r : Result Unit StoreHalt) (read write store hidden : Type 0) (bad : ℕ → Type 0) (wrong : Mode → Mode → Type 0) (short : ℕ → ℕ → Type 0)
+    → IsQueried limits mode h asked rest old new r → IfErr r (HasStoreCauses read write store hidden bad wrong short) → (read → ⊥) → (write → ⊥) → (store → ⊥) → ((kept want : Mode) → wrong kept want → ⊥) → ((place : ℕ) → bad place → ⊥)
     → ((taken had : ℕ) → short taken had → ⊥) → KeepsWithin limits (querying mode h) asked → IsDoneOrNoMemory (store_status r)
-queried_all fitting limits mode h asked rest old new (Ok t) read write store bad wrong short run causes e f g k b l keeps = tt
-queried_all fitting limits mode h asked rest old new (Err (over.Run halt.NoMemory)) read write store bad wrong short run causes e f g k b l keeps = tt
-queried_all fitting limits mode h asked rest old new (Err (over.Run halt.ReadFault)) read write store bad wrong short run causes e f g k b l keeps = absurd (e causes)
-queried_all fitting limits mode h asked rest old new (Err (over.Run halt.WriteFault)) read write store bad wrong short run causes e f g k b l keeps = absurd (f causes)
-queried_all fitting limits mode h asked rest old new (Err (over.Run halt.StoreFault)) read write store bad wrong short run causes e f g k b l keeps = absurd (g causes)
-queried_all fitting limits mode h asked rest old new (Err (over.Run (halt.Full full))) read write store bad wrong short run causes e f g k b l keeps = absurd (never_stopped fitting limits mode h asked run.bytes full keeps run.course)
-queried_all fitting limits mode h asked rest old new (Err (over.Run (halt.Unwritten full))) read write store bad wrong short run causes e f g k b l keeps = absurd (run.names full refl)
-queried_all fitting limits mode h asked rest old new (Err (over.BadStore place)) read write store bad wrong short run causes e f g k b l keeps = absurd (b place causes)
-queried_all fitting limits mode h asked rest old new (Err (over.WrongMode kept want)) read write store bad wrong short run causes e f g k b l keeps = absurd (k kept want causes)
-queried_all fitting limits mode h asked rest old new (Err (over.ShortLog taken had)) read write store bad wrong short run causes e f g k b l keeps = absurd (l taken had causes)
+queried_all fitting limits mode h asked rest old new (Ok t) read write store hidden bad wrong short run causes e f g k b l keeps = tt
+queried_all fitting limits mode h asked rest old new (Err (over.Run halt.NoMemory)) read write store hidden bad wrong short run causes e f g k b l keeps = tt
+queried_all fitting limits mode h asked rest old new (Err (over.Run halt.ReadFault)) read write store hidden bad wrong short run causes e f g k b l keeps = absurd (e causes)
+queried_all fitting limits mode h asked rest old new (Err (over.Run halt.WriteFault)) read write store hidden bad wrong short run causes e f g k b l keeps = absurd (f causes)
+queried_all fitting limits mode h asked rest old new (Err (over.Run halt.StoreFault)) read write store hidden bad wrong short run causes e f g k b l keeps = absurd (g causes)
+queried_all fitting limits mode h asked rest old new (Err (over.Run (halt.BadRow place))) read write store hidden bad wrong short run causes e f g k b l keeps = absurd run.course
+queried_all fitting limits mode h asked rest old new (Err (over.Run (halt.Full full))) read write store hidden bad wrong short run causes e f g k b l keeps = absurd (never_stopped fitting limits mode h asked run.bytes full keeps run.course)
+queried_all fitting limits mode h asked rest old new (Err (over.Run (halt.Unwritten full))) read write store hidden bad wrong short run causes e f g k b l keeps = absurd (run.names full refl)
+queried_all fitting limits mode h asked rest old new (Err (over.BadStore place)) read write store hidden bad wrong short run causes e f g k b l keeps = absurd (b place causes)
+queried_all fitting limits mode h asked rest old new (Err (over.WrongMode kept want)) read write store hidden bad wrong short run causes e f g k b l keeps = absurd (k kept want causes)
+queried_all fitting limits mode h asked rest old new (Err (over.ShortLog taken had)) read write store hidden bad wrong short run causes e f g k b l keeps = absurd (l taken had causes)

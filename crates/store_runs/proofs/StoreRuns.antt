@@ -221,6 +221,7 @@ due_never passes (over.Run halt.ReadFault) due = tt
 due_never passes (over.Run halt.WriteFault) due = tt
 due_never passes (over.Run halt.StoreFault) due = tt
 due_never passes (over.Run (halt.Full full)) due = absurd due
+due_never passes (over.Run (halt.BadRow place)) due = due
 due_never passes (over.Run (halt.Unwritten full)) due = tt
 due_never passes (over.BadStore place) due = tt
 due_never passes (over.WrongMode kept asked) due = tt
@@ -231,6 +232,7 @@ passes_none limits mode begun steps (over.Run halt.NoMemory) none = tt
 passes_none limits mode begun steps (over.Run halt.ReadFault) none = tt
 passes_none limits mode begun steps (over.Run halt.WriteFault) none = tt
 passes_none limits mode begun steps (over.Run halt.StoreFault) none = tt
+passes_none limits mode begun steps (over.Run (halt.BadRow place)) none = tt
 passes_none limits mode begun steps (over.Run (halt.Full full)) none = tt
 passes_none limits mode begun steps (over.Run (halt.Unwritten full)) none = absurd (none full refl)
 passes_none limits mode begun steps (over.BadStore place) none = tt
@@ -259,6 +261,7 @@ passes_run limits mode begun steps halt.NoMemory passes = tt
 passes_run limits mode begun steps halt.ReadFault passes = tt
 passes_run limits mode begun steps halt.WriteFault passes = tt
 passes_run limits mode begun steps halt.StoreFault passes = tt
+passes_run limits mode begun steps (halt.BadRow place) passes = tt
 passes_run limits mode begun steps (halt.Full full) passes = tt
 passes_run limits mode begun steps (halt.Unwritten full) passes = passes full refl
 
@@ -444,6 +447,7 @@ silent_course limits from asked (over.Run halt.NoMemory) due = other_halt limits
 silent_course limits from asked (over.Run halt.ReadFault) due = other_halt limits (QuestionsStop limits asked) from (asks limits (lines_in asked)) [] halt.ReadFault tt (nothing_said limits from (asks limits (lines_in asked)))
 silent_course limits from asked (over.Run halt.WriteFault) due = other_halt limits (QuestionsStop limits asked) from (asks limits (lines_in asked)) [] halt.WriteFault tt (nothing_said limits from (asks limits (lines_in asked)))
 silent_course limits from asked (over.Run halt.StoreFault) due = other_halt limits (QuestionsStop limits asked) from (asks limits (lines_in asked)) [] halt.StoreFault tt (nothing_said limits from (asks limits (lines_in asked)))
+silent_course limits from asked (over.Run (halt.BadRow place)) due = absurd due
 silent_course limits from asked (over.Run (halt.Full full)) due = absurd due
 silent_course limits from asked (over.Run (halt.Unwritten full)) due = other_halt limits (QuestionsStop limits asked) from (asks limits (lines_in asked)) [] (halt.Unwritten full) tt (nothing_said limits from (asks limits (lines_in asked)))
 silent_course limits from asked (over.BadStore place) due = refl
@@ -602,58 +606,60 @@ unbegun_watch Stood limits mode a after log asked old leaves = λ h before bytes
     watched_none limits mode a after log old (over.Run halt.NoMemory) (begun_of false h before bytes) questions memory_names tt (λ steps. leaves h before bytes steps stood) memory_long
 
 -- why a disk wasn't opened has its cause
-pub open_causes : (read write store : Type 0) (bad : ℕ → Type 0) (wrong : Mode → Mode → Type 0) (short : ℕ → ℕ → Type 0) (fault : OpenFault) → (fault ≡ opening.StoreFault → store) → ((place : ℕ) → fault ≡ opening.BadStore place → bad place)
-    → ((kept want : Mode) → fault ≡ opening.WrongMode kept want → wrong kept want) → HasStoreCauses read write store bad wrong short (open_halt fault)
-open_causes read write store bad wrong short opening.StoreFault failed place modes = failed refl
-open_causes read write store bad wrong short (opening.BadStore place) failed places modes = places place refl
-open_causes read write store bad wrong short (opening.WrongMode kept want) failed places modes = modes kept want refl
-open_causes read write store bad wrong short opening.NoMemory failed places modes = tt
+pub open_causes : (read write store hidden : Type 0) (bad : ℕ → Type 0) (wrong : Mode → Mode → Type 0) (short : ℕ → ℕ → Type 0) (fault : OpenFault) → (fault ≡ opening.StoreFault → store) → ((place : ℕ) → fault ≡ opening.BadStore place → bad place)
+    → ((kept want : Mode) → fault ≡ opening.WrongMode kept want → wrong kept want) → HasStoreCauses read write store hidden bad wrong short (open_halt fault)
+open_causes read write store hidden bad wrong short opening.StoreFault failed place modes = failed refl
+open_causes read write store hidden bad wrong short (opening.BadStore place) failed places modes = places place refl
+open_causes read write store hidden bad wrong short (opening.WrongMode kept want) failed places modes = modes kept want refl
+open_causes read write store hidden bad wrong short opening.NoMemory failed places modes = tt
 
 -- one cause for another
-run_causes_by : (read read2 write store store2 : Type 0) (why : Halt) → (read → read2) → (store → store2) → HasCauses read write store ⊤ why → HasCauses read2 write store2 ⊤ why
-run_causes_by read read2 write store store2 halt.NoMemory e f h = tt
-run_causes_by read read2 write store store2 halt.ReadFault e f h = e h
-run_causes_by read read2 write store store2 halt.WriteFault e f h = h
-run_causes_by read read2 write store store2 halt.StoreFault e f h = f h
-run_causes_by read read2 write store store2 (halt.Full full) e f h = tt
-run_causes_by read read2 write store store2 (halt.Unwritten full) e f h = tt
+run_causes_by : (read read2 write store store2 hidden hidden2 : Type 0) (why : Halt) → (read → read2) → (store → store2) → (hidden → hidden2) → HasCauses read write store hidden ⊤ why → HasCauses read2 write store2 hidden2 ⊤ why
+run_causes_by read read2 write store store2 hidden hidden2 halt.NoMemory e f d h = tt
+run_causes_by read read2 write store store2 hidden hidden2 halt.ReadFault e f d h = e h
+run_causes_by read read2 write store store2 hidden hidden2 halt.WriteFault e f d h = h
+run_causes_by read read2 write store store2 hidden hidden2 halt.StoreFault e f d h = f h
+run_causes_by read read2 write store store2 hidden hidden2 (halt.BadRow place) e f d h = d h
+run_causes_by read read2 write store store2 hidden hidden2 (halt.Full full) e f d h = tt
+run_causes_by read read2 write store store2 hidden hidden2 (halt.Unwritten full) e f d h = tt
 
-pub causes_by : (read read2 write store store2 : Type 0) (bad bad2 : ℕ → Type 0) (wrong wrong2 : Mode → Mode → Type 0) (short short2 : ℕ → ℕ → Type 0) (r : Result Unit StoreHalt) → (read → read2) → (store → store2) → ((place : ℕ) → bad place → bad2 place)
-    → ((kept want : Mode) → wrong kept want → wrong2 kept want) → ((taken had : ℕ) → short taken had → short2 taken had) → IfErr r (HasStoreCauses read write store bad wrong short) → IfErr r (HasStoreCauses read2 write store2 bad2 wrong2 short2)
-causes_by read read2 write store store2 bad bad2 wrong wrong2 short short2 (Ok t) e f g k l h = tt
-causes_by read read2 write store store2 bad bad2 wrong wrong2 short short2 (Err (over.Run why)) e f g k l h = run_causes_by read read2 write store store2 why e f h
-causes_by read read2 write store store2 bad bad2 wrong wrong2 short short2 (Err (over.BadStore place)) e f g k l h = g place h
-causes_by read read2 write store store2 bad bad2 wrong wrong2 short short2 (Err (over.WrongMode kept asked)) e f g k l h = k kept asked h
-causes_by read read2 write store store2 bad bad2 wrong wrong2 short short2 (Err (over.ShortLog taken had)) e f g k l h = l taken had h
+pub causes_by : (read read2 write store store2 hidden hidden2 : Type 0) (bad bad2 : ℕ → Type 0) (wrong wrong2 : Mode → Mode → Type 0) (short short2 : ℕ → ℕ → Type 0) (r : Result Unit StoreHalt) → (read → read2) → (store → store2) → (hidden → hidden2) → ((place : ℕ) → bad place → bad2 place)
+    → ((kept want : Mode) → wrong kept want → wrong2 kept want) → ((taken had : ℕ) → short taken had → short2 taken had) → IfErr r (HasStoreCauses read write store hidden bad wrong short) → IfErr r (HasStoreCauses read2 write store2 hidden2 bad2 wrong2 short2)
+causes_by read read2 write store store2 hidden hidden2 bad bad2 wrong wrong2 short short2 (Ok t) e f d g k l h = tt
+causes_by read read2 write store store2 hidden hidden2 bad bad2 wrong wrong2 short short2 (Err (over.Run why)) e f d g k l h = run_causes_by read read2 write store store2 hidden hidden2 why e f d h
+causes_by read read2 write store store2 hidden hidden2 bad bad2 wrong wrong2 short short2 (Err (over.BadStore place)) e f d g k l h = g place h
+causes_by read read2 write store store2 hidden hidden2 bad bad2 wrong wrong2 short short2 (Err (over.WrongMode kept asked)) e f d g k l h = k kept asked h
+causes_by read read2 write store store2 hidden hidden2 bad bad2 wrong wrong2 short short2 (Err (over.ShortLog taken had)) e f d g k l h = l taken had h
 
 -- a run that was over a store is blamed for a store fault if its count rose
-pub blamed_for : (read write store : Type 0) (bad : ℕ → Type 0) (wrong : Mode → Mode → Type 0) (short : ℕ → ℕ → Type 0) (r : Result Unit StoreHalt) → IfErr r (HasStoreCauses read write store bad wrong short) → IsErrOf r (over.Run halt.StoreFault) → store
-blamed_for read write store bad wrong short (Ok t) h is = absurd (cc)
-blamed_for read write store bad wrong short (Err (over.Run halt.StoreFault)) h is = h
-blamed_for read write store bad wrong short (Err (over.Run halt.NoMemory)) h is = absurd (cc)
-blamed_for read write store bad wrong short (Err (over.Run halt.ReadFault)) h is = absurd (cc)
-blamed_for read write store bad wrong short (Err (over.Run halt.WriteFault)) h is = absurd (cc)
-blamed_for read write store bad wrong short (Err (over.Run (halt.Full full))) h is = absurd (cc)
-blamed_for read write store bad wrong short (Err (over.Run (halt.Unwritten full))) h is = absurd (cc)
-blamed_for read write store bad wrong short (Err (over.BadStore place)) h is = absurd (cc)
-blamed_for read write store bad wrong short (Err (over.WrongMode kept asked)) h is = absurd (cc)
-blamed_for read write store bad wrong short (Err (over.ShortLog taken had)) h is = absurd (cc)
+pub blamed_for : (read write store hidden : Type 0) (bad : ℕ → Type 0) (wrong : Mode → Mode → Type 0) (short : ℕ → ℕ → Type 0) (r : Result Unit StoreHalt) → IfErr r (HasStoreCauses read write store hidden bad wrong short) → IsErrOf r (over.Run halt.StoreFault) → store
+blamed_for read write store hidden bad wrong short (Ok t) h is = absurd (cc)
+blamed_for read write store hidden bad wrong short (Err (over.Run halt.StoreFault)) h is = h
+blamed_for read write store hidden bad wrong short (Err (over.Run halt.NoMemory)) h is = absurd (cc)
+blamed_for read write store hidden bad wrong short (Err (over.Run halt.ReadFault)) h is = absurd (cc)
+blamed_for read write store hidden bad wrong short (Err (over.Run halt.WriteFault)) h is = absurd (cc)
+blamed_for read write store hidden bad wrong short (Err (over.Run (halt.BadRow place))) h is = absurd (cc)
+blamed_for read write store hidden bad wrong short (Err (over.Run (halt.Full full))) h is = absurd (cc)
+blamed_for read write store hidden bad wrong short (Err (over.Run (halt.Unwritten full))) h is = absurd (cc)
+blamed_for read write store hidden bad wrong short (Err (over.BadStore place)) h is = absurd (cc)
+blamed_for read write store hidden bad wrong short (Err (over.WrongMode kept asked)) h is = absurd (cc)
+blamed_for read write store hidden bad wrong short (Err (over.ShortLog taken had)) h is = absurd (cc)
 
 -- a halt of a dialogue over a store
-pub over_causes : (read write store : Type 0) (bad : ℕ → Type 0) (wrong : Mode → Mode → Type 0) (short : ℕ → ℕ → Type 0) (r : Result Unit Halt) → IfErr r (HasCauses read write store ⊤) → IfErr (over_run r) (HasStoreCauses read write store bad wrong short)
-over_causes read write store bad wrong short (Ok t) h = tt
-over_causes read write store bad wrong short (Err why) h = h
+pub over_causes : (read write store hidden : Type 0) (bad : ℕ → Type 0) (wrong : Mode → Mode → Type 0) (short : ℕ → ℕ → Type 0) (r : Result Unit Halt) → IfErr r (HasCauses read write store hidden ⊤) → IfErr (over_run r) (HasStoreCauses read write store hidden bad wrong short)
+over_causes read write store hidden bad wrong short (Ok t) h = tt
+over_causes read write store hidden bad wrong short (Err why) h = h
 
 -- the same causes, over a disk of another name
-pub causes_renamed : {D : Type 0} (faults : D → ℕ) (spent : D → Type 0) (a last disk : D) (read write : Type 0) (bad : ℕ → Type 0) (wrong : Mode → Mode → Type 0) (short : ℕ → ℕ → Type 0) (r : Result Unit StoreHalt) → disk ≡ last
-    → IfErr r (HasStoreCauses read write (Rose (faults a) (faults last) (spent last)) bad wrong short) → IfErr r (HasStoreCauses read write (Rose (faults a) (faults disk) (spent disk)) bad wrong short)
-causes_renamed {D} faults spent a last disk read write bad wrong short r same = subst (λ (d : D). IfErr r (HasStoreCauses read write (Rose (faults a) (faults d) (spent d)) bad wrong short)) (sym same)
+pub causes_renamed : {D : Type 0} (faults : D → ℕ) (spent : D → Type 0) (a last disk : D) (read write hidden : Type 0) (bad : ℕ → Type 0) (wrong : Mode → Mode → Type 0) (short : ℕ → ℕ → Type 0) (r : Result Unit StoreHalt) → disk ≡ last
+    → IfErr r (HasStoreCauses read write (Rose (faults a) (faults last) (spent last)) hidden bad wrong short) → IfErr r (HasStoreCauses read write (Rose (faults a) (faults disk) (spent disk)) hidden bad wrong short)
+causes_renamed {D} faults spent a last disk read write hidden bad wrong short r same = subst (λ (d : D). IfErr r (HasStoreCauses read write (Rose (faults a) (faults d) (spent d)) hidden bad wrong short)) (sym same)
 
 -- calls that are blamed as their causes say, over a disk of another name
-pub uses_renamed : {D : Type 0} (state : D → DiskState) (faults : D → ℕ) (spent : D → Type 0) (a last disk : D) (read write : Type 0) (bad : ℕ → Type 0) (wrong : Mode → Mode → Type 0) (short : ℕ → ℕ → Type 0) (r : Result Unit StoreHalt) → disk ≡ last
-    → UsesDisk state faults spent a last ⊥ → IfErr r (HasStoreCauses read write (Rose (faults a) (faults last) (spent last)) bad wrong short) → UsesDisk state faults spent a disk (IsErrOf r (over.Run halt.StoreFault))
-uses_renamed {D} state faults spent a last disk read write bad wrong short r same uses causes = subst (λ (d : D). UsesDisk state faults spent a d (IsErrOf r (over.Run halt.StoreFault))) (sym same)
-    (uses_blamed state faults spent a last ⊥ (IsErrOf r (over.Run halt.StoreFault)) uses (blamed_for read write (Rose (faults a) (faults last) (spent last)) bad wrong short r causes))
+pub uses_renamed : {D : Type 0} (state : D → DiskState) (faults : D → ℕ) (spent : D → Type 0) (a last disk : D) (read write hidden : Type 0) (bad : ℕ → Type 0) (wrong : Mode → Mode → Type 0) (short : ℕ → ℕ → Type 0) (r : Result Unit StoreHalt) → disk ≡ last
+    → UsesDisk state faults spent a last ⊥ → IfErr r (HasStoreCauses read write (Rose (faults a) (faults last) (spent last)) hidden bad wrong short) → UsesDisk state faults spent a disk (IsErrOf r (over.Run halt.StoreFault))
+uses_renamed {D} state faults spent a last disk read write hidden bad wrong short r same uses causes = subst (λ (d : D). UsesDisk state faults spent a d (IsErrOf r (over.Run halt.StoreFault))) (sym same)
+    (uses_blamed state faults spent a last ⊥ (IsErrOf r (over.Run halt.StoreFault)) uses (blamed_for read write (Rose (faults a) (faults last) (spent last)) hidden bad wrong short r causes))
 
 -- a count of a disk that nobody called is at its end
 rose_once : (a : ℕ) (spent : Type 0) → Rose a a spent → spent
@@ -756,63 +762,67 @@ not_bad state limits mode disk h before place no_bad sound stood bad = by (bad s
     by (inl at) = no_bad limits mode (state disk).reads h before place stood.stores at
     by (inr u) = u.unsound.2 (sound limits mode (state disk).reads h before u.log u.found stood.stores u.read u.unsound.0 u.unsound.1)
 
-pub reduced_all : (resume : Bool) (limits : Limits) (mode : Mode) (disk after : DiskState) (left old new : Option (List ℕ)) (r : Result Unit StoreHalt) (h : History) (before : ℕ) (bytes : List ℕ) (read write store : Type 0) (bad : ℕ → Type 0) (wrong : Mode → Mode → Type 0) (short : ℕ → ℕ → Type 0)
-    → Reduces resume limits mode disk after left old new r h before bytes → IfErr r (HasStoreCauses read write store bad wrong short) → HasTaken resume before bytes → (read → ⊥) → (write → ⊥) → (store → ⊥) → ((kept asked : Mode) → wrong kept asked → ⊥) → ((place : ℕ) → bad place → ⊥)
+pub reduced_all : (resume : Bool) (limits : Limits) (mode : Mode) (disk after : DiskState) (left old new : Option (List ℕ)) (r : Result Unit StoreHalt) (h : History) (before : ℕ) (bytes : List ℕ) (read write store hidden : Type 0) (bad : ℕ → Type 0) (wrong : Mode → Mode → Type 0) (short : ℕ → ℕ → Type 0)
+    → Reduces resume limits mode disk after left old new r h before bytes → IfErr r (HasStoreCauses read write store hidden bad wrong short) → HasTaken resume before bytes → (read → ⊥) → (write → ⊥) → (store → ⊥) → ((kept asked : Mode) → wrong kept asked → ⊥) → ((place : ℕ) → bad place → ⊥)
     → FitsWhole limits mode (begun_of resume h before bytes) → IsDoneOrNoMemory (store_status r)
-reduced_all resume limits mode disk after left old new (Ok t) h before bytes read write store bad wrong short run causes enough e f g k b fits = tt
-reduced_all resume limits mode disk after left old new (Err (over.Run halt.NoMemory)) h before bytes read write store bad wrong short run causes enough e f g k b fits = tt
-reduced_all resume limits mode disk after left old new (Err (over.Run halt.ReadFault)) h before bytes read write store bad wrong short run causes enough e f g k b fits = absurd (e causes)
-reduced_all resume limits mode disk after left old new (Err (over.Run halt.WriteFault)) h before bytes read write store bad wrong short run causes enough e f g k b fits = absurd (f causes)
-reduced_all resume limits mode disk after left old new (Err (over.Run halt.StoreFault)) h before bytes read write store bad wrong short run causes enough e f g k b fits = absurd (g causes)
-reduced_all resume limits mode disk after left old new (Err (over.Run (halt.Full full))) h before bytes read write store bad wrong short run causes enough e f g k b fits = absurd (fits.engine full run.due)
-reduced_all resume limits mode disk after left old new (Err (over.Run (halt.Unwritten full))) h before bytes read write store bad wrong short run causes enough e f g k b fits = absurd (fits.store full run.passes)
-reduced_all resume limits mode disk after left old new (Err (over.BadStore place)) h before bytes read write store bad wrong short run causes enough e f g k b fits = absurd (b place causes)
-reduced_all resume limits mode disk after left old new (Err (over.WrongMode kept asked)) h before bytes read write store bad wrong short run causes enough e f g k b fits = absurd (k kept asked causes)
-reduced_all resume limits mode disk after left old new (Err (over.ShortLog taken had)) h before bytes read write store bad wrong short run causes enough e f g k b fits = absurd (not_short_enough resume before bytes taken had enough (run.short taken had refl))
+reduced_all resume limits mode disk after left old new (Ok t) h before bytes read write store hidden bad wrong short run causes enough e f g k b fits = tt
+reduced_all resume limits mode disk after left old new (Err (over.Run halt.NoMemory)) h before bytes read write store hidden bad wrong short run causes enough e f g k b fits = tt
+reduced_all resume limits mode disk after left old new (Err (over.Run halt.ReadFault)) h before bytes read write store hidden bad wrong short run causes enough e f g k b fits = absurd (e causes)
+reduced_all resume limits mode disk after left old new (Err (over.Run halt.WriteFault)) h before bytes read write store hidden bad wrong short run causes enough e f g k b fits = absurd (f causes)
+reduced_all resume limits mode disk after left old new (Err (over.Run halt.StoreFault)) h before bytes read write store hidden bad wrong short run causes enough e f g k b fits = absurd (g causes)
+reduced_all resume limits mode disk after left old new (Err (over.Run (halt.BadRow place))) h before bytes read write store hidden bad wrong short run causes enough e f g k b fits = absurd run.due
+reduced_all resume limits mode disk after left old new (Err (over.Run (halt.Full full))) h before bytes read write store hidden bad wrong short run causes enough e f g k b fits = absurd (fits.engine full run.due)
+reduced_all resume limits mode disk after left old new (Err (over.Run (halt.Unwritten full))) h before bytes read write store hidden bad wrong short run causes enough e f g k b fits = absurd (fits.store full run.passes)
+reduced_all resume limits mode disk after left old new (Err (over.BadStore place)) h before bytes read write store hidden bad wrong short run causes enough e f g k b fits = absurd (b place causes)
+reduced_all resume limits mode disk after left old new (Err (over.WrongMode kept asked)) h before bytes read write store hidden bad wrong short run causes enough e f g k b fits = absurd (k kept asked causes)
+reduced_all resume limits mode disk after left old new (Err (over.ShortLog taken had)) h before bytes read write store hidden bad wrong short run causes enough e f g k b fits = absurd (not_short_enough resume before bytes taken had enough (run.short taken had refl))
 
-pub watched_all : (limits : Limits) (mode : Mode) (disk after : DiskState) (left old new : Option (List ℕ)) (r : Result Unit StoreHalt) (begun : Begun) (asked : List ℕ) (read write store : Type 0) (bad : ℕ → Type 0) (wrong : Mode → Mode → Type 0) (short : ℕ → ℕ → Type 0)
-    → Watches limits mode disk after left old new r begun asked → IfErr r (HasStoreCauses read write store bad wrong short) → (read → ⊥) → (write → ⊥) → (store → ⊥) → ((kept want : Mode) → wrong kept want → ⊥) → ((place : ℕ) → bad place → ⊥)
+pub watched_all : (limits : Limits) (mode : Mode) (disk after : DiskState) (left old new : Option (List ℕ)) (r : Result Unit StoreHalt) (begun : Begun) (asked : List ℕ) (read write store hidden : Type 0) (bad : ℕ → Type 0) (wrong : Mode → Mode → Type 0) (short : ℕ → ℕ → Type 0)
+    → Watches limits mode disk after left old new r begun asked → IfErr r (HasStoreCauses read write store hidden bad wrong short) → (read → ⊥) → (write → ⊥) → (store → ⊥) → ((kept want : Mode) → wrong kept want → ⊥) → ((place : ℕ) → bad place → ⊥)
     → FitsDialogue limits mode begun asked → IsDoneOrNoMemory (store_status r)
-watched_all limits mode disk after left old new (Ok t) begun asked read write store bad wrong short run causes e f g k b fits = tt
-watched_all limits mode disk after left old new (Err (over.Run halt.NoMemory)) begun asked read write store bad wrong short run causes e f g k b fits = tt
-watched_all limits mode disk after left old new (Err (over.Run halt.ReadFault)) begun asked read write store bad wrong short run causes e f g k b fits = absurd (e causes)
-watched_all limits mode disk after left old new (Err (over.Run halt.WriteFault)) begun asked read write store bad wrong short run causes e f g k b fits = absurd (f causes)
-watched_all limits mode disk after left old new (Err (over.Run halt.StoreFault)) begun asked read write store bad wrong short run causes e f g k b fits = absurd (g causes)
-watched_all limits mode disk after left old new (Err (over.Run (halt.Full full))) begun asked read write store bad wrong short run causes e f g k b fits = absurd (fits.engine run.course.said run.course.to full run.course.stops)
-watched_all limits mode disk after left old new (Err (over.Run (halt.Unwritten full))) begun asked read write store bad wrong short run causes e f g k b fits = absurd (fits.store run.last run.along full run.passes)
-watched_all limits mode disk after left old new (Err (over.BadStore place)) begun asked read write store bad wrong short run causes e f g k b fits = absurd (b place causes)
-watched_all limits mode disk after left old new (Err (over.WrongMode kept want)) begun asked read write store bad wrong short run causes e f g k b fits = absurd (k kept want causes)
-watched_all limits mode disk after left old new (Err (over.ShortLog taken had)) begun asked read write store bad wrong short run causes e f g k b fits = absurd (run.whole taken had refl)
+watched_all limits mode disk after left old new (Ok t) begun asked read write store hidden bad wrong short run causes e f g k b fits = tt
+watched_all limits mode disk after left old new (Err (over.Run halt.NoMemory)) begun asked read write store hidden bad wrong short run causes e f g k b fits = tt
+watched_all limits mode disk after left old new (Err (over.Run halt.ReadFault)) begun asked read write store hidden bad wrong short run causes e f g k b fits = absurd (e causes)
+watched_all limits mode disk after left old new (Err (over.Run halt.WriteFault)) begun asked read write store hidden bad wrong short run causes e f g k b fits = absurd (f causes)
+watched_all limits mode disk after left old new (Err (over.Run halt.StoreFault)) begun asked read write store hidden bad wrong short run causes e f g k b fits = absurd (g causes)
+watched_all limits mode disk after left old new (Err (over.Run (halt.BadRow place))) begun asked read write store hidden bad wrong short run causes e f g k b fits = absurd run.course
+watched_all limits mode disk after left old new (Err (over.Run (halt.Full full))) begun asked read write store hidden bad wrong short run causes e f g k b fits = absurd (fits.engine run.course.said run.course.to full run.course.stops)
+watched_all limits mode disk after left old new (Err (over.Run (halt.Unwritten full))) begun asked read write store hidden bad wrong short run causes e f g k b fits = absurd (fits.store run.last run.along full run.passes)
+watched_all limits mode disk after left old new (Err (over.BadStore place)) begun asked read write store hidden bad wrong short run causes e f g k b fits = absurd (b place causes)
+watched_all limits mode disk after left old new (Err (over.WrongMode kept want)) begun asked read write store hidden bad wrong short run causes e f g k b fits = absurd (k kept want causes)
+watched_all limits mode disk after left old new (Err (over.ShortLog taken had)) begun asked read write store hidden bad wrong short run causes e f g k b fits = absurd (run.whole taken had refl)
 
 -- ---- the status
 
--- a run that keeps its rows in memory refuses no store
-pub refuses_none : (bad : ℕ → Type 0) (wrong : Mode → Mode → Type 0) (r : Result Unit Halt) → RefusesStore (status_for r) bad wrong
-refuses_none bad wrong (Ok t) = tt
-refuses_none bad wrong (Err halt.NoMemory) = tt
-refuses_none bad wrong (Err halt.ReadFault) = tt
-refuses_none bad wrong (Err halt.WriteFault) = tt
-refuses_none bad wrong (Err halt.StoreFault) = tt
-refuses_none bad wrong (Err (halt.Full full)) = tt
-refuses_none bad wrong (Err (halt.Unwritten full)) = tt
+-- a store is refused for the cause of a halt
+pub refuses_for : (read write store hidden limit : Type 0) (bad : ℕ → Type 0) (wrong : Mode → Mode → Type 0) (r : Result Unit Halt) → ((place : ℕ) → hidden → bad place) → IfErr r (HasCauses read write store hidden limit) → RefusesStore (status_for r) bad wrong
+refuses_for read write store hidden limit bad wrong (Ok t) d h = tt
+refuses_for read write store hidden limit bad wrong (Err halt.NoMemory) d h = tt
+refuses_for read write store hidden limit bad wrong (Err halt.ReadFault) d h = tt
+refuses_for read write store hidden limit bad wrong (Err halt.WriteFault) d h = tt
+refuses_for read write store hidden limit bad wrong (Err halt.StoreFault) d h = tt
+refuses_for read write store hidden limit bad wrong (Err (halt.BadRow place)) d h = d place h
+refuses_for read write store hidden limit bad wrong (Err (halt.Full full)) d h = tt
+refuses_for read write store hidden limit bad wrong (Err (halt.Unwritten full)) d h = tt
 
--- a store is refused for the cause of its outcome
-pub refuses_by : (read write store : Type 0) (bad : ℕ → Type 0) (wrong : Mode → Mode → Type 0) (short : ℕ → ℕ → Type 0) (r : Result Unit StoreHalt) → IfErr r (HasStoreCauses read write store bad wrong short) → RefusesStore (store_status r) bad wrong
-refuses_by read write store bad wrong short (Ok t) h = tt
-refuses_by read write store bad wrong short (Err (over.Run why)) h = refuses_none bad wrong (Err why)
-refuses_by read write store bad wrong short (Err (over.BadStore place)) h = h
-refuses_by read write store bad wrong short (Err (over.WrongMode kept asked)) h = h
-refuses_by read write store bad wrong short (Err (over.ShortLog taken had)) h = tt
+-- the same of an outcome over a store
+pub refuses_by : (read write store hidden : Type 0) (bad : ℕ → Type 0) (wrong : Mode → Mode → Type 0) (short : ℕ → ℕ → Type 0) (r : Result Unit StoreHalt) → ((place : ℕ) → hidden → bad place)
+    → IfErr r (HasStoreCauses read write store hidden bad wrong short) → RefusesStore (store_status r) bad wrong
+refuses_by read write store hidden bad wrong short (Ok t) d h = tt
+refuses_by read write store hidden bad wrong short (Err (over.Run why)) d h = refuses_for read write store hidden ⊤ bad wrong (Err why) d h
+refuses_by read write store hidden bad wrong short (Err (over.BadStore place)) d h = h
+refuses_by read write store hidden bad wrong short (Err (over.WrongMode kept asked)) d h = h
+refuses_by read write store hidden bad wrong short (Err (over.ShortLog taken had)) d h = tt
 
 -- ---- a store that is refused
 
 -- a run over an engine refuses no store
-pub never_refused : (read write store : Type 0) (short : ℕ → ℕ → Type 0) (r : Result Unit StoreHalt) → IfErr r (HasStoreCauses read write store no_place no_modes short) → IsRefusal r → ⊥
-never_refused read write store short (Ok t) causes is = is
-never_refused read write store short (Err (over.Run why)) causes is = is
-never_refused read write store short (Err (over.BadStore place)) causes is = causes
-never_refused read write store short (Err (over.WrongMode kept want)) causes is = causes
-never_refused read write store short (Err (over.ShortLog taken had)) causes is = is
+pub never_refused : (read write store hidden : Type 0) (short : ℕ → ℕ → Type 0) (r : Result Unit StoreHalt) → IfErr r (HasStoreCauses read write store hidden no_place no_modes short) → IsRefusal r → ⊥
+never_refused read write store hidden short (Ok t) causes is = is
+never_refused read write store hidden short (Err (over.Run why)) causes is = is
+never_refused read write store hidden short (Err (over.BadStore place)) causes is = causes
+never_refused read write store hidden short (Err (over.WrongMode kept want)) causes is = causes
+never_refused read write store hidden short (Err (over.ShortLog taken had)) causes is = is
 
 -- a status that refuses a store is that of such an outcome
 pub refusal_of : (r : Result Unit StoreHalt) → RefusesAStore (store_status r) → IsRefusal r
@@ -821,6 +831,7 @@ refusal_of (Err (over.Run halt.NoMemory)) is = is
 refusal_of (Err (over.Run halt.ReadFault)) is = is
 refusal_of (Err (over.Run halt.WriteFault)) is = is
 refusal_of (Err (over.Run halt.StoreFault)) is = is
+refusal_of (Err (over.Run (halt.BadRow place))) is = is
 refusal_of (Err (over.Run (halt.Full full))) is = is
 refusal_of (Err (over.Run (halt.Unwritten full))) is = is
 refusal_of (Err (over.BadStore place)) is = is
@@ -834,5 +845,6 @@ refuses_nothing (Err halt.NoMemory) is = is
 refuses_nothing (Err halt.ReadFault) is = is
 refuses_nothing (Err halt.WriteFault) is = is
 refuses_nothing (Err halt.StoreFault) is = is
+refuses_nothing (Err (halt.BadRow place)) is = is
 refuses_nothing (Err (halt.Full full)) is = is
 refuses_nothing (Err (halt.Unwritten full)) is = is

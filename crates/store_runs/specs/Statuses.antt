@@ -28,6 +28,7 @@ number_of status.ReadFault = 4
 number_of status.WriteFault = 5
 number_of status.StoreFault = 6
 number_of (status.BadStore place) = 7
+number_of (status.BadRow place) = 7
 number_of (status.WrongMode kept asked) = 8
 number_of (status.Full full) = 9
 number_of (status.ShortLog taken had) = 10
@@ -69,6 +70,7 @@ line_of status.ReadFault = as_line (codes "read fault")
 line_of status.WriteFault = as_line (codes "write fault")
 line_of status.StoreFault = as_line (codes "store fault")
 line_of (status.BadStore place) = as_line (bad_text place)
+line_of (status.BadRow place) = as_line (bad_text place)
 line_of (status.WrongMode kept asked) = as_line (wrong_text kept asked)
 line_of (status.Full full) = as_line (full_text full)
 line_of (status.ShortLog taken had) = as_line (short_text taken had)
@@ -80,6 +82,7 @@ status_for (Err halt.NoMemory) = status.NoMemory
 status_for (Err halt.ReadFault) = status.ReadFault
 status_for (Err halt.WriteFault) = status.WriteFault
 status_for (Err halt.StoreFault) = status.StoreFault
+status_for (Err (halt.BadRow place)) = status.BadRow place
 status_for (Err (halt.Full full)) = status.Full full
 status_for (Err (halt.Unwritten full)) = status.Full full
 
@@ -91,15 +94,17 @@ store_status (Err (over.BadStore place)) = status.BadStore place
 store_status (Err (over.WrongMode kept asked)) = status.WrongMode kept asked
 store_status (Err (over.ShortLog taken had)) = status.ShortLog taken had
 
--- each fault of a device in a status has its cause
-abbrev pub StatusCause : (read write store : Type 0) → Status → Type 0
-StatusCause read write store status.ReadFault = read
-StatusCause read write store status.WriteFault = write
-StatusCause read write store status.StoreFault = store
-StatusCause read write store _ = ⊤
+-- each fault of a device in a status has its cause, and so has a place without a row
+abbrev pub StatusCause : (read write store hidden : Type 0) → Status → Type 0
+StatusCause read write store hidden status.ReadFault = read
+StatusCause read write store hidden status.WriteFault = write
+StatusCause read write store hidden status.StoreFault = store
+StatusCause read write store hidden (status.BadRow place) = hidden
+StatusCause read write store hidden _ = ⊤
 
--- a store that is refused has its cause
+-- a store that is refused has its cause, and so has a place of it without a row
 abbrev pub RefusesStore : Status → (bad : ℕ → Type 0) → (wrong : Mode → Mode → Type 0) → Type 0
 RefusesStore (status.BadStore place) bad wrong = bad place
+RefusesStore (status.BadRow place) bad wrong = bad place
 RefusesStore (status.WrongMode kept asked) bad wrong = wrong kept asked
 RefusesStore _ bad wrong = ⊤

@@ -15,7 +15,7 @@ ghost use Rattle.dialogue.specs.Course.{At, GoesUp, HasCauses, IsDue, kind_of, n
 ghost use Rattle.dialogue.specs.Dialogue.{Moment, asks, lines_in};
 ghost use Rattle.dialogue.specs.Settles.{settles};
 ghost use Rattle.store_runs.specs.Refusals.{AlwaysRefuses, RefusesUnsound};
-ghost use Rattle.dialogue.specs.Saves.{AddsToStore, IsAllPutAway, IsPutAway, IsReached, KeepsPace, LacksInStore, LeavesAllBut, PassesStore, RoseIn, Start, UsesStore, since};
+ghost use Rattle.dialogue.specs.Saves.{AddsToStore, IsAllPutAway, IsHiddenIn, IsPutAway, IsReached, KeepsPace, LacksInStore, LeavesAllBut, PassesStore, RoseIn, Start, UsesStore, since};
 ghost use Rattle.store_runs.specs.Statuses.{store_status};
 ghost use Rattle.dialogue.specs.StoreHalts.{HasStoreCauses, IsRunDue, NamesNoBatch, is_shorter, no_modes, no_place, over_run, shorter_in};
 ghost use Rattle.store_runs.specs.Stores.{HasBegun, HearsOut, IsBadIn, IsOpenAt, IsReduceRun, IsRefusal, IsReopened, IsShort, IsWatchRun, IsWrongIn, AreTold, AsksTold, LooksOrLacks, StoodAt, WaitsUnsoundly, WasFound, AddsFew, AddsIn, is_resumed};
@@ -101,6 +101,7 @@ pub fn extend<D: Disk, L: Source, Q: Source, O: Sink>(
         ⊎ Rose (Q.faults questions.old) (Q.faults questions.new) (Q.spent questions.new))
         (Rose (O.faults out.old) (O.faults out.new) (O.spent out.new))
         (Rose (D.faults disk) (D.faults result.disk) (D.spent result.disk))
+        (¬ (D.state disk).told)
         (IsBadIn limits.now (D.state disk)) (IsWrongIn limits.now (D.state disk) (Some mode))
         (shorter_in (is_resumed taking))) }
     ensures uses { UsesDisk D.state D.faults D.spent disk result.disk
@@ -165,6 +166,7 @@ fn extend_opened<D: Disk, L: Source, Q: Source, O: Sink>(
         ⊎ Rose (Q.faults questions.old) (Q.faults questions.new) (Q.spent questions.new))
         (Rose (O.faults out.old) (O.faults out.new) (O.spent out.new))
         (Rose (D.faults opened.store.disk) (D.faults result.disk) (D.spent result.disk))
+        (IsHiddenIn D.state opened.store)
         (WaitsUnsoundly limits.now opened) no_modes (shorter_in (is_resumed taking))) }
     ensures uses { UsesDisk D.state D.faults D.spent opened.store.disk result.disk
         (IsErrOf result.outcome (over.Run halt.StoreFault)) }
@@ -248,6 +250,7 @@ fn extend_with<R: Reducer + Drop, D: Disk, L: Source, Q: Source, O: Sink>(
         ⊎ Rose (Q.faults questions.old) (Q.faults questions.new) (Q.spent questions.new))
         (Rose (O.faults out.old) (O.faults out.new) (O.spent out.new))
         (Rose (D.faults opened.store.disk) (D.faults result.disk) (D.spent result.disk))
+        (IsHiddenIn D.state opened.store)
         (WaitsUnsoundly limits.now opened) no_modes (shorter_in (is_resumed taking))) }
     ensures uses { UsesDisk D.state D.faults D.spent opened.store.disk result.disk
         (IsErrOf result.outcome (over.Run halt.StoreFault)) }
@@ -307,6 +310,7 @@ fn extend_engine<R: Reducer + Drop, D: Disk, L: Source, Q: Source, O: Sink>(
         ⊎ Rose (Q.faults questions.old) (Q.faults questions.new) (Q.spent questions.new))
         (Rose (O.faults out.old) (O.faults out.new) (O.spent out.new))
         (Rose (D.faults engine.joined.keep.disk) (D.faults result.disk) (D.spent result.disk))
+        (IsHiddenIn D.state engine.joined.keep)
         no_place no_modes (shorter_in (is_resumed taking))) }
     ensures uses { UsesDisk D.state D.faults D.spent engine.joined.keep.disk result.disk
         (IsErrOf result.outcome (over.Run halt.StoreFault)) }
@@ -380,6 +384,7 @@ fn take_in<R: Reducer, D: Disk, L: Source, Q: Source, O: Sink>(
         ⊎ Rose (Q.faults questions.old) (Q.faults questions.new) (Q.spent questions.new))
         (Rose (O.faults out.old) (O.faults out.new) (O.spent out.new))
         (RoseIn D.faults D.spent session.old.engine.joined.keep session.new.engine.joined.keep)
+        (IsHiddenIn D.state session.old.engine.joined.keep)
         no_place no_modes (shorter_in (is_resumed taking))) }
     ensures uses { UsesStore D.state D.faults D.spent
         session.old.engine.joined.keep session.new.engine.joined.keep }
@@ -415,6 +420,7 @@ fn reduce<R: Reducer, D: Disk, L: Source, O: Sink>(
         (Rose (L.faults log.old) (L.faults log.new) (L.spent log.new))
         (Rose (O.faults out.old) (O.faults out.new) (O.spent out.new))
         (RoseIn D.faults D.spent session.old.engine.joined.keep session.new.engine.joined.keep)
+        (IsHiddenIn D.state session.old.engine.joined.keep)
         no_place no_modes (shorter_in resume)) }
     ensures uses { UsesStore D.state D.faults D.spent
         session.old.engine.joined.keep session.new.engine.joined.keep }
@@ -456,7 +462,7 @@ fn begin_part<R: Reducer, D: Disk, L: Source>(
     ensures unsaved { session.new.unsaved ≡ session.old.unsaved }
     ensures due { IfErr result (IsRunDue never) }
     ensures causes { IfErr result (HasStoreCauses
-        (Rose (L.faults log.old) (L.faults log.new) (L.spent log.new)) ⊥ ⊥
+        (Rose (L.faults log.old) (L.faults log.new) (L.spent log.new)) ⊥ ⊥ ⊥
         no_place no_modes (shorter_in resume)) }
     ensures written { IfErr result NamesNoBatch }
     ensures alike { SameBut session.old.engine.joined.keep session.new.engine.joined.keep }
@@ -486,7 +492,7 @@ fn go_on<L: Source>(buf: &mut [u8], taken: u64, log: &mut L) -> Result<(), Store
         → LeavesAllBut taken bytes (L.left log.new) }
     ensures due { IfErr result (IsRunDue never) }
     ensures causes { IfErr result (HasStoreCauses
-        (Rose (L.faults log.old) (L.faults log.new) (L.spent log.new)) ⊥ ⊥
+        (Rose (L.faults log.old) (L.faults log.new) (L.spent log.new)) ⊥ ⊥ ⊥
         no_place no_modes is_shorter) }
     ensures written { IfErr result NamesNoBatch }
     ensures counts { GoesUp
@@ -557,12 +563,13 @@ fn reduce_all<R: Reducer, D: Disk, L: Source, O: Sink>(
         (Rose (L.faults log.old) (L.faults log.new) (L.spent log.new))
         (Rose (O.faults out.old) (O.faults out.new) (O.spent out.new))
         (RoseIn D.faults D.spent session.old.engine.joined.keep session.new.engine.joined.keep)
-        ⊤) }
+        (IsHiddenIn D.state session.old.engine.joined.keep) ⊤) }
     ensures uses { UsesStore D.state D.faults D.spent
         session.old.engine.joined.keep session.new.engine.joined.keep }
 {
     stops_stay();
     Store::<D>::saves_lawfully();
+    Store::<D>::reads_lawfully();
     Store::<D>::lacks_lawfully();
     let _taken = take(session, log, u64::MAX)?;
     let _settled = settle_all(session)?;
@@ -579,11 +586,15 @@ fn write_stat<R: Reducer, D: Disk, O: Sink>(
         → OnOk result (WroteStat limits R.mode h (O.written out.old) (O.written out.new)) }
     ensures front { (limits : Limits) (h : History) → StandsFor limits engine.old h
         → OnErr result (WroteFront limits R.mode h (O.written out.old) (O.written out.new)) }
-    ensures due { IfErr result (IsDue never) }
+    ensures due { (limits : Limits) (h : History) → StandsFor limits engine.old h
+        → IfErr result (IsDue never) }
     ensures causes { IfErr result
-        (HasCauses ⊥ (Rose (O.faults out.old) (O.faults out.new) (O.spent out.new)) ⊥ ⊥) }
+        (HasCauses ⊥ (Rose (O.faults out.old) (O.faults out.new) (O.spent out.new))
+        (RoseIn D.faults D.spent engine.old.joined.keep engine.new.joined.keep)
+        (IsHiddenIn D.state engine.old.joined.keep) ⊥) }
     ensures alike { SameBut engine.old.joined.keep engine.new.joined.keep }
 {
+    Store::<D>::reads_lawfully();
     let reply = reply_of(engine, &Ask::Stat)?;
     say(alloc, out, &reply)
 }
@@ -617,7 +628,7 @@ fn watch_on<R: Reducer, D: Disk, L: Source, Q: Source, O: Sink>(
         ⊎ Rose (Q.faults questions.old) (Q.faults questions.new) (Q.spent questions.new))
         (Rose (O.faults out.old) (O.faults out.new) (O.spent out.new))
         (RoseIn D.faults D.spent session.old.engine.joined.keep session.new.engine.joined.keep)
-        ⊤) }
+        (IsHiddenIn D.state session.old.engine.joined.keep) ⊤) }
     ensures uses { UsesStore D.state D.faults D.spent
         session.old.engine.joined.keep session.new.engine.joined.keep }
 {

@@ -10,6 +10,7 @@ ghost use Rattle.dialogue.specs.declared.halt.Halt.TheVariants as halt;
 ghost use Rattle.dialogue.specs.declared.halt.StoreHalt.TheVariants as over;
 ghost use Rattle.store_runs.specs.Refusals.{AlwaysRefuses, RefusesNoBatch, RefusesUnsound};
 ghost use Rattle.store_runs.specs.Statuses.{store_status};
+ghost use Rattle.dialogue.specs.Saves.{IsHiddenIn};
 ghost use Rattle.dialogue.specs.StoreHalts.{HasStoreCauses, no_lengths, no_modes, no_place};
 ghost use Rattle.store_runs.specs.Stores.{HasNoBatch, IsBadOrNone, IsOpenAt, IsQueried, IsQueryRun, IsRefusal, IsReopened, IsWrongIn, StoodAt, WaitsUnsoundly, WasFound};
 
@@ -51,6 +52,7 @@ pub fn query<D: Disk, Q: Source, O: Sink>(
         (Rose (Q.faults questions.old) (Q.faults questions.new) (Q.spent questions.new))
         (Rose (O.faults out.old) (O.faults out.new) (O.spent out.new))
         (Rose (D.faults disk) (D.faults result.disk) (D.spent result.disk))
+        (¬ (D.state disk).told)
         (IsBadOrNone limits.now (D.state disk)) (IsWrongIn limits.now (D.state disk) None)
         no_lengths) }
     ensures uses { UsesDisk D.state D.faults D.spent disk result.disk
@@ -88,6 +90,7 @@ fn query_opened<D: Disk, Q: Source, O: Sink>(
         (Rose (Q.faults questions.old) (Q.faults questions.new) (Q.spent questions.new))
         (Rose (O.faults out.old) (O.faults out.new) (O.spent out.new))
         (Rose (D.faults result.disk) (D.faults result.disk) (D.spent result.disk))
+        (IsHiddenIn D.state opened.store)
         (λ place. WaitsUnsoundly limits.now opened place ⊎ HasNoBatch opened place)
         no_modes no_lengths) }
 {
@@ -144,6 +147,7 @@ fn query_with<R: Reducer + Drop, D: Disk, Q: Source, O: Sink>(
         (Rose (Q.faults questions.old) (Q.faults questions.new) (Q.spent questions.new))
         (Rose (O.faults out.old) (O.faults out.new) (O.spent out.new))
         (Rose (D.faults result.disk) (D.faults result.disk) (D.spent result.disk))
+        (IsHiddenIn D.state opened.store)
         (λ place. WaitsUnsoundly limits.now opened place ⊎ HasNoBatch opened place)
         no_modes no_lengths) }
 {
@@ -177,6 +181,7 @@ fn query_engine<R: Reducer + Drop, D: Disk, Q: Source, O: Sink>(
         (Rose (Q.faults questions.old) (Q.faults questions.new) (Q.spent questions.new))
         (Rose (O.faults out.old) (O.faults out.new) (O.spent out.new))
         (Rose (D.faults result.disk) (D.faults result.disk) (D.spent result.disk))
+        (IsHiddenIn D.state engine.joined.keep)
         no_place no_modes no_lengths) }
 {
     let piece = match room_for_a_read(alloc) {

@@ -8,6 +8,7 @@
 //!     5        WriteFault    write fault
 //!     6        StoreFault    store fault
 //!     7        BadStore      bad store at PLACE
+//!     7        BadRow        bad store at PLACE
 //!     8        WrongMode     wrong mode: kept KEPT, asked ASKED
 //!     9        Full          full: LIMIT NUMBER
 //!     10       ShortLog      short log: taken TAKEN, had HAD
@@ -41,6 +42,8 @@ pub enum Status {
     StoreFault,
     /// The disk isn't a store. The place is that of the batch from which on it isn't one.
     BadStore(u64),
+    /// At this place of an opened store stands no row.
+    BadRow(u64),
     /// The store is of another mode than the word says.
     WrongMode { kept: Mode, asked: Mode },
     /// A limit would have been passed.
@@ -61,6 +64,7 @@ pub fn status_number(status: &Status) -> u8
         Status::WriteFault => 5,
         Status::StoreFault => 6,
         Status::BadStore(_) => 7,
+        Status::BadRow(_) => 7,
         Status::WrongMode { kept: _, asked: _ } => 8,
         Status::Full(_) => 9,
         Status::ShortLog { taken: _, had: _ } => 10,
@@ -81,6 +85,7 @@ pub fn status_line(status: &Status) -> ArrayString<LINE>
         Status::WriteFault => as_line("write fault"),
         Status::StoreFault => as_line("store fault"),
         Status::BadStore(place) => as_line(bad_text(place).as_str()),
+        Status::BadRow(place) => as_line(bad_text(place).as_str()),
         Status::WrongMode { kept, asked } => as_line(wrong_text(kept, asked).as_str()),
         Status::Full(full) => as_line(full_text(full).as_str()),
         Status::ShortLog { taken, had } => as_line(short_text(taken, had).as_str()),
@@ -189,6 +194,7 @@ pub fn status_of(outcome: Result<(), Halt>) -> Status
         Err(Halt::ReadFault) => Status::ReadFault,
         Err(Halt::WriteFault) => Status::WriteFault,
         Err(Halt::StoreFault) => Status::StoreFault,
+        Err(Halt::BadRow(place)) => Status::BadRow(place),
         Err(Halt::Full(full)) => Status::Full(full),
         Err(Halt::Unwritten(full)) => Status::Full(full),
     }

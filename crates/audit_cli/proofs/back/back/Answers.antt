@@ -94,4 +94,4 @@ returns-clause-whole g c = λ limits bytes small h.
 pub returns-in_err-say-clause-causes : goal.returns-in_err-say-clause-causes
 returns-in_err-say-clause-causes g c =
     let p = err_from_is_err_and c.from_residual-in_err-say.result c.from_residual-in_err-say.ensures.1 in
-    rw (p.1, p.2) (causes_later _ _ _ _ _ _ _ c.in_err-say.field-0.0 (λ none. absurd none) (λ rose. rose) (λ none. none) c.in_err-say.ensures.causes)
+    rw (p.1, p.2) (causes_later _ _ _ _ _ _ _ _ _ c.in_err-say.field-0.0 (λ none. absurd none) (λ rose. rose) (λ none. none) (λ none. none) c.in_err-say.ensures.causes)

@@ -5,11 +5,11 @@ use Rattle.dialogue.specs.declared.halt.StoreHalt.TheVariants as over
 use Rattle.dialogue.proofs.AddLemmas.{adds_none}
 use Rattle.store_runs.proofs.EndLemmas.{not_bad_or_none, not_other, queried_all}
 use Rattle.audit_cli.proofs.ShortLemmas.{short_by, short_none}
-use Rattle.store_runs.proofs.StoreRuns.{not_bad, not_wrong, queried_none, reduced_all, refusal_of, refuses_by, refuses_nothing, unbegun_run, unbegun_watch, watched_all}
+use Rattle.store_runs.proofs.StoreRuns.{not_bad, not_wrong, queried_none, reduced_all, refusal_of, refuses_by, refuses_for, refuses_nothing, unbegun_run, unbegun_watch, watched_all}
 use Rattle.reach_model.specs.declared.modes.Mode.{Mode}
+use Rattle.dialogue.specs.StoreHalts.{no_modes, no_place}
 use Rattle.store_runs.specs.Statuses.{RefusesStore, store_status}
-use Rattle.std.specs.Prelude.{⊤}
-use Rattle.store_runs.specs.Stores.{AreTold, FitsDialogue, FitsWhole, IsBadIn, IsWrongIn, StoodAt}
+use Rattle.store_runs.specs.Stores.{FitsDialogue, FitsWhole, IsBadIn, IsWrongIn, StoodAt}
 use Rattle.dialogue.specs.Runs.{begun_of}
 use Rattle.store_runs.specs.declared.extending.Taking.TheVariants as taking
 use Rattle.outside.proofs.Moments.{no_look}
@@ -107,7 +107,7 @@ returns-in-Ok-Reduce-clause-refused g c = λ kept name store resume row.
     let same : c.in-Ok-Reduce.mode ≡ kept = cc in
     rw c.told_of.ensures.status
     (subst (λ (m : Mode). RefusesStore (store_status c.extend.result.outcome) (IsBadIn c.args.limits.now (g.D.Disk.state c.args.disk)) (IsWrongIn c.args.limits.now (g.D.Disk.state c.args.disk) (Some m))) same
-    (refuses_by _ _ _ _ _ _ c.extend.result.outcome c.extend.ensures.causes))
+    (refuses_by _ _ _ _ _ _ _ c.extend.result.outcome (λ place hidden told. absurd (hidden told)) c.extend.ensures.causes))
 
 pub returns-in-Ok-WatchStore-clause-unwatched : goal.returns-in-Ok-WatchStore-clause-unwatched
 returns-in-Ok-WatchStore-clause-unwatched g c = λ kept name store row.
@@ -116,10 +116,10 @@ returns-in-Ok-WatchStore-clause-unwatched g c = λ kept name store row.
     let same : c.in-Ok-WatchStore.mode ≡ kept = cc in
     rw c.told_of-in-Ok-WatchStore.ensures.status
     (subst (λ (m : Mode). RefusesStore (store_status c.extend-in-Ok-WatchStore.result.outcome) (IsBadIn c.args.limits.now (g.D.Disk.state c.args.disk)) (IsWrongIn c.args.limits.now (g.D.Disk.state c.args.disk) (Some m))) same
-    (refuses_by _ _ _ _ _ _ c.extend-in-Ok-WatchStore.result.outcome c.extend-in-Ok-WatchStore.ensures.causes))
+    (refuses_by _ _ _ _ _ _ _ c.extend-in-Ok-WatchStore.result.outcome (λ place hidden told. absurd (hidden told)) c.extend-in-Ok-WatchStore.ensures.causes))
 
 pub returns-in-Ok-Query-clause-unanswered : goal.returns-in-Ok-Query-clause-unanswered
-returns-in-Ok-Query-clause-unanswered g c = λ store row. rw c.told_of-in-Ok-Query.ensures.status (refuses_by _ _ _ _ _ _ c.query.result.outcome c.query.ensures.causes)
+returns-in-Ok-Query-clause-unanswered g c = λ store row. rw c.told_of-in-Ok-Query.ensures.status (refuses_by _ _ _ _ _ _ _ c.query.result.outcome (λ place hidden told. absurd (hidden told)) c.query.ensures.causes)
 
 pub returns-in-Ok-Reduce-clause-reduces : goal.returns-in-Ok-Reduce-clause-reduces
 returns-in-Ok-Reduce-clause-reduces g c = λ kept name store resume row h before bytes stood told enough none fits.
@@ -129,7 +129,7 @@ returns-in-Ok-Reduce-clause-reduces g c = λ kept name store resume row h before
     let again : c.in-Ok-Reduce.resume ≡ resume = cc in
     let run = c.extend.ensures.reduced resume (ap taking.Whole again) h before bytes (subst (λ (m : Mode). StoodAt g.D.Disk.state c.args.limits.now m c.args.disk h before) (sym same) stood) told in
     let failed = rw c.told_of.ensures.disk at none in
-    rw c.told_of.ensures.status (reduced_all resume c.args.limits.now c.in-Ok-Reduce.mode _ _ _ _ _ c.extend.result.outcome h before bytes _ _ _ _ _ _ run c.extend.ensures.causes enough
+    rw c.told_of.ensures.status (reduced_all resume c.args.limits.now c.in-Ok-Reduce.mode _ _ _ _ _ c.extend.result.outcome h before bytes _ _ _ _ _ _ _ run c.extend.ensures.causes enough
     (λ read. failed (inl read)) (λ write. failed (inr (inl write))) (λ store. failed (inr (inr store)))
     (λ one other wrong. not_wrong g.D.Disk.state c.args.limits.now c.in-Ok-Reduce.mode c.args.disk h before one other c.what_is_found_was_stored.ensures
     (subst (λ (m : Mode). StoodAt g.D.Disk.state c.args.limits.now m c.args.disk h before) (sym same) stood) wrong)
@@ -143,7 +143,7 @@ returns-in-Ok-WatchStore-clause-watches g c = λ kept name store row h before by
     let same : c.in-Ok-WatchStore.mode ≡ kept = cc in
     let run = c.extend-in-Ok-WatchStore.ensures.watched refl h before bytes questions (subst (λ (m : Mode). StoodAt g.D.Disk.state c.args.limits.now m c.args.disk h before) (sym same) stood) told tells in
     let failed = rw c.told_of-in-Ok-WatchStore.ensures.disk at none in
-    rw c.told_of-in-Ok-WatchStore.ensures.status (watched_all c.args.limits.now c.in-Ok-WatchStore.mode _ _ _ _ _ c.extend-in-Ok-WatchStore.result.outcome (begun_of false h before bytes) questions _ _ _ _ _ _ run
+    rw c.told_of-in-Ok-WatchStore.ensures.status (watched_all c.args.limits.now c.in-Ok-WatchStore.mode _ _ _ _ _ c.extend-in-Ok-WatchStore.result.outcome (begun_of false h before bytes) questions _ _ _ _ _ _ _ run
     c.extend-in-Ok-WatchStore.ensures.causes (λ read. failed (inl read)) (λ write. failed (inr (inl write))) (λ store. failed (inr (inr store)))
     (λ one other wrong. not_wrong g.D.Disk.state c.args.limits.now c.in-Ok-WatchStore.mode c.args.disk h before one other c.what_is_found_was_stored.ensures
     (subst (λ (m : Mode). StoodAt g.D.Disk.state c.args.limits.now m c.args.disk h before) (sym same) stood) wrong)
@@ -226,14 +226,14 @@ pub returns-in-Ok-Reduce-clause-short : goal.returns-in-Ok-Reduce-clause-short
 returns-in-Ok-Reduce-clause-short g c =
     let found = c.in-Ok-Reduce.ensures.found in
     let is = c.in-Ok-Reduce.field-0-is in
-    rw c.told_of.ensures.status (short_by _ _ _ _ _ c.in-Ok-Reduce.resume _ c.extend.result.outcome c.extend.ensures.causes (λ resumes. rw (found, is) resumes))
+    rw c.told_of.ensures.status (short_by _ _ _ _ _ _ c.in-Ok-Reduce.resume _ c.extend.result.outcome c.extend.ensures.causes (λ resumes. rw (found, is) resumes))
 
 pub returns-in-Ok-WatchStore-clause-short : goal.returns-in-Ok-WatchStore-clause-short
 returns-in-Ok-WatchStore-clause-short g c =
-    rw c.told_of-in-Ok-WatchStore.ensures.status (short_by _ _ _ _ _ false _ c.extend-in-Ok-WatchStore.result.outcome c.extend-in-Ok-WatchStore.ensures.causes (λ is. absurd (let no = is in cc)))
+    rw c.told_of-in-Ok-WatchStore.ensures.status (short_by _ _ _ _ _ _ false _ c.extend-in-Ok-WatchStore.result.outcome c.extend-in-Ok-WatchStore.ensures.causes (λ is. absurd (let no = is in cc)))
 
 pub returns-in-Ok-Query-clause-short : goal.returns-in-Ok-Query-clause-short
-returns-in-Ok-Query-clause-short g c = rw c.told_of-in-Ok-Query.ensures.status (short_by _ _ _ _ _ false _ c.query.result.outcome c.query.ensures.causes (λ is. absurd (let no = is in cc)))
+returns-in-Ok-Query-clause-short g c = rw c.told_of-in-Ok-Query.ensures.status (short_by _ _ _ _ _ _ false _ c.query.result.outcome c.query.ensures.causes (λ is. absurd (let no = is in cc)))
 
 pub returns-in-Ok-clause-short : goal.returns-in-Ok-clause-short
 returns-in-Ok-clause-short g c = rw c.status_of.ensures (short_none _ c.run.result)
@@ -241,7 +241,7 @@ returns-in-Ok-clause-short g c = rw c.status_of.ensures (short_none _ c.run.resu
 pub returns-in-Ok-Query-clause-answers : goal.returns-in-Ok-Query-clause-answers
 returns-in-Ok-Query-clause-answers g c = λ store row kept h questions stood tells some none keeps.
     let failed = rw c.told_of-in-Ok-Query.ensures.disk at none in
-    rw c.told_of-in-Ok-Query.ensures.status (queried_all c.what_fits_never_stops.ensures c.args.limits.now kept h questions _ _ _ c.query.result.outcome _ _ _ _ _ _ (c.query.ensures.run.queried kept h questions stood tells)
+    rw c.told_of-in-Ok-Query.ensures.status (queried_all c.what_fits_never_stops.ensures c.args.limits.now kept h questions _ _ _ c.query.result.outcome _ _ _ _ _ _ _ (c.query.ensures.run.queried kept h questions stood tells)
     c.query.ensures.causes (λ read. failed (inl read)) (λ write. failed (inr (inl write))) (λ store. failed (inr (inr store)))
     (λ one other wrong. not_other c.args.limits.now (g.D.Disk.state c.args.disk) one other stood.1.told wrong)
     (λ place bad. not_bad_or_none g.D.Disk.state c.args.limits.now kept c.args.disk h stood.0 place c.a_store_of_a_history_is_no_bad_store.ensures c.what_waits_is_sound.ensures.found
@@ -277,3 +277,6 @@ returns-in-Ok-WatchStore-clause-watch_adds g c = λ kept name store asked row te
     let is = c.in-Ok-WatchStore.field-0-is in
     let same : c.in-Ok-WatchStore.mode ≡ kept = cc in
     rw (c.told_of-in-Ok-WatchStore.ensures.disk, ← same) (c.extend-in-Ok-WatchStore.ensures.watch_adds refl asked tells)
+
+pub returns-in-Ok-clause-no_store : goal.returns-in-Ok-clause-no_store
+returns-in-Ok-clause-no_store g c = λ done row memory. rw c.status_of.ensures (refuses_for _ _ _ _ _ no_place no_modes c.run.result (λ place none. none) c.run.ensures.causes)

@@ -7,12 +7,11 @@ use Rattle.audit_cli.proofs.JobLemmas.{causes_too, not_begun, some_same}
 use Rattle.std.proofs.lemmas.Result.{err_from_is_err_and}
 use Rattle.audit_cli.proofs.run.run_with.Goals as goal
 
--- rows in memory never fail and are always observable
 pub invariant_of-session : goal.invariant_of-session
-invariant_of-session g c = record { few = omega arith; room = c.in_ok-piece.ensures; never = λ s. (refl, λ spent. spent); told = λ s. (s.rows, refl) }
+invariant_of-session g c = record { few = omega arith; room = c.in_ok-piece.ensures }
 
 pub invariant_of-session-in-Watch : goal.invariant_of-session-in-Watch
-invariant_of-session-in-Watch g c = record { few = omega arith; room = c.in_ok-piece.ensures; never = λ s. (refl, λ spent. spent); told = λ s. (s.rows, refl) }
+invariant_of-session-in-Watch g c = record { few = omega arith; room = c.in_ok-piece.ensures }
 
 pub returns-in-Back-clause-talked : goal.returns-in-Back-clause-talked
 returns-in-Back-clause-talked g c = λ bytes asked told tells.

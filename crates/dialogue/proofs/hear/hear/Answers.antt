@@ -114,8 +114,8 @@ returns-in_err-count-clause-uses g c = c.saves_lawfully.ensures.uses_both _ _ _ 
 pub returns-in_err-count-clause-causes : goal.returns-in_err-count-clause-causes
 returns-in_err-count-clause-causes g c =
     let p = err_from_is_err_and c.from_residual.result c.from_residual.ensures.1 in
-    rw (p.1, p.2) (causes_later _ _ _ _ _ _ _ c.in_err-count.field-0.0 (rose_too _ _ _ _ c.loop-at.invariant.log.later) (rose_too _ _ _ _ c.loop-at.invariant.out.later)
-    (c.saves_lawfully.ensures.rose_after _ _ _ c.loop-at.invariant.uses) c.in_err-count.ensures.causes)
+    rw (p.1, p.2) (causes_later _ _ _ _ _ _ _ _ _ c.in_err-count.field-0.0 (rose_too _ _ _ _ c.loop-at.invariant.log.later) (rose_too _ _ _ _ c.loop-at.invariant.out.later)
+    (c.saves_lawfully.ensures.rose_after _ _ _ c.loop-at.invariant.uses) (c.reads_lawfully.ensures.before _ _ c.loop-at.invariant.uses) c.in_err-count.ensures.causes)
 
 pub returns-in_err-count-clause-ends : goal.returns-in_err-count-clause-ends
 returns-in_err-count-clause-ends g c = λ start limits m h at holds.

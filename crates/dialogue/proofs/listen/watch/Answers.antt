@@ -204,9 +204,10 @@ returns-in-Silence-clause-ends g c = λ start m q at told.
 pub returns-in_err-count-clause-causes : goal.returns-in_err-count-clause-causes
 returns-in_err-count-clause-causes g c =
     let p = err_from_is_err_and c.from_residual-in_err-count.result c.from_residual-in_err-count.ensures.1 in
-    rw (p.1, p.2) (causes_later _ _ _ _ _ _ _ c.in_err-count.field-0.0
+    rw (p.1, p.2) (causes_later _ _ _ _ _ _ _ _ _ c.in_err-count.field-0.0
     (either_later _ _ _ _ (rose_too _ _ _ _ c.loop-buf.invariant.log_up.later) (rose_too _ _ _ _ c.loop-buf.invariant.questions_up.later))
-    (rose_too _ _ _ _ c.loop-buf.invariant.out_up.later) (c.saves_lawfully.ensures.rose_after _ _ _ c.loop-buf.invariant.uses) c.in_err-count.ensures.causes)
+    (rose_too _ _ _ _ c.loop-buf.invariant.out_up.later) (c.saves_lawfully.ensures.rose_after _ _ _ c.loop-buf.invariant.uses)
+    (c.reads_lawfully.ensures.before _ _ c.loop-buf.invariant.uses) c.in_err-count.ensures.causes)
 
 pub returns-in-Silence-clause-causes : goal.returns-in-Silence-clause-causes
 returns-in-Silence-clause-causes g c =
@@ -214,8 +215,9 @@ returns-in-Silence-clause-causes g c =
     let out = c.in_ok-count.ensures.out.later in
     let log_before = c.loop-buf.invariant.log_up.later in
     let out_before = c.loop-buf.invariant.out_up.later in
-    causes_on _ _ _ _ _ _ _ c.finish.result (λ rose. inl (rose_too _ _ _ _ (omega (arith, log, log_before)) rose)) (rose_too _ _ _ _ (omega (arith, out, out_before)))
-    (c.saves_lawfully.ensures.rose_after _ _ _ (c.saves_lawfully.ensures.uses_both _ _ _ c.loop-buf.invariant.uses c.in_ok-count.ensures.uses)) c.finish.ensures.causes
+    let uses = c.saves_lawfully.ensures.uses_both _ _ _ c.loop-buf.invariant.uses c.in_ok-count.ensures.uses in
+    causes_on _ _ _ _ _ _ _ _ _ c.finish.result (λ rose. inl (rose_too _ _ _ _ (omega (arith, log, log_before)) rose)) (rose_too _ _ _ _ (omega (arith, out, out_before)))
+    (c.saves_lawfully.ensures.rose_after _ _ _ uses) (c.reads_lawfully.ensures.before _ _ uses) c.finish.ensures.causes
 
 pub returns-in_err-buf-clause-lacks : goal.returns-in_err-buf-clause-lacks
 returns-in_err-buf-clause-lacks g c = λ start m q at told was.

@@ -44,7 +44,7 @@ returns-in_err-taken-clause-ends g c = λ takes start limits m at.
     let here = c.loop-count.invariant.at takes start limits m at in
     let p = err_from_is_err_and c.from_residual.result c.from_residual.ensures.1 in
     rw (p.1, p.2) (ends_at g.K.Rows.alike g.K.Saves.can g.K.Saves.holds g.K.Saves.ends g.K.Saves.uses g.K.Saves.rose c.saves_lawfully.ensures start limits g.R.Reducer.mode takes c.loop-count.session.engine _
-    c.take_log.new.engine.joined.keep m c.loop-count.count c.args.most c.in_err-taken.field-0.0 c.loop-count.invariant.within (names_none _ _ _ _ c.in_err-taken.ensures.causes) c.take_log.ensures.alike here)
+    c.take_log.new.engine.joined.keep m c.loop-count.count c.args.most c.in_err-taken.field-0.0 c.loop-count.invariant.within (names_none _ _ _ _ _ c.in_err-taken.ensures.causes) c.take_log.ensures.alike here)
 
 pub returns-in_err-fill-clause-ends : goal.returns-in_err-fill-clause-ends
 returns-in_err-fill-clause-ends g c = λ takes start limits m at.

@@ -10,11 +10,12 @@ use Rattle.dialogue.specs.Settles.{settles_in_one}
 use Rattle.dialogue.specs.Dialogue.{Moment, after, Answers}
 use Rattle.dialogue.specs.Saves.{KeepsPace, lack_of}
 use Rattle.dialogue.specs.Course.{At, IsDue, kind_of}
-use Rattle.dialogue.proofs.MomentLemmas.{settle_said, settles_on, still, take_said, takes_on, engine_reply, memory_due}
+use Rattle.dialogue.proofs.MomentLemmas.{settle_said, settles_on, still, take_said, takes_on, engine_reply}
 use Rattle.dialogue.proofs.HearLemmas.{on_ok}
-use Rattle.dialogue.proofs.SaveLemmas.{causes_on, ends_memory}
+use Rattle.dialogue.proofs.SaveLemmas.{asked_causes, causes_later, causes_on, ends_asked}
 use Rattle.dialogue.proofs.AddLemmas.{pace_free, pace_halted, pace_still}
 use Rattle.dialogue.proofs.LackLemmas.{lacks_still}
+use Rattle.dialogue.proofs.StoreLemmas.{never_due}
 use Rattle.dialogue.proofs.turn.answer.Goals as goal
 
 pub returns-in-None-clause-uses : goal.returns-in-None-clause-uses
@@ -38,8 +39,8 @@ returns-in-Some-clause-can g c = on_ok c.reply_of.result _ (c.saves_lawfully.ens
 pub returns-in-Some-clause-ends : goal.returns-in-Some-clause-ends
 returns-in-Some-clause-ends g c = λ start limits m h.
     let asks : IsQuestion c.in-Some.ask = search rules in
-    rw (c.in-Some.is, still c.in-Some.ask m asks) (ends_memory g.K.Rows.alike g.K.Saves.can g.K.Saves.holds g.K.Saves.ends g.K.Saves.uses g.K.Saves.rose c.saves_lawfully.ensures start limits g.R.Reducer.mode c.args.takes
-    c.args.session.now.engine _ c.reply_of.new.engine.joined.keep m c.reply_of.result c.reply_of.ensures.alike h c.reply_of.ensures.memory)
+    rw (c.in-Some.is, still c.in-Some.ask m asks) (ends_asked g.K.Rows.alike g.K.Saves.can g.K.Saves.holds g.K.Saves.ends g.K.Saves.uses g.K.Saves.rose c.saves_lawfully.ensures start limits g.R.Reducer.mode c.args.takes
+    c.args.session.now.engine _ c.reply_of.new.engine.joined.keep m _ _ _ _ c.reply_of.result c.reply_of.ensures.alike h c.reply_of.ensures.causes)
 
 pub returns-in_ok-count-in-Some-Take-clause-moves : goal.returns-in_ok-count-in-Some-Take-clause-moves
 returns-in_ok-count-in-Some-Take-clause-moves g c = λ start limits m h.
@@ -120,7 +121,7 @@ returns-in-Some-clause-answers g c = λ start limits m h.
     rw c.in-Some.is (engine_reply (kind_of g.R.Reducer.mode c.args.takes (g.K.Saves.holds start limits)) limits c.reply_of.result _ _ m c.in-Some.ask asks c.reply_of.ensures.reply h)
 
 pub returns-in-Some-clause-due : goal.returns-in-Some-clause-due
-returns-in-Some-clause-due g c = λ start limits m h. memory_due c.reply_of.result _ c.reply_of.ensures.memory
+returns-in-Some-clause-due g c = λ start limits m h. never_due c.reply_of.result _ (c.reply_of.ensures.due limits m.history h.stands_at.stands)
 
 pub returns-in_err-count-in-Some-Take-clause-lacks : goal.returns-in_err-count-in-Some-Take-clause-lacks
 returns-in_err-count-in-Some-Take-clause-lacks g c = λ start limits m h was.
@@ -141,10 +142,16 @@ returns-in-Some-clause-lacks g c = λ start limits m h was.
 pub returns-in_err-count-in-Some-Take-clause-causes : goal.returns-in_err-count-in-Some-Take-clause-causes
 returns-in_err-count-in-Some-Take-clause-causes g c =
     let p = err_from_is_err_and c.from_residual.result c.from_residual.ensures.1 in
-    rw (p.1, p.2, c.if-takes.true) c.in_err-count-in-Some-Take.ensures.causes
+    rw (p.1, p.2, c.if-takes.true)
+    (causes_later _ _ _ _ _ _ _ _ _ c.in_err-count-in-Some-Take.field-0.0 (λ read. read) (λ none. none) (λ store. store) (λ none. absurd none) c.in_err-count-in-Some-Take.ensures.causes)
 
 pub returns-in-Some-Settle-clause-causes : goal.returns-in-Some-Settle-clause-causes
-returns-in-Some-Settle-clause-causes g c = rw c.if-takes-2.true (causes_on _ _ _ _ _ _ _ c.settle_all.result (λ none. absurd none) (λ none. none) (λ store. store) c.settle_all.ensures.causes)
+returns-in-Some-Settle-clause-causes g c = rw c.if-takes-2.true (causes_on _ _ _ _ _ _ _ _ _ c.settle_all.result (λ none. absurd none) (λ none. none) (λ store. store) (λ none. absurd none) c.settle_all.ensures.causes)
+
+pub returns-in-Some-clause-causes : goal.returns-in-Some-clause-causes
+returns-in-Some-clause-causes g c =
+    let old = c.args.session.now.engine.joined.keep in
+    asked_causes _ _ _ _ _ _ _ (g.K.Saves.hidden old) _ c.reply_of.result (c.reads_lawfully.ensures.seen old) c.reply_of.ensures.memory (c.reads_lawfully.ensures.failed old c.reply_of.new.engine.joined.keep) c.reply_of.ensures.causes
 
 pub returns-in-None-clause-adds : goal.returns-in-None-clause-adds
 returns-in-None-clause-adds g c = λ start limits m most h pace. pace_free (g.K.Saves.adds start limits) c.args.session.now.batch c.args.session.now.engine.joined.keep c.args.session.now.engine.joined.keep c.args.session.now.unsaved _ most _ (λ n so. so) pace

@@ -52,7 +52,7 @@ returns-in_err-say-clause-ends g c = λ start limits m h.
     let p = err_from_is_err_and c.from_residual-in_err-say.result c.from_residual-in_err-say.ensures.1 in
     let here = c.in_ok-reply.ensures.moves start limits m h in
     rw (p.1, p.2) (cut_short g.K.Rows.alike g.K.Saves.can g.K.Saves.holds g.K.Saves.ends g.K.Saves.uses g.K.Saves.rose c.saves_lawfully.ensures start limits g.R.Reducer.mode c.args.takes c.answer.new.session.engine _
-    c.answer.new.session.engine.joined.keep (after c.args.question.now m) c.in_err-say.field-0.0 (names_none _ _ _ _ c.in_err-say.ensures.causes) (g.met.K.Rows.goes_along.same c.answer.new.session.engine.joined.keep) here)
+    c.answer.new.session.engine.joined.keep (after c.args.question.now m) c.in_err-say.field-0.0 (names_none _ _ _ _ _ c.in_err-say.ensures.causes) (g.met.K.Rows.goes_along.same c.answer.new.session.engine.joined.keep) here)
 
 pub returns-in_err-reply-clause-lacks : goal.returns-in_err-reply-clause-lacks
 returns-in_err-reply-clause-lacks g c = λ start limits m h was.

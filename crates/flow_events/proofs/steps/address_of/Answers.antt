@@ -12,7 +12,7 @@ returns-in-Socket c = λ procs acts acting number.
     let what = c.in-Socket.is in
     let is = c.in-Set.is ∙ (λ i. Set (of i) c.in-Set.fd (what i) c.in-Set.cloexec) in
     subst (λ act. IfOk c.socket_address.result (λ new. (s : ℕ) → address_of (act ∷ acts) s ≡ readdressed new (address_of acts) s)) (sym is)
-    (c.socket_address.ensures procs acts c.in-Set.fd c.in-Set.cloexec acting number)
+    (c.socket_address.ensures procs acts acting number c.in-Set.fd c.in-Set.cloexec)
 
 pub returns-in-Address : goal.returns-in-Address
 returns-in-Address c = λ procs acts acting number.

@@ -10,7 +10,7 @@ returns-in-Copy c = λ before now born acting number.
 pub returns-in-Address : goal.returns-in-Address
 returns-in-Address c = λ before now born acting number.
     let of : c.in-Address.pid ≡ c.args.acting.now.pid = subst (λ act. IsOf c.args.acting.now.pid act) c.in-Address.is c.requires.of in
-    rw (c.in-Address.is, of) (c.address_change.ensures c.args.procs.now (now ++ before) c.in-Address.bytes acting number)
+    rw (c.in-Address.is, of) (c.address_change.ensures c.args.procs.now (now ++ before) acting number c.in-Address.bytes)
 
 pub returns-in-Fork : goal.returns-in-Fork
 returns-in-Fork c = λ before now born acting number.

@@ -1,17 +1,24 @@
-use Rattle.std.proofs.Common.{◌↔◌, ◌⊎◌, List, [], Bool, subst, sym, arith}
-use Rattle.std.specs.List.{Contains}
-use Rattle.std.specs.Option.{IfSome}
-use Rattle.flow_base.specs.declared.types.Flow.{Flow}
+use Rattle.std.proofs.Common.{List, Bool, subst, inl, inr}
 use Rattle.reach_model.specs.Rows.{lasts}
-use Rattle.query_walk.specs.Arrivals.{AreAtBelow, Arrival, LeadsOn}
+use Rattle.query_walk.specs.Arrivals.{AddsAllLed, AddsOver, IsDue}
+use Rattle.query_walk.proofs.Told.{told, if_told}
 use Rattle.query_walk.proofs.way_fore.begin_fore.Goals as goal
 
 pub returns-clause-below : goal.returns-clause-below
-returns-clause-below g c =
-    let none : AreAtBelow (g.W.Rows.known c.args.rows.now) c.new-waiting.result = subst (λ (old : List Arrival). AreAtBelow (g.W.Rows.known c.args.rows.now) old) (sym c.new-waiting.ensures) (λ a m. absurd (omega (arith, m.1))) in
-    c.in_ok-leave.ensures.below none
+returns-clause-below g c = c.in_ok-leave.ensures.below (λ a m. absurd (c.in_ok-waiting.ensures a m))
 
 pub returns-clause-waits : goal.returns-clause-waits
 returns-clause-waits g c =
-    subst (λ (marks : List Bool). IfSome (g.W.Rows.rows c.args.rows.now) (λ R. (a : Arrival) → Contains c.leave.new.waiting a ↔ (Contains [] a ⊎ ((f : Flow) × Contains (lasts R) f × LeadsOn marks c.args.of.0 0 c.args.since f a)))) c.deref.ensures.value
-    (subst (λ (old : List Arrival). IfSome (g.W.Rows.rows c.args.rows.now) (λ R. (a : Arrival) → Contains c.leave.new.waiting a ↔ (Contains old a ⊎ ((f : Flow) × Contains (lasts R) f × LeadsOn c.deref.result.now c.args.of.0 0 c.args.since f a)))) c.new-waiting.ensures c.in_ok-leave.ensures.exact)
+    let rows = g.W.Rows.rows c.args.rows.now in
+    let marks = c.in_ok-marks.marks.items in
+    let x = c.args.of.0 in
+    let s = c.args.since in
+    let none = c.in_ok-waiting.ensures in
+    let old = IsDue c.in_ok-waiting.waiting in
+    let new = IsDue c.leave.new.waiting in
+    let exact : AddsOver rows marks old x 0 s new = subst (λ (m : List Bool). AddsOver rows m old x 0 s new) c.deref.ensures.value c.in_ok-leave.ensures.exact in
+    if_told (λ R. AddsAllLed marks (λ _. ⊥) x 0 s (lasts R) new) rows (λ R e a.
+    let led = told (λ R. AddsAllLed marks old x 0 s (lasts R) new) rows exact R e a in (
+      λ m. elim (led.0 m) [ inl was ↦ absurd (none a was) | inr f ↦ inr f ],
+      λ m. elim m [ inl never ↦ absurd never | inr f ↦ led.1 (inr f) ],
+    ))

@@ -4,7 +4,7 @@ use Rattle.reach_model.specs.Marks.{IsMarked}
 use Rattle.reach_model.specs.Rows.{Row, firsts, lasts}
 use Rattle.query_walk.specs.Links.{leaves_marked}
 use Rattle.query_walk.specs.Walks.{SameRows}
-use Rattle.query_walk.specs.Arrivals.{AreAtBelow, place_after}
+use Rattle.query_walk.specs.Arrivals.{AreAtBelow, IsDue, place_after}
 use Rattle.query_walk.specs.WayFore.{IsForeAt}
 use Rattle.query_walk.proofs.Observed.{AreObserved}
 use Rattle.query_walk.proofs.way_fore.walk_fore.Given as goal
@@ -15,8 +15,8 @@ invariant-loop-next g l = record {
   len : length l.fore.marks.items ≡ g.W.Rows.known l.fn.rows;
   itself : IsMarked l.fore.marks.items l.fn.of.0;
   observed : (R : List Row) → g.W.Rows.rows l.fn.rows ≡ Some R → AreObserved R (length (firsts R)) (g.W.Rows.known l.fn.rows);
-  below : AreAtBelow (g.W.Rows.known l.fn.rows) l.fore.waiting;
-  exact : (R : List Row) → g.W.Rows.rows l.fn.rows ≡ Some R → IsForeAt (lasts R) (g.W.Rows.known l.fn.rows) (place_after l.after) l.fn.of.0 l.since l.fore.marks.items l.fore.waiting;
+  below : AreAtBelow (g.W.Rows.known l.fn.rows) (IsDue l.fore.waiting);
+  exact : (R : List Row) → g.W.Rows.rows l.fn.rows ≡ Some R → IsForeAt (lasts R) (g.W.Rows.known l.fn.rows) (place_after l.after) l.fn.of.0 l.since l.fore.marks.items (IsDue l.fore.waiting);
   steps : (R : List Row) → g.W.Rows.rows l.fn.rows ≡ Some R → l.steps ≡ l.fn.steps + count_by (leaves_marked l.fore.marks.items) (firsts R);
   same : SameRows g.W.Rows.rows g.W.Rows.count g.W.Rows.known l.fn.rows l.rows;
   later : g.W.Rows.faults l.fn.rows ≤ g.W.Rows.faults l.rows;

@@ -22,7 +22,7 @@ returns-in-Err-clause-watched g c = λ is.
 
 pub returns-in-Err-clause-causes : goal.returns-in-Err-clause-causes
 returns-in-Err-clause-causes g c =
-    rw c.halt_of_open.ensures (open_causes _ _ _ (IsBadIn c.args.limits.now (g.D.Disk.state c.args.disk)) (IsWrongIn c.args.limits.now (g.D.Disk.state c.args.disk) (Some c.args.mode)) (shorter_in (is_resumed c.args.taking)) c.in-Err.back.fault
+    rw c.halt_of_open.ensures (open_causes _ _ _ _ (IsBadIn c.args.limits.now (g.D.Disk.state c.args.disk)) (IsWrongIn c.args.limits.now (g.D.Disk.state c.args.disk) (Some c.args.mode)) (shorter_in (is_resumed c.args.taking)) c.in-Err.back.fault
     (λ is. c.in-Err.ensures.uses.rose is) (λ place is told. inl (c.in-Err.ensures.bad told place is)) (λ kept want is told. c.in-Err.ensures.wrong told kept want is))
 
 pub returns-in-Ok-clause-reduced : goal.returns-in-Ok-clause-reduced
@@ -41,9 +41,10 @@ returns-in-Ok-clause-watched g c = λ is.
 
 pub returns-in-Ok-clause-causes : goal.returns-in-Ok-clause-causes
 returns-in-Ok-clause-causes g c =
-    causes_by _ _ _ _ _ (WaitsUnsoundly c.args.limits.now c.in-Ok.opened) (IsBadIn c.args.limits.now (g.D.Disk.state c.args.disk)) no_modes (IsWrongIn c.args.limits.now (g.D.Disk.state c.args.disk) (Some c.args.mode)) (shorter_in (is_resumed c.args.taking)) (shorter_in (is_resumed c.args.taking))
+    causes_by _ _ _ _ _ _ _ (WaitsUnsoundly c.args.limits.now c.in-Ok.opened) (IsBadIn c.args.limits.now (g.D.Disk.state c.args.disk)) no_modes (IsWrongIn c.args.limits.now (g.D.Disk.state c.args.disk) (Some c.args.mode)) (shorter_in (is_resumed c.args.taking)) (shorter_in (is_resumed c.args.taking))
     c.extend_opened.result.outcome (λ read. read)
     (looked_rose g.D.Disk.state g.D.Disk.faults g.D.Disk.spent c.args.disk c.in-Ok.opened.store.disk c.extend_opened.result.disk _ c.in-Ok.ensures.uses)
+    (λ hidden told. hidden (c.in-Ok.ensures.uses.still_told told))
     (λ place bad told. inr (bad_opened c.args.limits.now c.in-Ok.opened _ place (c.in-Ok.ensures.store told) (c.in-Ok.ensures.last told) bad)) (λ kept want none. absurd none) (λ taken had shorter. shorter) c.extend_opened.ensures.causes
 
 pub returns-in-Err-clause-lacks : goal.returns-in-Err-clause-lacks

@@ -12,9 +12,8 @@ use Rattle.dialogue.proofs.AddLemmas.{adds_as, adds_none, unsaved_none}
 use Rattle.dialogue.proofs.LackLemmas.{image_of, lacks_images}
 use Rattle.store_runs.proofs.extending.extend_engine.Goals as goal
 
--- rows of a store never fail and are always observable
 pub invariant_of-session : goal.invariant_of-session
-invariant_of-session g c = record { few = omega (arith, c.args.limits.now.batch_some); room = c.in-Ok.ensures; never = λ s. (refl, λ spent. spent); told = λ s. (s.rows.rows, refl) }
+invariant_of-session g c = record { few = omega (arith, c.args.limits.now.batch_some); room = c.in-Ok.ensures }
 
 pub returns-in-Err-clause-reduced : goal.returns-in-Err-clause-reduced
 returns-in-Err-clause-reduced g c = λ resume is.
@@ -43,12 +42,12 @@ returns-clause-watched g c = λ is h before bytes questions x told tells.
 pub returns-clause-causes : goal.returns-clause-causes
 returns-clause-causes g c =
     let last : c.into_disk-2.result ≡ c.take_in-outcome.new.session.engine.joined.keep.disk = c.into_disk-2.ensures ∙ ap (λ (k : OnDisk g.row.D.Denot). k.disk) c.into_keep-2.ensures in
-    causes_renamed g.D.Disk.faults g.D.Disk.spent c.args.engine.joined.keep.disk c.take_in-outcome.new.session.engine.joined.keep.disk c.into_disk-2.result _ _ _ _ _ c.take_in-outcome.result last c.take_in-outcome.ensures.causes
+    causes_renamed g.D.Disk.faults g.D.Disk.spent c.args.engine.joined.keep.disk c.take_in-outcome.new.session.engine.joined.keep.disk c.into_disk-2.result _ _ _ _ _ _ c.take_in-outcome.result last c.take_in-outcome.ensures.causes
 
 pub returns-clause-uses : goal.returns-clause-uses
 returns-clause-uses g c =
     let last : c.into_disk-2.result ≡ c.take_in-outcome.new.session.engine.joined.keep.disk = c.into_disk-2.ensures ∙ ap (λ (k : OnDisk g.row.D.Denot). k.disk) c.into_keep-2.ensures in
-    uses_renamed g.D.Disk.state g.D.Disk.faults g.D.Disk.spent c.args.engine.joined.keep.disk c.take_in-outcome.new.session.engine.joined.keep.disk c.into_disk-2.result _ _ _ _ _ c.take_in-outcome.result last
+    uses_renamed g.D.Disk.state g.D.Disk.faults g.D.Disk.spent c.args.engine.joined.keep.disk c.take_in-outcome.new.session.engine.joined.keep.disk c.into_disk-2.result _ _ _ _ _ _ c.take_in-outcome.result last
     c.take_in-outcome.ensures.uses c.take_in-outcome.ensures.causes
 
 pub returns-in-Err-clause-lacks : goal.returns-in-Err-clause-lacks

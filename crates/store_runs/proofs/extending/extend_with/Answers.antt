@@ -34,8 +34,9 @@ returns-in-Ok-clause-watched g c = λ is.
 
 pub returns-in-Ok-clause-causes : goal.returns-in-Ok-clause-causes
 returns-in-Ok-clause-causes g c =
-    causes_by _ _ _ _ _ _ _ _ _ _ _ c.extend_engine.result.outcome (λ read. read)
+    causes_by _ _ _ _ _ _ _ _ _ _ _ _ _ c.extend_engine.result.outcome (λ read. read)
     (λ rose. subst (λ (d : g.row.D.Denot). Rose (g.D.Disk.faults d) (g.D.Disk.faults c.extend_engine.result.disk) (g.D.Disk.spent c.extend_engine.result.disk)) c.in-Ok.ensures.alike.disk rose)
+    (λ hidden. subst (λ (d : g.row.D.Denot). (g.D.Disk.state d).told → ⊥) c.in-Ok.ensures.alike.disk hidden)
     (λ place none. absurd none) (λ kept want none. absurd none) (λ taken had shorter. shorter) c.extend_engine.ensures.causes
 
 pub returns-in-Err-clause-lacks : goal.returns-in-Err-clause-lacks
@@ -55,7 +56,7 @@ pub returns-in-Err-clause-refused : goal.returns-in-Err-clause-refused
 returns-in-Err-clause-refused g c = λ is. (refl, refl, refl, c.into_disk.ensures ∙ c.in-Err.ensures.alike.disk)
 
 pub returns-in-Ok-clause-refused : goal.returns-in-Ok-clause-refused
-returns-in-Ok-clause-refused g c = λ is. absurd (never_refused _ _ _ _ c.extend_engine.result.outcome c.extend_engine.ensures.causes is)
+returns-in-Ok-clause-refused g c = λ is. absurd (never_refused _ _ _ _ _ c.extend_engine.result.outcome c.extend_engine.ensures.causes is)
 
 pub returns-in-Err-clause-unsound : goal.returns-in-Err-clause-unsound
 returns-in-Err-clause-unsound g c = rw c.halt_of_restore.ensures (unrestored_refuses c.args.limits.now c.args.opened c.in-Err.back c.in-Err.back.why refl c.in-Err.ensures.bad c.in-Err.ensures.full)

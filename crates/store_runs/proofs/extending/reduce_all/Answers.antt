@@ -11,9 +11,10 @@ use Rattle.dialogue.specs.Runs.{settled_all}
 use Rattle.dialogue.proofs.AddLemmas.{adds_lawfully, pace_at, pace_on}
 use Rattle.dialogue.proofs.HearLemmas.{on_ok}
 use Rattle.dialogue.proofs.MomentLemmas.{due_weaker}
-use Rattle.dialogue.proofs.SaveLemmas.{all_alike, all_of, away_leaves, cut_leaves, cut_passes, cut_within, log_fits, never_named, taken_whole}
+use Rattle.dialogue.proofs.SaveLemmas.{all_alike, all_of, away_leaves, cut_leaves, cut_passes, cut_within, log_fits, causes_on, never_named, taken_whole}
 use Rattle.dialogue.proofs.StoreLemmas.{front_none, never_due, stops_whole}
 use Rattle.dialogue.proofs.LackLemmas.{lacks_if}
+use Rattle.store_runs.proofs.EndLemmas.{any_limit}
 use Rattle.store_runs.proofs.extending.reduce_all.Goals as goal
 
 pub returns-in_err-_taken-clause-leaves : goal.returns-in_err-_taken-clause-leaves
@@ -82,7 +83,16 @@ returns-clause-leaves g c = λ start limits m at.
     away_leaves g.D.Disk.state start limits g.R.Reducer.mode c.settle_all.new.session.engine c.write_stat.new.engine.joined.keep (settled_all m) at.in_mode c.write_stat.ensures.alike away
 
 pub returns-clause-passes : goal.returns-clause-passes
-returns-clause-passes g c = λ start limits m at full is. absurd (never_named c.write_stat.result _ _ _ full c.write_stat.ensures.causes is)
+returns-clause-passes g c = λ start limits m at full is. absurd (never_named c.write_stat.result _ _ _ _ full c.write_stat.ensures.causes is)
+
+pub returns-clause-causes : goal.returns-clause-causes
+returns-clause-causes g c =
+    let laws = c.saves_lawfully.ensures in
+    let old = c.args.session.now.engine.joined.keep in
+    let settled = c.settle_all.new.session.engine.joined.keep in
+    let uses = laws.uses_both old c.take.new.session.engine.joined.keep settled c.take.ensures.uses c.settle_all.ensures.uses in
+    any_limit _ _ _ _ c.write_stat.result (causes_on _ _ _ _ _ _ _ _ _ c.write_stat.result (λ none. absurd none) (λ write. write)
+    (laws.rose_after old settled c.write_stat.new.engine.joined.keep uses) (c.reads_lawfully.ensures.before old settled uses) c.write_stat.ensures.causes)
 
 pub returns-clause-whole : goal.returns-clause-whole
 returns-clause-whole g c = λ start limits m at.
@@ -107,7 +117,13 @@ returns-clause-front g c = λ start limits m at.
     c.write_stat.ensures.front limits (settled_all m).history (subst (λ (h : History). StandsFor limits c.settle_all.new.session.engine h) history settled.stands_at.stands)
 
 pub returns-clause-due : goal.returns-clause-due
-returns-clause-due g c = λ start limits m at. never_due c.write_stat.result (Stops limits (settled_all m).history) c.write_stat.ensures.due
+returns-clause-due g c = λ start limits m at.
+    let taken = c.in_ok-_taken.ensures.took _ start limits m at in
+    let whole = taken_whole m (log_fits limits c.take.new.session.engine m taken.stands_at.stands) in
+    let settled = c.in_ok-_settled.ensures.settled _ start limits _ (taken_on all_of m) taken in
+    let history : (settled_on (taken_on all_of m)).history ≡ (settled_all m).history = ap (λ (x : Moment). (settled_on x).history) whole in
+    never_due c.write_stat.result (Stops limits (settled_all m).history)
+    (c.write_stat.ensures.due limits (settled_all m).history (subst (λ (h : History). StandsFor limits c.settle_all.new.session.engine h) history settled.stands_at.stands))
 
 pub returns-in_err-_taken-clause-lacks : goal.returns-in_err-_taken-clause-lacks
 returns-in_err-_taken-clause-lacks g c = λ start limits m at was.

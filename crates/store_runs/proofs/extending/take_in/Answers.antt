@@ -15,10 +15,10 @@ returns-in-Asked-clause-lacks g c = rw (c.in-Asked.is, c.halted.ensures) c.watch
 
 pub returns-in-Whole-clause-causes : goal.returns-in-Whole-clause-causes
 returns-in-Whole-clause-causes g c =
-    rw c.in-Whole.is (causes_by _ _ _ _ _ _ _ _ _ _ _ c.reduce.result inl (λ store. store) (λ place none. none) (λ kept want none. none) (λ taken had shorter. shorter) c.reduce.ensures.causes)
+    rw c.in-Whole.is (causes_by _ _ _ _ _ _ _ _ _ _ _ _ _ c.reduce.result inl (λ store. store) (λ hidden. hidden) (λ place none. none) (λ kept want none. none) (λ taken had shorter. shorter) c.reduce.ensures.causes)
 
 pub returns-in-Asked-clause-causes : goal.returns-in-Asked-clause-causes
-returns-in-Asked-clause-causes g c = rw (c.in-Asked.is, c.halted.ensures) (over_causes _ _ _ _ _ _ c.watch_on.result c.watch_on.ensures.causes)
+returns-in-Asked-clause-causes g c = rw (c.in-Asked.is, c.halted.ensures) (over_causes _ _ _ _ _ _ _ c.watch_on.result c.watch_on.ensures.causes)
 
 pub returns-in-Asked-clause-heard : goal.returns-in-Asked-clause-heard
 returns-in-Asked-clause-heard g c = λ is. rw c.halted.ensures c.watch_on.ensures.heard

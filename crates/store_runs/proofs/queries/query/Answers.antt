@@ -12,7 +12,7 @@ returns-in-Err-clause-run g c = record { queried = λ kept h asked stood told. r
 
 pub returns-in-Err-clause-causes : goal.returns-in-Err-clause-causes
 returns-in-Err-clause-causes g c =
-    rw c.halt_of_open.ensures (open_causes _ _ _ (IsBadOrNone c.args.limits.now (g.D.Disk.state c.args.disk)) (IsWrongIn c.args.limits.now (g.D.Disk.state c.args.disk) None) no_lengths c.in-Err.back.fault
+    rw c.halt_of_open.ensures (open_causes _ _ _ _ (IsBadOrNone c.args.limits.now (g.D.Disk.state c.args.disk)) (IsWrongIn c.args.limits.now (g.D.Disk.state c.args.disk) None) no_lengths c.in-Err.back.fault
     (λ is. c.in-Err.ensures.uses.rose is) (λ place is told. inl (inl (c.in-Err.ensures.bad told place is))) (λ kept want is told. c.in-Err.ensures.wrong told kept want is))
 
 pub returns-in-Ok-clause-run : goal.returns-in-Ok-clause-run
@@ -27,9 +27,10 @@ returns-in-Ok-clause-run g c = record {
 
 pub returns-in-Ok-clause-causes : goal.returns-in-Ok-clause-causes
 returns-in-Ok-clause-causes g c =
-    causes_by _ _ _ _ _ (λ place. WaitsUnsoundly c.args.limits.now c.in-Ok.opened place ⊎ HasNoBatch c.in-Ok.opened place) (IsBadOrNone c.args.limits.now (g.D.Disk.state c.args.disk)) no_modes
+    causes_by _ _ _ _ _ _ _ (λ place. WaitsUnsoundly c.args.limits.now c.in-Ok.opened place ⊎ HasNoBatch c.in-Ok.opened place) (IsBadOrNone c.args.limits.now (g.D.Disk.state c.args.disk)) no_modes
     (IsWrongIn c.args.limits.now (g.D.Disk.state c.args.disk) None) no_lengths no_lengths c.query_opened.result.outcome (λ read. read)
     (rose_spent (g.D.Disk.faults c.args.disk) (g.D.Disk.faults c.query_opened.result.disk) (g.D.Disk.spent c.query_opened.result.disk))
+    (λ hidden told. hidden (c.in-Ok.ensures.uses.still_told told))
     (λ place bad told. bad_or_none c.args.limits.now c.in-Ok.opened _ place (c.in-Ok.ensures.store told) (c.in-Ok.ensures.last told) bad) (λ kept want none. absurd none) (λ taken had none. absurd none) c.query_opened.ensures.causes
 
 pub returns-in-Err-clause-always : goal.returns-in-Err-clause-always

@@ -10,9 +10,8 @@ use Rattle.store_runs.proofs.queries.query_engine.Goals as goal
 pub returns-in-Err-clause-queried : goal.returns-in-Err-clause-queried
 returns-in-Err-clause-queried g c = λ h before asked stands told. queried_none c.args.limits.now g.R.Reducer.mode h asked (g.Q.Source.left c.args.questions.now) (g.O.Sink.written c.args.out.now)
 
--- rows of a store never fail and are always observable
 pub invariant_of-session : goal.invariant_of-session
-invariant_of-session g c = record { few = omega (arith, c.args.limits.now.batch_some); room = c.in-Ok.ensures; never = λ s. (refl, λ spent. spent); told = λ s. (s.rows.rows, refl) }
+invariant_of-session g c = record { few = omega (arith, c.args.limits.now.batch_some); room = c.in-Ok.ensures }
 
 pub returns-clause-queried : goal.returns-clause-queried
 returns-clause-queried g c = λ h before asked x told.
@@ -24,12 +23,12 @@ returns-clause-queried g c = λ h before asked x told.
     let watch = c.watch-outcome.ensures in
     let talked = watch.talked start from asked at told in
     let heard = heard_out c.stops_stay.ensures c.what_fits_never_stops.ensures _ limits from asked _ _ _ _ _ c.watch-outcome.result talked (watch.within start from asked at told) (watch.left start from asked at told) in
-    rw c.halted.ensures (queried_of _ limits g.R.Reducer.mode h asked _ _ _ _ _ c.watch-outcome.result (run_names _ _ _ c.watch-outcome.result watch.causes) heard talked)
+    rw c.halted.ensures (queried_of _ limits g.R.Reducer.mode h asked _ _ _ _ _ c.watch-outcome.result (run_names _ _ _ _ c.watch-outcome.result watch.causes) heard talked)
 
 pub returns-clause-causes : goal.returns-clause-causes
 returns-clause-causes g c =
     let now = c.watch-outcome.new.session.engine.joined.keep.disk in
     let last : c.into_disk-2.result ≡ now = c.into_disk-2.ensures ∙ ap (λ (k : OnDisk g.row.D.Denot). k.disk) c.into_keep-2.ensures in
     let same = (c.watch-outcome.ensures.alike refl).disk in
-    rw c.halted.ensures (over_causes _ _ _ _ _ _ c.watch-outcome.result (causes_on _ _ _ _ _ _ _ c.watch-outcome.result (no_log _) (λ write. write)
-    (rose_unchanged g.D.Disk.faults g.D.Disk.spent c.args.engine.joined.keep.disk now c.into_disk-2.result same last) (any_limit _ _ _ c.watch-outcome.result c.watch-outcome.ensures.causes)))
+    rw c.halted.ensures (over_causes _ _ _ _ _ _ _ c.watch-outcome.result (causes_on _ _ _ _ _ _ _ _ _ c.watch-outcome.result (no_log _) (λ write. write)
+    (rose_unchanged g.D.Disk.faults g.D.Disk.spent c.args.engine.joined.keep.disk now c.into_disk-2.result same last) (λ hidden. hidden) (any_limit _ _ _ _ c.watch-outcome.result c.watch-outcome.ensures.causes)))

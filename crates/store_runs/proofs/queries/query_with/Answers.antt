@@ -23,7 +23,7 @@ returns-in-Ok-clause-run g c = record {
 }
 
 pub returns-in-Ok-clause-refused : goal.returns-in-Ok-clause-refused
-returns-in-Ok-clause-refused g c = λ is. absurd (never_refused _ _ _ _ c.query_engine.result.outcome c.query_engine.ensures.causes is)
+returns-in-Ok-clause-refused g c = λ is. absurd (never_refused _ _ _ _ _ c.query_engine.result.outcome c.query_engine.ensures.causes is)
 
 pub returns-in-Err-clause-unsound : goal.returns-in-Err-clause-unsound
 returns-in-Err-clause-unsound g c = rw c.halt_of_restore.ensures (unrestored_refuses c.args.limits.now c.args.opened c.in-Err.back c.in-Err.back.why refl c.in-Err.ensures.bad c.in-Err.ensures.full)

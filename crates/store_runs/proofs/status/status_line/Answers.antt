@@ -7,6 +7,13 @@ returns-in-BadStore c =
     let bad = c.bad_text.ensures.text in
     rw c.in-BadStore.is cc
 
+pub returns-in-BadRow : goal.returns-in-BadRow
+returns-in-BadRow c =
+    let line = c.as_line-in-BadRow.ensures in
+    let text = c.as_str-in-BadRow.ensures.value in
+    let bad = c.bad_text-in-BadRow.ensures.text in
+    rw c.in-BadRow.is cc
+
 pub returns-in-WrongMode : goal.returns-in-WrongMode
 returns-in-WrongMode c =
     let line = c.as_line-in-WrongMode.ensures in

@@ -7,9 +7,9 @@ use Rattle.reach_rows.proofs.vec_rows.VecRowsRows.row.Goals as goal
 
 pub returns-clause-ends : goal.returns-clause-ends
 returns-clause-ends g c =
-    let rows = c.self.inside.rows.items in
-    let objects = c.self.inside.objects.items in
+    let rows = c.self.inside.rows.rows in
+    let objects = c.self.inside.objects.objects in
     let all : length rows ≡ length c.args.self.now.rows = sym (all_rows rows objects c.self.invariant) ∙ ap (λ (m : InMemory). length m.rows) c.self.view_is in
     let h : c.args.index < length rows = omega (arith, c.requires, all) in
-    subst (λ (m : InMemory). (c.index.result.now.from.0 < known (firsts m.rows)) × (c.index.result.now.to.0 < known (firsts m.rows))) c.self.view_is
-    (kept_ends rows objects c.self.invariant c.args.index c.index.result.now h c.index.ensures)
+    subst (λ (m : InMemory). (c.row.result.from.0 < known (firsts m.rows)) × (c.row.result.to.0 < known (firsts m.rows))) c.self.view_is
+    (kept_ends rows objects c.self.invariant c.args.index c.row.result h c.row.ensures)
