@@ -4,7 +4,7 @@
     companion/tests/run.py [--program WORDS] [--kills N] [NAME..]
 
 WORDS is the program (what ./audit_cli at the top has built, which is run first for it). Checks that need graphviz, tmux, auditctl, unshare,
-scdoc, zsh or systemd-analyze are skipped on a machine without them, and say so; so are those of --order if audit_order isn't built.
+scdoc, zsh or systemd-analyze are skipped on a machine without them, and say so; so are those of the order of effects if audit_order isn't built.
 """
 from __future__ import annotations
 
@@ -61,13 +61,23 @@ def environment(**more: str) -> dict[str, str]:
     return {**os.environ, 'AUDIT_CLI': PROGRAM, 'AUDIT_ORDER': shlex.quote(str(ORDER)), 'TZ': 'UTC', 'LC_ALL': 'C.UTF-8', 'PYTHONDONTWRITEBYTECODE': '1', **more}
 
 
-def run(*words: str | bytes | Path, stdin: str | bytes = '', **more: str) -> subprocess.CompletedProcess[bytes]:
+def by_default(*words: str | bytes | Path, stdin: str | bytes = '', **more: str) -> subprocess.CompletedProcess[bytes]:
+    """autrail with these words, in the order of effects if they say no other."""
     text = stdin.encode() if isinstance(stdin, str) else stdin
     return subprocess.run([AUTRAIL, *words], input=text, capture_output=True, env=environment(**more), cwd=TOP, check=False)
 
 
+def run(*words: str | bytes | Path, stdin: str | bytes = '', **more: str) -> subprocess.CompletedProcess[bytes]:
+    """autrail in the order of the log: most tests are about a log or a store as it is."""
+    return by_default('--no-order', *words, stdin=stdin, **more)
+
+
+# What is said of that order before each answer over a log.
+OF_THE_LOG = 'autrail: in the order of the log\n'
+
+
 def asked(log: Path | str, questions: str) -> str:
-    """The answers to lines of the prompt, over a log that is read once."""
+    """The answers to lines of the prompt, over a log that is read once, in its own order."""
     done = run('-q', '-if', str(log), 'ask', stdin=questions)
     assert done.returncode == 0, done.stderr.decode()
     return done.stdout.decode()
@@ -178,7 +188,7 @@ class Answers(unittest.TestCase):
             text = run('-q', '-m', mode, '-if', EXAMPLE, 'show', '/tmp/x.sh').stdout.decode()
             self.assertEqual((text.count(f'  first and last not kept in mode {mode}\n'), text.count('first taken in')), (want, 1 - want))
         done = run('-q', '-m', 'source', '-if', EXAMPLE, 'fore', '/tmp/x.sh')
-        self.assertEqual((done.returncode, done.stderr), (2, b"autrail: mode source doesn't answer this; ask in the mode plain or continuous\n"))
+        self.assertEqual((done.returncode, done.stderr.decode()), (2, OF_THE_LOG + "autrail: mode source doesn't answer this; ask in the mode plain or continuous\n"))
 
     def test_a_time_cuts_the_answer(self) -> None:
         done = run('-q', '-if', EXAMPLE, 'back', '/tmp/x.sh', '--json', '--at', '2026-06-09T08:01:55.440')
@@ -186,7 +196,7 @@ class Answers(unittest.TestCase):
         self.assertIn(26, early)
         self.assertNotIn(36, early)
         # No progress either, since this isn't a terminal.
-        self.assertEqual(done.stderr, b'autrail: flows up to 2026-06-09 08:01:55.440 UTC+0000\n')
+        self.assertEqual(done.stderr.decode(), OF_THE_LOG + 'autrail: flows up to 2026-06-09 08:01:55.440 UTC+0000\n')
 
     def test_late_events_of_the_samples_are_those_that_the_readme_tells(self) -> None:
         text = ' '.join((TOP / 'README.md').read_text().split())
@@ -197,6 +207,7 @@ class Answers(unittest.TestCase):
             self.assertEqual(counts['late'] == 0, 'none' in told)
 
     def test_sessions_of_the_documents_are_as_printed(self) -> None:
+        order_must_be_built(self)
         folder = tempfile.mkdtemp(prefix='autrail-')
         self.addCleanup(shutil.rmtree, folder)
         text = (TOP / 'docs' / 'INVESTIGATING.md').read_text().replace('/tmp/web1.store', folder + '/web1.store')
@@ -261,7 +272,7 @@ class Names(Scratch):
         log = self.log(''.join(opened_and(1, '"/tmp/x"', 7, 10 * it, 'CREATE', pid=100 + it) for it in range(1, 11)), 'ten.log')
         done = run('-q', '-if', log, 'back', '/tmp/x')
         first = ', '.join(f'#{2 * it - 1} /tmp/x (file 08:01 7 {it})' for it in range(1, 8))
-        self.assertEqual(done.stderr.decode(), f'autrail: /tmp/x is the name of 10 objects: {first}, .., #19 /tmp/x (file 08:01 7 10); the last is taken, --each takes all\n')
+        self.assertEqual(done.stderr.decode(), f'{OF_THE_LOG}autrail: /tmp/x is the name of 10 objects: {first}, .., #19 /tmp/x (file 08:01 7 10); the last is taken, --each takes all\n')
         self.assertTrue(done.stdout.startswith(b'/tmp/x  #19  can have come from:'))
 
     def test_why_says_which_of_several_objects_it_takes(self) -> None:
@@ -274,7 +285,7 @@ class Names(Scratch):
                                       (400, 4, '#4 /tmp/x (file 08:01 7 2) and #5 p[400] (process 400 0) is taken, the last ones')):
             done = run('-q', '-if', log, 'why', '/tmp/x', f'pid:{reader}', '--json')
             self.assertEqual((done.returncode, [json.loads(it)['from'] for it in done.stdout.splitlines()]), (0, [number]))
-            self.assertEqual(done.stderr.decode(), f'{objects}autrail: of 2 pairs of objects that of {taken}\n')
+            self.assertEqual(done.stderr.decode(), f'{OF_THE_LOG}{objects}autrail: of 2 pairs of objects that of {taken}\n')
         done = run('-q', '-if', log, 'why', '/tmp/x', 'pid:200')
         self.assertEqual((done.returncode, done.stdout), (1, b''))
         self.assertIn(objects + 'autrail: no path in this log from each of #1 /tmp/x (file 08:01 7 1), #4 /tmp/x (file 08:01 7 2) to #3 p[200] (process 200 0)\n', done.stderr.decode())
@@ -454,7 +465,8 @@ class Fitness(Scratch):
             text = ''.join(ended(it, 1780992000 + it) for it in range(1, 101 - late)) + ''.join(ended(200 + it, 1780992000) for it in range(late))
             lines_of_stat = run('-if', self.log(text), 'stat').stdout.decode().splitlines()
             self.assertIn(f'           {late}  of them late', lines_of_stat)
-            self.assertEqual(f'warning: {late} of 100 events came late, so a path over them may be missing or have a later time' in lines_of_stat, late == 3)
+            self.assertEqual(f'warning: {late} of 100 events came late, so in the order of the log a path over them may be missing or have a later time' in lines_of_stat,
+                             late == 3)
 
     def test_a_few_malformed_lines_are_no_warning(self) -> None:
         good = opened_and(0, '"/a"', 7, 1) + opened_and(1, '"/b"', 8, 3, 'CREATE') + call(5, 57, exit=101) + call(6, 59, exit=0)
@@ -563,7 +575,8 @@ class Stores(Scratch):
         for words in ('back 127.0.0.1:4445 --tree', 'fore customers.csv', 'why customers.csv 127.0.0.1:4445 --lines', 'find *received*', 'show pid:435',
                       'back x.sh --at 2026-06-09T08:01:55.440 --json', 'back x.sh --dot'):
             with self.subTest(words):
-                want = asked(EXAMPLE, words)
+                # The caption of a graph says the order of a log, and a store has that in which its logs were taken.
+                want = asked(EXAMPLE, words).replace('in the order of the log; ', '')
                 self.assertEqual(over_store(self.store, '-q', '-if', EXAMPLE, *words.split())[:2], (0, want))
                 self.assertEqual(run('-q', '--store', self.store, '-if', EXAMPLE, 'ask', stdin=words).stdout.decode(), want)
 
@@ -1194,8 +1207,18 @@ class Keeps(Scratch):
 
 def ordered(log: Path | str, *words: str, **more: str) -> tuple[int, str]:
     """The status and the answer over a log in the order of effects, without warnings."""
-    done = run('-q', '--order', '-if', str(log), *words, **more)
+    done = by_default('-q', '--order', '-if', str(log), *words, **more)
     return done.returncode, done.stdout.decode()
+
+
+def order_must_be_built(test: unittest.TestCase) -> None:
+    if not os.access(ORDER, os.X_OK):
+        test.skipTest('audit_order is not built (./audit_order </dev/null builds it)')
+
+
+# What is said of that order before each answer.
+OF_EFFECTS = 'autrail: in the order of effects\n'
+PLAN_TO_COPY = ('why', '/home/alice/plan.txt', '/tmp/copy.txt', '--json')
 
 
 class Ordered(Scratch):
@@ -1203,8 +1226,7 @@ class Ordered(Scratch):
 
     def setUp(self) -> None:
         super().setUp()
-        if not os.access(ORDER, os.X_OK):
-            self.skipTest('audit_order is not built (./audit_order </dev/null builds it)')
+        order_must_be_built(self)
 
     def program(self, text: str) -> str:
         """A program in place of audit_order."""
@@ -1214,7 +1236,7 @@ class Ordered(Scratch):
 
     def test_the_answers_are_those_of_the_two_programs(self) -> None:
         sorted_log = self.log(subprocess.run([ORDER], input=EXAMPLE.read_bytes(), stdout=subprocess.PIPE, check=True).stdout, 'ordered.log')
-        for words in ('back 127.0.0.1:4445 --json', 'fore /customers.csv --tree', 'back /srv/evil/received.tar -a', 'find *'):
+        for words in ('back 127.0.0.1:4445 --json', 'fore /home/alice/secret/customers.csv --tree', 'back /srv/evil/received.tar -a', 'find *'):
             with self.subTest(words):
                 self.assertEqual(ordered(EXAMPLE, *words.split()), (0, asked(sorted_log, words)))
         counts = json.loads(ordered(EXAMPLE, 'stat', '--json')[1])
@@ -1224,16 +1246,41 @@ class Ordered(Scratch):
 
     def test_a_read_that_waited_is_fed_by_the_write(self) -> None:
         """The write, serial 109, is at .308. The read was entered at .044, and its event is whole before that of the write."""
-        question = ('why', '/home/alice/plan.txt', '/tmp/copy.txt', '--json')
-        for words in ((), ('--no-order',), ('--order', '--no-order')):
-            done = run('-q', *words, '-if', WAITED, *question)
+        for words in (('--no-order',), ('--order', '--no-order')):
+            done = by_default('-q', *words, '-if', WAITED, *PLAN_TO_COPY)
             self.assertEqual((done.returncode, done.stdout), (1, b''))
-            self.assertNotIn(b'order of effects', done.stderr)
-        status, answer = ordered(WAITED, *question)
-        self.assertEqual(status, 0)
-        self.assertEqual([(it['serial'], it['how'], it['at'], it.get('recorded_at')) for it in map(json.loads, answer.splitlines())],
-                         [(108, 'read', '1780992001.304', None), (109, 'write', '1780992001.308', None), (110, 'read', '1780992001.308', '1780992001.044'),
-                          (112, 'write', '1780992001.316', None)])
+            self.assertTrue(done.stderr.decode().startswith(OF_THE_LOG + 'autrail: no path in this log '), done.stderr)
+        for words in ((), ('--order',), ('--no-order', '--order')):
+            done = by_default('-q', *words, '-if', WAITED, *PLAN_TO_COPY)
+            self.assertEqual((done.returncode, done.stderr.decode()), (0, OF_EFFECTS))
+            self.assertEqual([(it['serial'], it['how'], it['at'], it.get('recorded_at')) for it in map(json.loads, done.stdout.splitlines())],
+                             [(108, 'read', '1780992001.304', None), (109, 'write', '1780992001.308', None), (110, 'read', '1780992001.308', '1780992001.044'),
+                              (112, 'write', '1780992001.316', None)])
+
+    def test_all_commands_but_stat_are_in_the_order_of_effects_by_default(self) -> None:
+        """In that order alone plan.txt has reached copy.txt."""
+        for words in ('fore /home/alice/plan.txt --json', 'back /tmp/copy.txt', 'back /tmp/copy.txt --tree', 'show /tmp/copy.txt', 'find *copy*'):
+            done = by_default('-q', '-if', WAITED, *words.split())
+            self.assertEqual((done.returncode, done.stdout.decode(), done.stderr.decode()), (*ordered(WAITED, *words.split()), OF_EFFECTS), words)
+            asked_of_both = by_default('-q', '-if', WAITED, 'ask', stdin=words)
+            self.assertEqual((asked_of_both.stdout, asked_of_both.stderr.decode()), (done.stdout, OF_EFFECTS), words)
+        labels = lambda *words: {json.loads(it)['label'] for it in by_default('-q', *words, '-if', WAITED, 'fore', 'plan.txt', '--json').stdout.splitlines()}
+        self.assertEqual(labels() - labels('--no-order'), {'relay[501]', '/tmp/copy.txt'})
+
+    def test_stat_is_about_the_log_as_it_is(self) -> None:
+        """22 of 524 events of the example are late, and none when it is ordered."""
+        for words, order, late, said in (((), 'log', 22, ''), (('--no-order',), 'log', 22, ''), (('--order',), 'effects', 0, OF_EFFECTS)):
+            told = by_default('-q', *words, '-if', EXAMPLE, 'stat', '--json')
+            counts = json.loads(told.stdout)
+            self.assertEqual((counts['late'], counts['order'], told.stderr.decode()), (late, order, said))
+            warned = [it for it in counts['warnings'] if 'came late' in it]
+            self.assertEqual(warned, ['22 of 524 events came late, so in the order of the log a path over them may be missing or have a later time'] * (late > 0))
+            first = by_default('-q', *words, '-if', EXAMPLE, 'stat').stdout.decode().splitlines()[0]
+            self.assertTrue(first.endswith(' UTC+0000, in the order of ' + ('effects' if late == 0 else 'the log')), first)
+        # At the prompt it counts the log in the order of the other answers.
+        at_the_prompt = by_default('-q', '-if', EXAMPLE, 'ask', stdin='stat --json\nstat\n').stdout.decode().splitlines()
+        self.assertEqual((json.loads(at_the_prompt[0])['order'], json.loads(at_the_prompt[0])['late']), ('effects', 0))
+        self.assertTrue(at_the_prompt[1].endswith(', in the order of effects'))
 
     def test_a_write_that_was_recorded_after_the_read_feeds_it(self) -> None:
         """As the write of serial 1148 in the example: it was entered before the read (at .000 of second 13), and returned after it."""
@@ -1256,20 +1303,35 @@ class Ordered(Scratch):
 
     def test_a_log_that_was_ordered_before_says_when_it_was_recorded(self) -> None:
         sorted_log = self.log(subprocess.run([ORDER], input=WAITED.read_bytes(), stdout=subprocess.PIPE, check=True).stdout, 'ordered.log')
-        for more in ((), ('--order',)):
-            text = run('-q', *more, '-if', sorted_log, 'why', '/home/alice/plan.txt', '/tmp/copy.txt', '--lines').stdout.decode()
+        for more in (('--no-order',), ()):
+            text = by_default('-q', *more, '-if', sorted_log, 'why', '/home/alice/plan.txt', '/tmp/copy.txt', '--lines').stdout.decode()
             self.assertEqual(text.count('(recorded as 2026-06-09 08:00:01.044)'), 1)
             self.assertEqual(text.count('audit(1780992001.308:110)'), 2)
             self.assertNotIn('WAS=', text)
 
     def test_the_order_is_told_before_an_answer(self) -> None:
-        done = run('--order', '-if', WAITED, 'find', 'plan.txt')
-        self.assertRegex(done.stderr.decode(), r"(?m)^autrail: warning: in the order of effects a read of a file that its process didn't open itself may count too late")
-        self.assertTrue(done.stderr.endswith(b'autrail: in the order of effects\n'))
-        self.assertEqual(run('-q', '--order', '-if', WAITED, 'find', 'plan.txt').stderr, b'autrail: in the order of effects\n')
-        self.assertIn('label="autrail back /tmp/copy.txt: in the order of effects; one path', ordered(WAITED, 'back', '/tmp/copy.txt', '--dot')[1])
-        done = run('-q', '--order', '-if', WAITED, 'ask', stdin='why plan.txt copy.txt\nback x --order\nback x --no-order\n')
+        late = self.log(call(9, 0) + 'type=EOE msg=audit(1780992009.000:9): \n' + opened_and(0, '"/a"', 7, 1))
+        for words, told in (((), OF_EFFECTS), (('--order',), OF_EFFECTS), (('--no-order',), OF_THE_LOG)):
+            self.assertEqual(by_default('-q', *words, '-if', WAITED, 'find', 'plan.txt').stderr.decode(), told)
+            # It stands after the warnings, of which this log has some.
+            said = by_default(*words, '-if', late, 'find', '*').stderr.decode()
+            self.assertTrue(said.startswith('autrail: warning: ') and said.endswith('\n' + told), said)
+            dot = by_default('-q', *words, '-if', WAITED, 'back', '/tmp/copy.txt', '--dot').stdout.decode()
+            self.assertIn('label="autrail back /tmp/copy.txt: ' + told.removeprefix('autrail: ').rstrip() + '; one path', dot)
+        done = by_default('-q', '-if', WAITED, 'ask', stdin='why plan.txt copy.txt\nback x --order\nback x --no-order\n')
         self.assertEqual((done.returncode, done.stdout.count(b'recorded as'), done.stderr.count(b'stand before ask')), (0, 1, 2))
+
+    def test_a_read_that_must_have_waited_is_told_unless_it_can(self) -> None:
+        """The read was entered a second before the write, and its record arrived after it. What kind of file it is, the open's PATH record says by the mode."""
+        for mode, told in (('', True), ('mode=010600', False), ('mode=020620', False)):
+            opened = [call(serial, 257, pid, exit=4) + path(serial, '"/f"', 9).replace('mode=0100644', mode) for serial, pid in ((4, 100), (5, 300))]
+            moved = [call(serial, number, pid, at=1780992000 + at, a0='4') + f'type=EOE msg=audit({1780992000 + at}.000:{serial}): \n'
+                     for serial, number, pid, at in ((21, 1, 100, 13), (22, 0, 300, 12))]
+            log = self.log(opened_and(0, '"/in"', 7, 1, pid=100) + ''.join(opened + moved))
+            done = by_default('-q', '-if', log, 'why', '/in', 'pid:300', '--json')
+            self.assertEqual((done.returncode, [json.loads(it)['serial'] for it in done.stdout.splitlines()]), (0, [2, 21, 22]), mode)
+            note = 'autrail: serial 22 reads /f and was entered before serial 21, which feeds it: no read of a regular file waits so, '
+            self.assertEqual(note in done.stderr.decode(), told, done.stderr)
 
     def test_a_time_far_ahead_is_told(self) -> None:
         """Reads after two events with it count at the end of the log, with what their process does then. After one event alone they don't."""
@@ -1277,7 +1339,7 @@ class Ordered(Scratch):
         later = opened_and(0, '"/a"', 7, 2) + opened_and(1, '"/b"', 8, 4, 'CREATE')
         for log, steps in [(false[0] + later, [('1780992003.000', None), ('1780992005.000', None)]),
                            (false[0] + false[1] + later, [('33000000000.000', '1780992003.000'), ('33000000000.000', '1780992005.000')])]:
-            done = run('--order', '-if', self.log(log), 'why', '/a', '/b', '--json')
+            done = by_default('-if', self.log(log), 'why', '/a', '/b', '--json')
             self.assertRegex(done.stderr, rb'warning: the log goes back in time, from 3015-.*: if the first is a wrong time, later reads may count at the end of ')
             self.assertEqual([(it['at'], it.get('recorded_at')) for it in map(json.loads, done.stdout.splitlines())], steps)
 
@@ -1305,11 +1367,18 @@ class Ordered(Scratch):
         for log, text, status, want in cases:
             for words in (('stat', '--json'), ('why', '/customers.csv', '/tmp/.loot.tar')):
                 with self.subTest(text):
-                    done = run('-q', '--order', '-if', log, *words, AUDIT_ORDER=self.program(text))
+                    done = by_default('-q', *('--order',) * (words[0] == 'stat'), '-if', log, *words, AUDIT_ORDER=self.program(text))
                     self.assertEqual((done.returncode, done.stdout), (status, b''), done.stderr)
                     self.assertIn(want, done.stderr.decode())
-                    self.assertIn('nothing is answered', done.stderr.decode())
+                    self.assertIn('so nothing is answered; --no-order asks in the order of the log\n', done.stderr.decode())
         self.assertIn('audit_order says: no room', run('--order', '-if', EXAMPLE, 'stat', AUDIT_ORDER=self.program('echo no room >&2; exit 3')).stderr.decode())
+
+    def test_if_it_fails_a_program_that_builds_itself_is_ended(self) -> None:
+        begun = time.monotonic()
+        done = by_default('-q', '-if', EXAMPLE, 'find', '*', AUDIT_CLI="sh -c 'exec sleep 300'", AUDIT_ORDER="sh -c 'exit 126'")
+        self.assertEqual((done.returncode, done.stdout), (126, b''))
+        self.assertIn(b'audit_order ended with status 126 before it had ordered the log', done.stderr)
+        self.assertLess(time.monotonic() - begun, 60)
 
     def test_faults_of_the_log_and_of_the_program_behind_are_their_own(self) -> None:
         (self.folder / 'audit.log.1.gz').write_bytes(gzip.compress(EXAMPLE.read_bytes())[:-20])
@@ -1340,6 +1409,95 @@ class Ordered(Scratch):
                 os.kill(int(pid), 0)
 
 
+def with_address(serial: int, number: int, pid: int, saddr: str, **more: int | str) -> str:
+    """A call with the record of an address."""
+    return call(serial, number, pid, **more) + f'type=SOCKADDR msg=audit({1780992000 + serial}.000:{serial}): saddr={saddr}\n' + f'type=EOE msg=audit({1780992000 + serial}.000:{serial}): \n'
+
+
+def of_family_1(name: str) -> str:
+    """The record of a socket's path, or of a name that audit_order gives a connection."""
+    return ('\1\0' + name).encode().hex().upper()
+
+
+SOCKET, ACCEPT, CONNECT, BIND = 41, 43, 42, 49
+PORT_4445, PORT_9 = '0200115D7F0000010000000000000000', '020000097F0000010000000000000000'
+
+
+class Connections(Scratch):
+    """Names of connections, each an object of its own as audit_order writes them: where it goes to, and the time and the serial number of its connect."""
+
+    def setUp(self) -> None:
+        super().setUp()
+        # Process 100 read /in and sent it over two connections to port 4445, over one to a socket with a path, and over one with an abstract name.
+        self.text = opened_and(0, '"/in"', 7, 1)
+        for serial, place in ((10, '127.0.0.1:4445'), (20, '127.0.0.1:4445'), (30, '/run/x.sock'), (40, '\0there'), (50, '[0000:0000:0000:0000:0000:0000:0000:0001]:80')):
+            self.text += call(serial, SOCKET, exit=5) + with_address(serial + 1, CONNECT, 100, of_family_1(f'{place}#{1780992001 + serial}000:{serial + 1}'), exit=0, a0='5')
+            self.text += call(serial + 2, 1, a0='5')
+        # One to the same port and one to port 9 stay addresses, since another machine answers. The socket's own file was made readable for all.
+        for serial, address in ((60, PORT_4445), (70, PORT_9)):
+            self.text += call(serial, SOCKET, exit=6) + with_address(serial + 1, CONNECT, 100, address, exit=0, a0='6') + call(serial + 2, 1, a0='6')
+        self.text += call(80, 90, exit=0) + path(80, '"/run/x.sock"', 90).replace('0100644', '0140666')
+        self.file = self.log(self.text)
+
+    def found(self, what: str, **more: str) -> list[str]:
+        done = by_default('-q', '-if', self.file, 'find', what, '--json', AUDIT_ORDER='cat', **more)
+        return [json.loads(it)['label'] for it in done.stdout.splitlines()]
+
+    FIRST, SECOND = '127.0.0.1:4445#1780992011000:11', '127.0.0.1:4445#1780992021000:21'
+    PATH, ABSTRACT, SIXTH = 'unix:/run/x.sock#1780992031000:31', 'unix:@there#1780992041000:41', '[0000:0000:0000:0000:0000:0000:0000:0001]:80#1780992051000:51'
+
+    def test_they_are_found_by_what_they_go_to(self) -> None:
+        to_the_port = [self.FIRST, self.SECOND, '127.0.0.1:4445']
+        for what, want in (('127.0.0.1:4445', to_the_port), (':4445', to_the_port), ('127.0.0.1', [*to_the_port, '127.0.0.1:9']), (':9', ['127.0.0.1:9']), ('*:4445', to_the_port),
+                           ('127.*#*', [self.FIRST, self.SECOND]), (self.FIRST, [self.FIRST]), ('unix:' + self.FIRST, [self.FIRST]), ('name:' + self.FIRST, [self.FIRST]),
+                           ('name:127.0.0.1:4445', ['127.0.0.1:4445']), (':11', []), (':80', [self.SIXTH]), ('[::1]:80', [self.SIXTH]), ('::1', [self.SIXTH]),
+                           ('/run/x.sock', [self.PATH, '/run/x.sock']), ('unix:/run/x.sock', [self.PATH]), ('x.sock', [self.PATH, '/run/x.sock']), (self.PATH, [self.PATH]),
+                           ('name:/run/x.sock', ['/run/x.sock']), ('@there', [self.ABSTRACT]), ('unix:@there', [self.ABSTRACT]), (':31', [])):
+            self.assertEqual(self.found(what), want, what)
+        # Nothing of this depends on the order, except that a path alone is that of a file in the order of the log.
+        self.assertEqual([json.loads(it)['label'] for it in run('-q', '-if', self.file, 'find', '127.0.0.1:4445', '--json').stdout.splitlines()], to_the_port)
+
+    def test_several_to_one_place_are_objects_of_one_name(self) -> None:
+        for what in ('127.0.0.1:4445', ':4445'):
+            done = by_default('-q', '-if', self.file, 'back', what, AUDIT_ORDER='cat')
+            self.assertEqual(done.stdout.decode().splitlines()[0], '127.0.0.1:4445  #7  can have come from:')
+            self.assertEqual(done.stderr.decode(), f'{OF_EFFECTS}autrail: {what} is the name of 3 objects: #2 {self.FIRST} (address unix:{self.FIRST}), '
+                             f'#3 {self.SECOND} (address unix:{self.SECOND}), #7 127.0.0.1:4445 (address 127.0.0.1:4445); the last is taken, --each takes all\n')
+            each = by_default('-q', '-if', self.file, 'back', what, '--each', AUDIT_ORDER='cat').stdout.decode()
+            self.assertEqual(re.findall(r'#(\d+)  can have come from', each), ['2', '3', '7'])
+        done = by_default('-q', '-if', self.file, 'back', '127.0.0.1', AUDIT_ORDER='cat')
+        self.assertEqual(done.returncode, 2)
+        self.assertIn(b'127.0.0.1 may mean 4 objects', done.stderr)
+        shown = by_default('-q', '-if', self.file, 'fore', '/in', '--hide', '*:4445', AUDIT_ORDER='cat').stdout.decode()
+        self.assertEqual((shown.count(':4445'), '3 objects hidden by --hide' in shown), (0, True))
+
+    def test_a_path_to_any_of_them_is_shown(self) -> None:
+        """Process 200 accepted the first connection, read from it, and wrote a file."""
+        answered = call(12, SOCKET, 200, exit=4) + with_address(13, ACCEPT, 200, of_family_1(self.FIRST), exit=7, a0='4') + call(14, 0, 200, a0='7')
+        log = self.log(self.text + answered.replace(':12)', ':92)').replace(':13)', ':93)').replace(':14)', ':94)').replace('178099201', '178099209')
+                       + opened_and(1, '"/out"', 77, 95, 'CREATE', pid=200))
+        done = by_default('-q', '-if', log, 'why', '127.0.0.1:4445', '/out', '--json', AUDIT_ORDER='cat')
+        self.assertEqual((done.returncode, [json.loads(it)['from_label'] for it in done.stdout.splitlines()]), (0, [self.FIRST, 'p[200]']))
+        self.assertIn('of 3 pairs of objects that of #2', done.stderr.decode())
+        done = by_default('-q', '-if', log, 'why', '/in', '/out', '--json', AUDIT_ORDER='cat')
+        self.assertEqual([json.loads(it)['to_label'] for it in done.stdout.splitlines()], ['p[100]', self.FIRST, 'p[200]', '/out'])
+
+    def test_they_are_those_that_audit_order_makes(self) -> None:
+        """Process 200 listens at port 4445, and process 100 calls it twice, and sends a file over each connection. Process 200 writes each into another file."""
+        order_must_be_built(self)
+        text = call(1, SOCKET, 200, exit=4) + with_address(2, BIND, 200, PORT_4445, exit=0, a0='4')
+        for serial, client, served in ((10, '5', '7'), (20, '6', '8')):
+            text += call(serial, SOCKET, exit=int(client)) + with_address(serial + 1, CONNECT, 100, PORT_4445, exit=0, a0=client)
+            text += with_address(serial + 2, ACCEPT, 200, f'0200{40000 + serial:04X}7F0000010000000000000000', exit=int(served), a0='4')
+            text += opened_and(0, f'"/in{serial}"', 70 + serial, serial + 3) + call(serial + 5, 1, a0=client) + call(serial + 6, 0, 200, a0=served)
+            text += call(serial + 7, 257, 200, exit=9) + path(serial + 7, f'"/out{serial}"', 170 + serial, 'CREATE') + call(serial + 8, 1, 200, a0='9')
+        log = self.log(text)
+        self.assertEqual([json.loads(it)['label'] for it in by_default('-q', '-if', log, 'find', ':4445', '--json').stdout.splitlines()], [self.FIRST, self.SECOND])
+        path_of = lambda *words: [json.loads(it)['to_label'] for it in by_default('-q', '-if', log, 'why', *words, '--json').stdout.splitlines()]
+        self.assertEqual(path_of('/in10', '/out10'), ['p[100]', self.FIRST, 'p[200]', '/out10'])
+        self.assertEqual(path_of('/in20', '/out20'), ['p[100]', self.SECOND, 'p[200]', '/out20'])
+
+
 class FindsOrder(Scratch):
     """Where autrail looks for audit_order."""
 
@@ -1355,27 +1513,43 @@ class FindsOrder(Scratch):
             (top / place).chmod(0o755)
         return autrail
 
-    def asked(self, autrail: Path, **more: str) -> subprocess.CompletedProcess[bytes]:
-        return subprocess.run([autrail, '--order', '-if', EXAMPLE, 'stat'], capture_output=True, env=environment(AUDIT_ORDER='', PATH=str(self.folder), **more), check=False)
+    def asked(self, autrail: Path, *words: str) -> subprocess.CompletedProcess[bytes]:
+        words = words or ('--order', '-if', str(EXAMPLE), 'stat')
+        return subprocess.run([autrail, *words], capture_output=True, env=environment(AUDIT_ORDER='', PATH=str(self.folder)), check=False)
 
-    def test_without_it_autrail_says_how_to_build_it(self) -> None:
+    def test_without_it_order_is_refused_and_says_how_to_build_it(self) -> None:
         done = self.asked(self.folder_with())
         self.assertEqual((done.returncode, done.stdout, done.stderr.count(b'\n')), (2, b'', 1))
         self.assertIn(b'"./audit_order </dev/null" builds it', done.stderr)
 
+    def test_without_it_answers_are_in_the_order_of_the_log_and_say_so(self) -> None:
+        autrail = self.folder_with()
+        since = 'autrail: in the order of the log, since audit_order isn\'t there: in Kitrevasu\'s repository "./audit_order </dev/null" builds it and '
+        for words in (('fore', 'plan.txt', '--json'), ('find', 'plan.txt')):
+            done = self.asked(autrail, '-q', '-if', str(WAITED), *words)
+            self.assertEqual((done.returncode, done.stdout, done.stderr.count(b'\n')), (0, run('-q', '-if', WAITED, *words).stdout, 1))
+            self.assertTrue(done.stderr.decode().startswith(since), done.stderr)
+        self.assertEqual(self.asked(autrail, '-q', '-if', str(WAITED), 'stat').stderr, b'')
+        self.assertEqual(self.asked(autrail, '-q', '--no-order', '-if', str(WAITED), 'find', 'plan.txt').stderr.decode(), OF_THE_LOG)
+        self.assertEqual(self.asked(autrail, '-q', '-if', str(WAITED), 'why', 'plan.txt', 'copy.txt').returncode, 1)
+
     def test_it_is_found_beside_autrail_or_above(self) -> None:
         for place in ('bin/audit_order', 'audit_order'):
-            done = self.asked(self.folder_with(place))
-            self.assertEqual((done.returncode, done.stdout), (7, b''))
-            self.assertIn(b'audit_order says: from here', done.stderr)
+            autrail = self.folder_with(place)
+            for words in ((), ('-if', str(EXAMPLE), 'find', '*')):
+                done = self.asked(autrail, *words)
+                self.assertEqual((done.returncode, done.stdout), (7, b''))
+                self.assertIn(b'audit_order says: from here', done.stderr)
+            self.assertEqual(self.asked(autrail, '-if', str(EXAMPLE), 'stat').returncode, 0)
             shutil.rmtree(self.folder)
             self.folder.mkdir()
 
     def test_words_that_are_not_words(self) -> None:
         for words, want in (("'", b'correct AUDIT_ORDER'), ('/no/such', b"doesn't start")):
-            done = run('--order', '-if', EXAMPLE, 'stat', AUDIT_ORDER=words)
-            self.assertEqual((done.returncode, done.stdout), (2, b''))
-            self.assertIn(want, done.stderr)
+            for asked_words in (('--order', '-if', EXAMPLE, 'stat'), ('-if', EXAMPLE, 'find', '*')):
+                done = by_default(*asked_words, AUDIT_ORDER=words)
+                self.assertEqual((done.returncode, done.stdout), (2, b''))
+                self.assertIn(want, done.stderr)
 
 
 ZONES = {
@@ -1486,8 +1660,8 @@ for line in sys.stdin:
 ''', 'older')
         older.chmod(0o755)
         done = run('-q', '-if', self.log(''), 'find', '/a', AUDIT_CLI=shlex.quote(str(older)))
-        self.assertEqual((done.returncode, done.stdout, done.stderr),
-                         (2, b'', b"autrail: this program doesn't answer 'find'; autrail " + basics.VERSION.encode() + b" needs a later one\n"))
+        self.assertEqual((done.returncode, done.stdout, done.stderr.decode()),
+                         (2, b'', f"{OF_THE_LOG}autrail: this program doesn't answer 'find'; autrail {basics.VERSION} needs a later one\n"))
 
     def test_replies_that_are_none_end_in_one_line(self) -> None:
         """Status 1 would say that the log was asked."""
@@ -1496,9 +1670,10 @@ for line in sys.stdin:
             program.chmod(0o755)
             for command, stdin in (('stat', ''), ('ask', 'stat\n')):
                 done = run('-q', '-if', EXAMPLE, command, stdin=stdin, AUDIT_CLI=shlex.quote(str(program)))
-                self.assertEqual((done.returncode, done.stdout, done.stderr.count(b'\n')), (4, b'', 1), done.stderr)
-                self.assertTrue(done.stderr.startswith(b"autrail: autrail can't go on; "), done.stderr)
-                self.assertIn(want.encode(), done.stderr)
+                said = done.stderr.decode().removeprefix(OF_THE_LOG)
+                self.assertEqual((done.returncode, done.stdout, said.count('\n')), (4, b'', 1), said)
+                self.assertTrue(said.startswith("autrail: autrail can't go on; "), said)
+                self.assertIn(want, said)
 
     def test_a_reply_that_is_none_ends_the_prompt(self) -> None:
         counts = {it: 0 for it in ('lines', 'bytes', 'events', 'late', 'excess', 'known')}
@@ -1506,15 +1681,16 @@ for line in sys.stdin:
         program = self.log(f'#!/bin/sh\nfor reply in {" ".join(map(shlex.quote, replies.split()))}; do read -r line; printf "%s\\n" "$reply"; done\n', 'garbage')
         program.chmod(0o755)
         done = run('-q', '-if', EXAMPLE, 'ask', stdin="find /a\nfind /b\n", AUDIT_CLI=shlex.quote(str(program)))
-        self.assertEqual((done.returncode, done.stdout, done.stderr.count(b'\n')), (4, b'', 1), done.stderr)
-        self.assertEqual(run('-q', '-if', EXAMPLE, 'ask', stdin="find 'a\nfind /customers.csv\n").stderr, b'autrail: No closing quotation\n')
+        self.assertEqual((done.returncode, done.stdout, done.stderr.count(b'\n')), (4, b'', 2), done.stderr)
+        done = run('-q', '-if', EXAMPLE, 'ask', stdin="find 'a\nfind /customers.csv\n")
+        self.assertEqual(done.stderr.decode(), OF_THE_LOG + 'autrail: No closing quotation\n')
 
     def test_lines_in_words(self) -> None:
         ausearch = self.log("#!/bin/sh\nsed 's/^/in words: /; 1i----'\n", 'ausearch')
         ausearch.chmod(0o755)
         there = f'{self.folder}:{os.environ["PATH"]}'
         done = run('-q', '-if', EXAMPLE, 'why', '/customers.csv', '/tmp/.loot.tar', '-i', PATH=there)
-        self.assertEqual((done.returncode, done.stderr), (0, b''))
+        self.assertEqual((done.returncode, done.stderr.decode()), (0, OF_THE_LOG))
         self.assertEqual(done.stdout.count(b'      in words: type=SYSCALL'), 2)
         self.assertNotIn(b'----', done.stdout)
         if not shutil.which('ausearch', path=ADMIN_FOLDERS):
@@ -1538,10 +1714,10 @@ for line in sys.stdin:
         with open('/dev/full', 'wb') as full:
             done = subprocess.run([AUTRAIL, '-q', '-if', EXAMPLE, 'stat'], stdout=full, stderr=subprocess.PIPE, env=environment(), check=False)
         self.assertEqual((done.returncode, done.stderr.count(b'\n')), (5, 1))
-        words = ' '.join(shlex.quote(str(it)) for it in (AUTRAIL, '-q', '-if', EXAMPLE, 'back', '/tmp/x.sh', '-a'))
+        words = ' '.join(shlex.quote(str(it)) for it in (AUTRAIL, '-q', '--no-order', '-if', EXAMPLE, 'back', '/tmp/x.sh', '-a'))
         done = subprocess.run(['bash', '-c', f'{words} | true; echo ${{PIPESTATUS[0]}}'], capture_output=True, env=environment(), check=False)
         self.assertIn(done.stdout, (b'141\n', b'0\n'))
-        self.assertEqual(done.stderr, b'')
+        self.assertEqual(done.stderr.decode(), OF_THE_LOG)
 
     def test_an_interrupt_ends_the_program_too(self) -> None:
         fifo = self.folder / 'pid'
@@ -1584,6 +1760,11 @@ class Pictures(Scratch):
             self.assertGreater(min(struct.unpack('>II', png.read_bytes()[16:24])), 100)
             self.assertIsNone(RAW.search(svg.read_bytes()))
 
+    def test_a_long_branch_goes_from_top_to_bottom(self) -> None:
+        for processes, direction in ((7, 'LR'), (8, 'TB')):
+            log = self.log(''.join(call(it, 57, pid=1000 + it, exit=1001 + it) for it in range(1, processes)))
+            self.assertIn(f'  rankdir={direction}; ', asked(log, f'back pid:{1000 + processes} --dot'))
+
     def test_without_graphviz_it_says_what_to_install(self) -> None:
         for name, file in {'python3': sys.executable, 'sh': shutil.which('sh'), 'bash': shutil.which('bash')}.items():
             if file:
@@ -1611,7 +1792,7 @@ class Terminal(Scratch):
     def start(self, *words: str | Path, **more: str) -> None:
         """Starts autrail at the terminal. Its status is shown when it ends."""
         variables = {'AUDIT_CLI': PROGRAM, 'TZ': 'UTC', 'LC_ALL': 'C.UTF-8', 'PYTHONDONTWRITEBYTECODE': '1', **more}
-        line = ' '.join(shlex.quote(str(it)) for it in ('env', *(f'{key}={value}' for key, value in variables.items()), AUTRAIL, *words))
+        line = ' '.join(shlex.quote(str(it)) for it in ('env', *(f'{key}={value}' for key, value in variables.items()), AUTRAIL, '--no-order', *words))
         subprocess.run([*self.tmux, '-u', 'new-session', '-d', '-x', '110', '-y', '40', f'trap : INT; {line}; echo status $?; sleep 60'], check=True, cwd=TOP)
         self.addCleanup(subprocess.run, [*self.tmux, 'kill-server'], check=False)
 
@@ -1815,6 +1996,19 @@ class Scripts(Scratch):
         self.assertEqual([self.ended(it)[:2] for it in both], [(3, 'audit_cli:\n'), (3, 'audit_order:\n')])
         self.assertIn(self.asked(), [[*one, *other] for one, other in itertools.permutations(
             (['top: all check --jobs N', 'audit_cli: run -- back 0'], ['top: all check --jobs N', 'audit_order: run']))])
+
+    def test_one_call_of_autrail_builds_both(self) -> None:
+        """The command in place of the kit's makes a second program that changes nothing, and one that runs the program of these tests."""
+        (self.folder / 'rt').write_text(RT.replace("echo %s: \"$@\"\\nexit 3\\n' \"$name\"", "exec %s\\n' \"$(eval echo '$RUNS_'$name)\""))
+        autrail = copy_of_autrail(self.top / 'companion')
+        done = subprocess.run([autrail, '-q', '-if', EXAMPLE, 'find', '/customers.csv'], stdin=subprocess.DEVNULL, capture_output=True, check=False, timeout=60, env=environment(
+            AUDIT_CLI='', AUDIT_ORDER='', PATH=f'{self.folder}:{os.environ["PATH"]}', ASKED=str(self.said), RUNS_audit_cli=PROGRAM + ' "$@"', RUNS_audit_order='cat'))
+        self.assertEqual((done.returncode, done.stdout), (0, b'#47     file     /customers.csv   file fe:00 19130 0\n'), done.stderr.decode())
+        self.assertEqual({'audit_cli: run -- back 0', 'audit_order: run'}, set(self.asked()) - {'top: all check --jobs N'})
+        for says in ('the program says: audit_cli: ', 'audit_order says: audit_order: '):
+            self.assertIn(f'autrail: {says}proving and building the program', done.stderr.decode())
+            self.assertRegex(done.stderr.decode(), rf'autrail: {says}a_crate is done after \d+ seconds\n')
+        self.assertTrue(done.stderr.decode().endswith(OF_EFFECTS))
 
     def test_what_is_not_proved_is_not_built(self) -> None:
         for name in ('audit_cli', 'audit_order'):

@@ -3,8 +3,8 @@
 autrail starts the program audit_cli over the logs or over a store, hands it question lines, and puts its replies into names,
 times and pictures. Which objects are in an answer, and which path is shown, is the program's answer alone. What autrail reads
 from the log's lines by itself (arguments, users, sessions, terminals, and what to mistrust) is marked as read from the log.
-With --order the logs go through the program audit_order first, and the answer is about the order that it writes. `keep` hands
-what is new of a log to the program, which takes it into a store.
+If the program audit_order is there, the logs go through it first, and the answer is about the order that it writes; --no-order leaves
+that out, and `stat` is about the log as it is. `keep` hands what is new of a log to the program, which takes it into a store.
 
 The modules, lowest first; none imports one that stands below it here:
 

@@ -6,7 +6,7 @@ import json
 
 from .basics import ANSWER, many, shown
 from .session import Session
-from .trust import span, store_span, warnings_of
+from .trust import order_of, span, store_span, warnings_of
 
 FAULTS = ('', 'too long', 'header', 'a field is missing', 'number', 'text')
 COUNTED = (('lines', 'lines'), ('used', 'used'), ('other', 'of other types'), ('blank', 'blank'), ('malformed', 'malformed'), ('events', 'events'),
@@ -18,14 +18,16 @@ COUNTED = (('lines', 'lines'), ('used', 'used'), ('other', 'of other types'), ('
 def stat(session: Session, options: argparse.Namespace) -> int:
     counts, found = {**session.counts, 'torn': torn(session)}, warnings_of(session)
     if options.json:
-        of_the_session = {'order': 'effects'} if session.ordered else {} if session.store is None else {'store': session.store, 'mode': session.mode}
+        of_the_session = ({'store': session.store, 'mode': session.mode} if session.store is not None
+                          else {'order': 'effects' if session.ordered else 'log'})
         print(json.dumps({**counts, **of_the_session, 'warnings': found, 'least': session.reading.least, 'greatest': session.reading.greatest,
                           'files': [it.path for it in session.program.logs.files]}))
         return ANSWER
     if session.store is not None:
         print(f'{shown(session.store)}: {store_span(session)}')
     if session.has_lines:
-        print(f'{many(len(session.program.logs.files), "file")}, {span(session)}')
+        order = order_of(session)
+        print(f'{many(len(session.program.logs.files), "file")}, {span(session)}{", " if order else ""}{order}')
     for key, text in COUNTED:
         if key != 'torn' or counts['torn']:
             print(f'{counts[key]:>12,}  {text.format(mode=session.mode)}')

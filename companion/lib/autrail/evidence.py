@@ -14,9 +14,13 @@ from .basics import many, say
 from .lines import HEADER, MARK
 from .logs import pieces
 from .session import Session
-from .things import Step
+from .things import Step, Thing
 
 ADMIN_PATH = os.environ.get('PATH', os.defpath) + ':/usr/sbin:/sbin'
+# The part of a file's mode that says what kind of file it is, and that of a regular file.
+KIND_OF_FILE, REGULAR = 0o170000, 0o100000
+# Where a serial number stands in a line.
+SERIAL = re.compile(rb'\.\d{3}:(\d{1,10})\):')
 
 
 @dataclass
@@ -34,6 +38,9 @@ def evidence(session: Session, path: Sequence[Step]) -> dict[Step, Evidence]:
     found: dict[int, dict[int, list[bytes]]] = {it.serial: defaultdict(list) for it in path}
     for file in session.program.logs.files:
         for piece in pieces(file):
+            # Most pieces of a long log have none of these events, and need not be taken apart.
+            if found.keys().isdisjoint(map(int, SERIAL.findall(piece))):
+                continue
             for line in piece.split(b'\n'):
                 match = HEADER.match(line)
                 if match and int(match[3]) in found:
@@ -55,6 +62,16 @@ def evidence_of(session: Session, step: Step, found: dict[int, list[bytes]]) -> 
     # A log that was ordered before keeps the time in a mark of the line.
     recorded = min((time_of(mark) for mark in map(MARK.search, lines) if mark), default=at if session.ordered else step.order)
     return Evidence([it.split(b'\x1d')[0] for it in lines], recorded if recorded != step.order else None)
+
+
+def may_be_regular(session: Session, thing: Thing) -> bool:
+    """Whether the object may be a regular file. Of a FIFO, a terminal and the like the lines of the log say what it is."""
+    if thing.kind not in ('file', 'path', 'lost'):
+        return False
+    inode = re.fullmatch(r'file (\w+:\w+) (\d+) \d+', thing.key)
+    mode = inode and re.compile(rf' inode={inode[2]} dev={inode[1]} mode=0?([0-7]{{1,7}}) '.encode())
+    kinds = {int(it, 8) & KIND_OF_FILE for file in session.program.logs.files for piece in pieces(file) for it in mode.findall(piece)} if mode else set()
+    return REGULAR in kinds or not kinds
 
 
 def time_of(match: re.Match[bytes]) -> int:

@@ -20,7 +20,7 @@ class Hidden:
     @classmethod
     def of(cls, session: Session, things: Iterable[Thing], options: argparse.Namespace) -> Hidden:
         # The labels of a large answer take a while to make, and nothing else here asks for them.
-        named = {it for it in things if any(matches(name, options.hide) for name in (it.label, *it.names))} if options.hide else set()
+        named = {it for it in things if any(matches(name, options.hide) for name in (it.label, *it.known_as))} if options.hide else set()
         common = {it for it in things if it not in named and not options.all and session.is_common(it)}
         return cls(frozenset(it.number for it in common), frozenset(it.number for it in named))
 

@@ -36,8 +36,8 @@ CALLER = re.compile(
 ARGUMENTS = re.compile(rb'(?:node=\S+ )?type=EXECVE msg=audit\((\d+\.\d{3}:\d+)\): ([^\x1d]*)')
 ARGUMENT = re.compile(rb'(?:^|\s)a(\d{1,6})(?:\[\d+\])?=("[^"]*"|[0-9A-Fa-f]+)')
 HEADER = re.compile(rb'(?:node=\S+ )?type=\S+ msg=audit\((\d{1,15})\.(\d{3}):(\d{1,10})\):')
-# The mark by which audit_order keeps the time that a line had.
-MARK = re.compile(rb'\x1dWAS=\{ audit\((\d{1,15})\.(\d{3}):\d{1,10}\) \}$')
+# The mark by which audit_order keeps the time that a line had, and a part that was rewritten.
+MARK = re.compile(rb'\x1dWAS=\{ audit\((\d{1,15})\.(\d{3}):\d{1,10}\)(?: \d{1,10} [^\x1d]*)? \}$')
 
 
 class Caller(NamedTuple):

@@ -9,7 +9,7 @@ from .json_lines import as_json
 from .naming import matching, resolve
 from .processes import reading_of
 from .session import Session
-from .things import Thing
+from .things import Thing, as_shown
 from .times import LAST_SECOND, clock, spelled
 
 
@@ -27,7 +27,7 @@ def show(session: Session, options: argparse.Namespace) -> int:
             continue
         print(f'{thing.label}  #{thing.number}  {shown(thing.key)}')
         for name in thing.names:
-            print(f'  name           {shown(name)}')
+            print(f'  name           {shown(as_shown(name))}')
         for key, at in times.items():
             print(f'  {key:14} {clock(at) if at else f"never in this {session.holder}"}')
         if not times:

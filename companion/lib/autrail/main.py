@@ -11,12 +11,13 @@ from .basics import INTERRUPTED, READ_FAULT, Refused, WRITE_FAULT, bad_words, sa
 from .commands import answered
 from .keep import keep
 from .options import options_of
+from .programs import GET_ORDER
 from .prompt import ask
 from .rules import rules
 from .session import Session
 from .stores import NO_LINES
 from .times import moment, spelled
-from .trust import IN_ORDER, warnings_of
+from .trust import order_of, warnings_of
 
 
 def run(words: Sequence[str]) -> int:
@@ -36,9 +37,14 @@ def run(words: Sequence[str]) -> int:
                 say(f'warning: {text}')
             if not session.has_lines and options.command != 'find':
                 say(f'without arguments and users: {NO_LINES}')
-        if session.ordered:
-            say(IN_ORDER)
+        say_the_order(session, options)
         return ask(session) if options.command == 'ask' else answered(session, options)
+
+
+def say_the_order(session: Session, options: argparse.Namespace) -> None:
+    """Says in which order the answer is meant. Unless --order is given `stat` is about the log as it is, and says so itself."""
+    if session.ordered or session.store is None and options.command != 'stat':
+        say(order_of(session) + (f', since audit_order isn\'t there: {GET_ORDER}' if options.order is None and not session.ordered else ''))
 
 
 def must_go_with_a_store(options: argparse.Namespace) -> None:

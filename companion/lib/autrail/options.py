@@ -25,8 +25,8 @@ def parser() -> argparse.ArgumentParser:
     shared.add_argument('-m', '--mode', choices=MODES, help='what the program keeps of the flows (plain)')
     shared.add_argument('-q', '--quiet', action='store_true', help='no progress and no warnings')
     shared.add_argument('--order', dest='order', action='store_true',
-                        help='put the logs into the order of effects first, by audit_order ($AUDIT_ORDER, else audit_order)')
-    shared.add_argument('--no-order', dest='order', action='store_false', help='take the logs in their own order, as without this option')
+                        help='in the order of effects, which needs audit_order ($AUDIT_ORDER, else audit_order); so too without this option if it is there, except stat')
+    shared.add_argument('--no-order', dest='order', action='store_false', help='in the order of the log')
     shared.add_argument('--program', metavar='WORDS', help='the program ($AUDIT_CLI, else audit_cli)')
     top = Parser(prog='autrail', parents=[shared], allow_abbrev=False,
                  description='Where a file came from and what it reached, asked of audit logs in names.',

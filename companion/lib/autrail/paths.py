@@ -4,7 +4,7 @@ from __future__ import annotations
 import argparse
 
 from .basics import ANSWER, NO_ANSWER, Refused, bad_words, many, say, shown
-from .evidence import evidence, in_words
+from .evidence import Evidence, evidence, in_words, may_be_regular
 from .json_lines import step_json
 from .naming import describe, listed, matching, resolve, several_of
 from .processes import tell_processes
@@ -33,6 +33,22 @@ def why(session: Session, options: argparse.Namespace) -> int:
     raise Refused(NO_ANSWER, f'no path in this {session.holder} from {either(sources)} to {either(targets)}\n{blind_spots(session)}')
 
 
+# How much later than its entry audit_order lets a read count that can't wait, in milliseconds.
+TICK = 4
+
+
+def tell_waits(session: Session, path: list[Step], records: dict[Step, Evidence]) -> None:
+    """Says which reads the path takes to have waited that perhaps can't have. audit_order doesn't know each file that is a regular one, of which no read waits."""
+    def entered(step: Step) -> int:
+        recorded = records[step].recorded
+        return step.order if recorded is None else recorded
+
+    for fed, read in zip(path, path[1:]):
+        if read.how == 'read' and entered(read) + TICK < entered(fed) and may_be_regular(session, session.thing(read.source)):
+            say(f'serial {read.serial} reads {session.thing(read.source).label} and was entered before serial {fed.serial}, which feeds it: no read of a regular file waits so, '
+                'and audit_order doesn\'t know each of them, such as one that was open before the log began')
+
+
 def objects_of(session: Session, what: str, each: bool) -> list[Thing]:
     """The objects that a name means, of which a note tells if they are several."""
     match = matching(session, what)
@@ -57,6 +73,8 @@ def show_path(session: Session, options: argparse.Namespace, source: Thing, path
     records = evidence(session, path) if options.lines or session.ordered else {}
     lines = {step: it.lines for step, it in records.items()} if options.lines else {}
     raised = {step: it.recorded for step, it in records.items()}
+    if session.ordered:
+        tell_waits(session, path, records)
     if options.interpret:
         lines = in_words(lines)
     if options.json:

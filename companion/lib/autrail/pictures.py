@@ -11,14 +11,26 @@ from .processes import reading_of
 from .session import Session
 from .things import Step
 from .times import clock
-from .trees import Tree
+from .trees import Node, Tree
 
 SHAPES = {'process': 'box', 'file': 'note', 'path': 'note', 'address': 'hexagon', 'made': 'ellipse', 'lost': 'ellipse'}
+
+
+# A picture goes from left to right if no branch has more steps than this, and else from top to bottom: it would be too wide to be read.
+MOST_ACROSS = 6
 
 
 def quoted(text: str) -> str:
     """The text in graphviz's quotes, within which it also takes `&amp;` and the like for the characters that they name."""
     return '"' + text.replace('\\', '\\\\').replace('"', '\\"').replace('&', '&amp;') + '"'
+
+
+def longest_branch(root: Node) -> int:
+    """How many steps it has."""
+    level, steps = [root], -1
+    while level:
+        level, steps = [child for node in level for child in node.children], steps + 1
+    return steps
 
 
 def day_of_all(steps: Iterable[Step]) -> str:
@@ -35,7 +47,7 @@ def dot_lines(session: Session, tree: Tree, caption: str) -> Iterator[str]:
     if day:
         caption += f'; all on {day}'
     yield 'digraph trail {'
-    yield f'  rankdir=LR; label={quoted(caption)}; fontname="sans"; fontsize=10;'
+    yield f'  rankdir={"LR" if longest_branch(tree.root) <= MOST_ACROSS else "TB"}; label={quoted(caption)}; fontname="sans"; fontsize=10;'
     yield '  node [fontname="sans", fontsize=10]; edge [fontname="sans", fontsize=8];'
     for thing in session.of(sorted({it.number for it in nodes})):
         fill = 'gold' if thing.number == tree.root.number else 'mistyrose' if thing.kind == 'address' else 'white'

@@ -28,10 +28,13 @@ def program_words(option: str | None) -> list[str]:
         'the program audit_cli isn\'t on the PATH; name it by --program or in AUDIT_CLI')
 
 
-def order_words() -> list[str]:
-    return words_given(os.environ.get('AUDIT_ORDER'), 'correct AUDIT_ORDER') or words_found('audit_order') or bad_words(
-        '--order needs the program audit_order, which isn\'t on the PATH; in Kitrevasu\'s repository "./audit_order </dev/null" builds it and '
-        '"make install" installs it; or name it in AUDIT_ORDER')
+GET_ORDER = 'in Kitrevasu\'s repository "./audit_order </dev/null" builds it and "make install" installs it; or name it in AUDIT_ORDER'
+
+
+def order_words(demanded: bool) -> list[str]:
+    """The program that orders a log, or nothing if it isn't there and wasn't demanded."""
+    found = words_given(os.environ.get('AUDIT_ORDER'), 'correct AUDIT_ORDER') or words_found('audit_order')
+    return found or (bad_words(f'--order needs the program audit_order, which isn\'t there: {GET_ORDER}') if demanded else [])
 
 
 def words_given(words: str | None, what_to_do: str) -> list[str]:
@@ -48,7 +51,7 @@ def words_found(name: str) -> list[str]:
     return next(([str(it)] for it in (FOLDER / name, FOLDER.parent / name) if it.is_file()), [])
 
 
-def started(words: list[str], what_to_do: str, **streams: object) -> subprocess.Popen[bytes]:
+def started(words: Sequence[str], what_to_do: str, **streams: object) -> subprocess.Popen[bytes]:
     """A program in a session of its own, so that whatever it starts to build itself can be ended with it."""
     try:
         return subprocess.Popen(words, stderr=subprocess.PIPE, start_new_session=True, **streams)
@@ -57,7 +60,7 @@ def started(words: list[str], what_to_do: str, **streams: object) -> subprocess.
 
 
 def handing_on(process: subprocess.Popen[bytes], name: str) -> threading.Thread:
-    """What a program says on standard error is handed on as it comes: it may build itself for half an hour."""
+    """What a program says on standard error is handed on as it comes: it may build itself for an hour."""
     def hand_on() -> None:
         for line in process.stderr:
             say(f'{name} says: ' + shown(line.decode('utf-8', 'replace').rstrip('\n')))
@@ -106,7 +109,7 @@ class Progress:
 class Order:
     """The program audit_order: what is written into it comes out as a log in the order of effects."""
 
-    def __init__(self, words: list[str], out: int) -> None:
+    def __init__(self, words: Sequence[str], out: int) -> None:
         theirs, self.into = wide_pipe()
         try:
             self.process = started(words, 'name audit_order in AUDIT_ORDER', stdin=theirs, stdout=out)
@@ -119,10 +122,14 @@ class Order:
 
     def must_be_whole(self, read: bool) -> None:
         """Refuses an answer unless the log was read to its end and all of it was written."""
+        if self.process.wait() or not read:
+            raise self.fault()
+
+    def fault(self) -> Refused:
         status = self.process.wait()
-        if status or not read:
-            self.hand_on.join(2)
-            raise Refused(ended_with(status), f'audit_order ended with status {status} before it had ordered the log, so nothing is answered')
+        self.hand_on.join(2)
+        return Refused(ended_with(status), f'audit_order ended with status {status} before it had ordered the log, so nothing is answered; '
+                                           '--no-order asks in the order of the log')
 
 
 class Program:
@@ -175,7 +182,7 @@ class Program:
 class LogProgram(Program):
     """The program over logs. They come through a pipe, so that packed and rotated files need no copy."""
 
-    def __init__(self, words: list[str], mode: str, logs: Logs, progress: bool, order: list[str] | None = None) -> None:
+    def __init__(self, words: list[str], mode: str, logs: Logs, progress: bool, order: Sequence[str] = ()) -> None:
         self.fed, self.all_fed = 0, False
         theirs, ours = wide_pipe()
         super().__init__([*words, 'watch', mode, f'/dev/fd/{theirs}'], logs.files[-1].path, logs, pass_fds=[theirs])
@@ -185,12 +192,24 @@ class LogProgram(Program):
                 self.order = Order(order, ours)
                 os.close(ours)
                 ours = self.order.into
+                threading.Thread(target=self.watch_order, daemon=True).start()
             self.feeding = threading.Thread(target=self.feed, args=(ours,), daemon=True)
             self.feeding.start()
             self.take_all(progress)
         except BaseException:
             self.stop()
             raise
+
+    def watch_order(self) -> None:
+        """Ends the program if audit_order fails, since it may be about to build itself for an hour, and nothing will be answered."""
+        if self.order.process.wait() == 0:
+            return
+        try:
+            # If audit_order failed since the program had ended, the program's own status counts.
+            self.process.wait(1)
+        except subprocess.TimeoutExpired:
+            self.fault = self.fault or self.order.fault()
+            stop(self.process)
 
     def feed(self, into: int) -> None:
         try:

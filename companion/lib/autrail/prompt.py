@@ -15,7 +15,7 @@ def ask(session: Session) -> int:
     """Commands at a prompt, over a log that is read once."""
     import readline
     readline.set_completer_delims(' ')
-    readline.set_completer(Completion(it for thing in session.everything() for it in thing.names))
+    readline.set_completer(Completion(it for thing in session.everything() for it in thing.known_as))
     readline.parse_and_bind('tab: complete')
     if sys.stdin.isatty():
         print('commands: ' + ', '.join(ASKED) + '; quit, or Ctrl-D, ends')

@@ -13,7 +13,7 @@ from .session import Session
 from .things import Thing
 from .times import bound_of
 from .trees import tree_lines, tree_of, without_hidden
-from .trust import IN_ORDER, blind_spots
+from .trust import blind_spots, order_of
 
 KINDS = {'process': 'processes', 'file': 'files', 'path': 'paths without a file number', 'address': 'addresses',
          'made': 'pipes and sockets', 'lost': 'descriptors that nobody was seen to open'}
@@ -79,7 +79,7 @@ def show_tree(session: Session, options: argparse.Namespace, root: Thing, things
         tell_processes(session, [it.number for it in tree.root.walk()])
         print('\n'.join(notes))
         return
-    caption = f'autrail {options.command} {root.label}: ' + '; '.join([IN_ORDER] * session.ordered + notes)
+    caption = f'autrail {options.command} {root.label}: ' + '; '.join([it for it in (order_of(session), *notes) if it])
     if options.dot:
         print('\n'.join(dot_lines(session, tree, caption)))
     else:

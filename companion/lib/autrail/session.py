@@ -43,7 +43,9 @@ class Session:
             else:
                 mode = options.mode or 'plain'
                 logs = logs_of(options.input, ends)
-                order = order_words() if options.order else None
+                # What stat tells is about the log as it is: ordering would hide how many events are late.
+                in_order = options.command != 'stat' if options.order is None else options.order
+                order = order_words(options.order is True) if in_order else []
                 program = LogProgram(program_words(options.program), mode, logs, not options.quiet, order)
             ends.callback(program.stop)
             yield cls(program, mode, options.store)

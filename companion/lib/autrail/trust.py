@@ -27,10 +27,7 @@ def warnings_of(session: Session) -> list[str]:
     if session.has_lines:
         found += (missing_calls(reading) + other_machines(reading.machines) + wrong_times(reading.times.greatest, reading.times.back, session.ordered)
                   + several_hosts(reading.hosts))
-    found += counted_warnings(counts)
-    if session.ordered:
-        found.append('in the order of effects a read of a file that its process didn\'t open itself may count too late, so a path may be shown that can\'t be: '
-                     'look at it by "why A B --lines", and without --order')
+    found += counted_warnings(counts, order_of(session))
     # Lines beside a store may say the same as what keep noted of it.
     return list(dict.fromkeys(found))
 
@@ -44,12 +41,12 @@ def unfit_for_answers(counts: dict, holder: str, start: bytes) -> list[str]:
     return []
 
 
-def counted_warnings(counts: dict) -> list[str]:
-    """What the program's counts say."""
+def counted_warnings(counts: dict, order: str = '') -> list[str]:
+    """What the program's counts say of a log in this order."""
     found = []
     if counts['late'] * 50 > counts['events']:
         found.append(f'{counts["late"]:,} of {many(counts["events"], "event")} came late, '
-                     'so a path over them may be missing or have a later time')
+                     f'so {order}{" " if order else ""}a path over them may be missing or have a later time')
     if counts['excess']:
         found.append(f'{many(counts["excess"], "record")} of overlong events were dropped')
     return found
@@ -133,4 +130,6 @@ def blind_spots(session: Session) -> str:
             + ('or an order that audit_order can\'t tell' if session.ordered else 'or flows that it has in another order than they happened'))
 
 
-IN_ORDER = 'in the order of effects'
+def order_of(session: Session) -> str:
+    """The order in which answers are meant. A store has that in which its logs were taken."""
+    return '' if session.store is not None else f'in the order of {"effects" if session.ordered else "the log"}'
