@@ -36,13 +36,12 @@ install: built
 		sed 's|@PREFIX@|$(PREFIX)|g' "companion/autrail-keep.$$unit" > "$(DESTDIR)$(PREFIX)/lib/systemd/system/autrail-keep.$$unit" && \
 		chmod 644 "$(DESTDIR)$(PREFIX)/lib/systemd/system/autrail-keep.$$unit" || exit 1; \
 	done
-	@[ -x "$(ORDER)" ] || echo 'audit_order is not built, so it is not installed, and autrail --order needs it: ./audit_order </dev/null builds it; then install again'
+	@[ -x "$(ORDER)" ] || echo 'audit_order is not built, so it is not installed, and autrail asks in the order of the log: ./audit_order </dev/null builds it; then install again'
 
-# The scripts prove and build a program if the code has changed since; a program of another place is taken as it is. The second
-# program is built anew only if it was built before.
+# The scripts prove and build a program if the code has changed since; a program of another place is taken as it is.
 built:
 	if [ "$(PROGRAM)" = crates/audit_cli/out/audit_cli ]; then ./audit_cli back 0 </dev/null >/dev/null; fi
-	if [ "$(ORDER)" = crates/audit_order/out/audit_order ] && [ -x "$(ORDER)" ]; then ./audit_order </dev/null >/dev/null; fi
+	if [ "$(ORDER)" = crates/audit_order/out/audit_order ]; then ./audit_order </dev/null >/dev/null; fi
 
 # The built pages are kept, so that only whoever changes them needs scdoc.
 man:

@@ -1,5 +1,5 @@
 #!/usr/bin/env python3
-"""Times `companion/autrail back NAME --tree` over long logs, beside the program alone on the same log.
+"""Times `companion/autrail --no-order back NAME --tree` over long logs, beside the program alone on the same log.
 
     bench/time_autrail.py [--megabytes 42] [--runs 3] [--program ./crates/audit_cli/out/audit_cli]
 
@@ -87,7 +87,7 @@ def main():
             questions = f'take 999999999\nsettle\nfind {name}\nback {number}\nend\n'.encode()
             alone, out = timed([program, 'watch', 'plain', log], questions, options.runs)
             objects = len(json.loads(out.splitlines()[3])['ids'])
-            whole, tree = timed([sys.executable, AUTRAIL, '-q', '--program', program, '-if', log, 'back', name, '--tree'], b'', options.runs)
+            whole, tree = timed([sys.executable, AUTRAIL, '-q', '--no-order', '--program', program, '-if', log, 'back', name, '--tree'], b'', options.runs)
             lines = tree.split(b'processes (')[0].count(b'\n')
             print(f'{os.path.getsize(log) / 1e6:.1f} MB, {name}: the program alone {alone}, {objects:,} objects; autrail {whole} '
                   f'with the program, a tree of {lines:,} lines', flush=True)
