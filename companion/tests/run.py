@@ -54,7 +54,7 @@ RAW = re.compile(rb'[\x00-\x09\x0b-\x1f\x7f]|\xc2[\x80-\x9f]')
 # The package, for its functions on words alone.
 sys.dont_write_bytecode = True
 sys.path.insert(0, str(PACKAGE))
-from autrail import basics, lines, logs as autrail_logs, main as autrail_main, prompt, signs, times, whole  # noqa: E402 pylint: disable=wrong-import-position
+from autrail import basics, lines, logs as autrail_logs, main as autrail_main, prompt, signs, times, trees, whole  # noqa: E402 pylint: disable=wrong-import-position
 
 
 def environment(**more: str) -> dict[str, str]:
@@ -329,6 +329,14 @@ class Trees(Scratch):
         self.assertEqual([it.split()[-2] for it in lines if '─ read ' in it], ['127.0.0.1:8080', '/tmp/f2', '/tmp/f1'])
         self.assertIn('one path for each of 4 objects', lines)
         self.assertIn('8 objects of the answer left out, since 3 paths were asked for; --paths N asks for more', lines)
+
+    def test_a_tree_out_of_many_objects_is_made_of_fewer_paths(self) -> None:
+        self.assertEqual([trees.most_paths(it) for it in (1, 3000, 3001, 100000)], [300, 300, 100, 100])
+        # Without --paths, and with a number that is more than that.
+        for objects, words, want in ((300, '', 301), (302, '', 301), (302, '--paths 400', 303)):
+            text = ''.join(opened_and(0, f'"/tmp/f{it}"', 50 + it, 10 * it) for it in range(1, objects + 1)) + opened_and(1, '"/tmp/out"', 9, 9000, 'CREATE')
+            lines = asked(self.log(text), f'back /tmp/out --tree {words}').splitlines()
+            self.assertIn(f'one path for each of {want} objects', lines)
 
     def test_times_along_each_branch_go_one_way(self) -> None:
         """Two objects reach the target over one process, which wrote it after each of them was read."""
