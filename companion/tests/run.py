@@ -1727,6 +1727,53 @@ for line in sys.stdin:
         self.assertIn(done.stdout, (b'141\n', b'0\n'))
         self.assertEqual(done.stderr.decode(), OF_THE_LOG)
 
+    def shell(self, command: str, **more: str) -> tuple[str, str]:
+        """What a command of bash's writes, in which $autrail is autrail with a log."""
+        words = ' '.join(shlex.quote(str(it)) for it in (AUTRAIL, '-q', '--no-order', '-if', EXAMPLE))
+        done = subprocess.run(['bash', '-c', f'autrail() {{ {words} "$@"; }}; {command}'], capture_output=True, env=environment(**more), check=False)
+        return done.stdout.decode(), done.stderr.decode()
+
+    def test_standard_streams_that_are_closed(self) -> None:
+        """No other file takes their numbers, no note goes into the answer, and status 1 would say that the log was asked."""
+        found = '#47     file     /customers.csv   file fe:00 19130 0\n'
+        for closed, out, err in (('<&-', found + '0', OF_THE_LOG), ('2>&-', found + '0', ''), ('2>/dev/full', found + '0', ''), ('<&- 2>&-', found + '0', ''),
+                                 ('>&-', '5', OF_THE_LOG + "autrail: the answer can't be written (Bad file descriptor)\n"), ('<&- >&- 2>&-', '5', '')):
+            self.assertEqual(self.shell(f'autrail find /customers.csv {closed}; echo $?'), (out + '\n', err), closed)
+        self.assertEqual(self.shell('autrail ask <&-; echo $?'), ('0\n', OF_THE_LOG))
+
+    def test_help_and_version_need_room_too(self) -> None:
+        for unbuffered in ('', '1'):
+            for word in ('--help', '--version'):
+                self.assertEqual(self.shell(f'autrail {word} >/dev/full; echo $?', PYTHONUNBUFFERED=unbuffered), ('5\n', "autrail: the answer can't be written (No space left on device)\n"))
+
+    def test_what_cannot_be_copied_is_said(self) -> None:
+        """A limit of one block, as bash counts them, stands for a full disk."""
+        log = self.log(repeated(300000))
+        store = shlex.quote(str(self.folder / 'host.store'))
+        out, err = self.shell(f'ulimit -f 1; {{ {shlex.quote(str(AUTRAIL))} keep {store} -if {shlex.quote(str(log))}; echo $?; }} 2>&1 | cat')
+        self.assertEqual((out, err), (f"autrail: {self.folder}/host.store.portion: it can't be written (File too large); nothing is lost, and the next run goes on\n5\n", ''))
+        out, err = self.shell(f'ulimit -f 1; {{ {shlex.quote(str(AUTRAIL))} -if - stat <{shlex.quote(str(log))}; echo $?; }} 2>&1 | cat')
+        self.assertEqual((out, err), ('autrail: the log comes through a pipe, and no copy of it can be made (File too large): set TMPDIR to a folder that has room for it\n5\n', ''))
+
+    def test_a_log_that_fails_when_it_is_read_is_a_read_fault(self) -> None:
+        with unittest.mock.patch('builtins.open', side_effect=OSError(5, 'Input/output error')), self.assertRaises(basics.Refused) as refused:
+            autrail_logs.logs_of([str(EXAMPLE)], contextlib.ExitStack())
+        self.assertEqual((refused.exception.status, str(refused.exception)), (4, f"{EXAMPLE}: the file can't be read (Input/output error)"))
+
+    def test_a_time_that_took_the_other_words_is_said(self) -> None:
+        for words in (('back', '--at', 'today', 'x'), ('fore', '--since', 'today', 'x'), ('why', '--at', 'today', 'x', 'y')):
+            done = run(*words)
+            self.assertEqual((done.returncode, done.stderr.count(b'\n')), (2, 1))
+            self.assertIn(b'a time is all words up to the next option, so it stands after what is asked about', done.stderr)
+        self.assertNotIn(b'a time is', run('back').stderr)
+
+    def test_nothing_is_no_name(self) -> None:
+        for words in (('find', ''), ('back', ''), ('why', '', '/customers.csv')):
+            self.assertEqual(run('-q', '-if', EXAMPLE, *words).returncode, 2, words)
+
+    def test_the_prompt_helps(self) -> None:
+        self.assertEqual(asked(EXAMPLE, 'help\n?\n'), 2 * f'{prompt.HELP}\n')
+
     def test_an_interrupt_ends_the_program_too(self) -> None:
         fifo = self.folder / 'pid'
         slow = self.log(f'#!/bin/sh\necho $$ >{shlex.quote(str(fifo))}\nexec sleep 60\n', 'slow')

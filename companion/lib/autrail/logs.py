@@ -13,7 +13,7 @@ import tempfile
 from dataclasses import dataclass, field
 from typing import BinaryIO, Iterable, Iterator, NoReturn, Sequence
 
-from .basics import MAY_NOT, READ_FAULT, Refused, bad_words, shown
+from .basics import MAY_NOT, READ_FAULT, Refused, WRITE_FAULT, bad_words, shown
 from .stores import begins_as_a_store
 
 DEFAULT_LOG = '/var/log/audit/audit.log'
@@ -85,9 +85,13 @@ def files_of(word: str, ends: contextlib.ExitStack) -> list[LogFile]:
 
 def spooled(stream: BinaryIO, ends: contextlib.ExitStack) -> str:
     """A pipe as a file, since the log is read again for its lines. It is removed at the end."""
-    copy = ends.enter_context(tempfile.NamedTemporaryFile(prefix='autrail-'))
-    shutil.copyfileobj(stream, copy)
-    copy.flush()
+    try:
+        copy = ends.enter_context(tempfile.NamedTemporaryFile(prefix='autrail-'))
+        shutil.copyfileobj(stream, copy)
+        copy.flush()
+    except OSError as fault:
+        raise Refused(WRITE_FAULT, f'the log comes through a pipe, and no copy of it can be made ({fault.strerror or shown(str(fault))}): '
+                                   'set TMPDIR to a folder that has room for it') from None
     return copy.name
 
 

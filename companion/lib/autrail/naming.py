@@ -34,6 +34,8 @@ class Match:
 
 
 def candidates(session: Session, what: str) -> Match:
+    if not what:
+        bad_words('what is asked about is empty; name a path, a pattern, an address or a process')
     if match := re.fullmatch(r'#(\d{1,10})', what):
         return Match([session.numbered(int(match[1]))])
     prefix, _, rest = what.partition(':')

@@ -5,7 +5,7 @@ import argparse
 import re
 from typing import Callable, NoReturn, Sequence
 
-from .basics import MODES, VERSION, bad_words, shown
+from .basics import MODES, Refused, VERSION, bad_words, shown
 from .logs import DEFAULT_LOG
 from .trees import MANY, MOST_OF_MANY, MOST_PATHS
 
@@ -107,7 +107,12 @@ def ending(suffix: str) -> Callable[[str], str]:
 
 
 def options_of(words: Sequence[str]) -> argparse.Namespace:
-    options = parser().parse_args(words)
+    try:
+        options = parser().parse_args(words)
+    except Refused as fault:
+        if 'arguments are required' in str(fault) and {'--at', '--since'} & set(words):
+            bad_words(f'{fault}; a time is all words up to the next option, so it stands after what is asked about')
+        raise
     if getattr(options, 'interpret', False):
         options.lines = True
     for name, value in (('input', []), ('store', None), ('mode', None), ('quiet', False), ('order', None), ('program', None)):
