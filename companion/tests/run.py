@@ -2019,13 +2019,26 @@ class Scripts(Scratch):
         status, out, err = self.ended(self.start('audit_cli', 'back', '2'))
         self.assertEqual((status, out), (3, 'audit_cli: back 2\n'))
         self.assertIn('proving and building the program', err[0])
-        self.assertRegex(err[2], r'^audit_cli: a_crate is done after \d+ seconds$')
+        self.assertRegex(err[2], r'^audit_cli: a_crate is done after \d+ seconds, 1 of \d+ parts$')
         self.assertEqual(self.asked(), ['top: all check --jobs N', 'audit_cli: run -- back 0'])
         self.assertEqual(self.ended(self.start('audit_cli', 'x y')), (3, 'audit_cli: x y\n', []))
         self.assertEqual(len(self.asked()), 2)
         (self.top / 'crates' / 'audit_cli' / 'code').write_text('changed')
         self.assertEqual(self.ended(self.start('audit_cli'))[:2], (3, 'audit_cli:\n'))
         self.assertEqual(len(self.asked()), 4)
+
+    def test_while_nothing_is_done_it_says_that_it_is_at_work(self) -> None:
+        script = self.top / '.ci' / 'built_program'
+        script.write_text(script.read_text().replace('read -r -t 5', 'read -r -t 1').replace('-ge 60 ]', '-ge 1 ]'))
+        # The first line comes in two halves, and the time is up in between.
+        (self.folder / 'rt').write_text(RT.replace("echo '== a_crate'; sleep 1;", "printf '== a_'; sleep 3; echo crate; sleep 3;"))
+        status, _, err = self.ended(self.start('audit_cli'))
+        said = [re.sub(r'\d+ (seconds|of)', r'N \1', it) for it in err[2:]]
+        parts = len([it for it in (TOP / 'crates.txt').read_text().splitlines() if it and not it.startswith('#')])
+        self.assertEqual(status, 3)
+        self.assertEqual(list(dict.fromkeys(said)), [f'audit_cli: at work for N seconds, N of {parts} parts are done', f'audit_cli: a_crate is done after N seconds, N of {parts} parts'])
+        self.assertIn(f', 0 of {parts} parts are done', err[2])
+        self.assertIn(f', 1 of {parts} parts are done', err[-1])
 
     def test_the_forms_of_words_are_told_without_building(self) -> None:
         for name in ('audit_cli', 'audit_order'):
@@ -2062,7 +2075,7 @@ class Scripts(Scratch):
         self.assertEqual({'audit_cli: run -- back 0', 'audit_order: run'}, set(self.asked()) - {'top: all check --jobs N'})
         for says in ('the program says: audit_cli: ', 'audit_order says: audit_order: '):
             self.assertIn(f'autrail: {says}proving and building the program', done.stderr.decode())
-            self.assertRegex(done.stderr.decode(), rf'autrail: {says}a_crate is done after \d+ seconds\n')
+            self.assertRegex(done.stderr.decode(), rf'autrail: {says}a_crate is done after \d+ seconds, 1 of \d+ parts\n')
         self.assertTrue(done.stderr.decode().endswith(OF_EFFECTS))
 
     def test_what_is_not_proved_is_not_built(self) -> None:
