@@ -407,9 +407,9 @@ class Rotated(Scratch):
         self.assertIn(b'audit.log.1.gz', done.stderr)
 
     def test_standard_input_is_a_log(self) -> None:
-        done = run('-q', '-if', '-', 'find', '/customers.csv', stdin=gzip.compress(EXAMPLE.read_bytes()))
+        done = run('-q', '-if', '-', 'find', '/customers.csv', stdin=gzip.compress(EXAMPLE.read_bytes()), TMPDIR=str(self.folder))
         self.assertEqual((done.returncode, done.stdout), (0, b'#47     file     /customers.csv   file fe:00 19130 0\n'))
-        self.assertFalse(list(Path(tempfile.gettempdir()).glob('autrail-*')))
+        self.assertFalse(list(self.folder.iterdir()))
 
     def test_a_pipe_is_a_log(self) -> None:
         command = f'{shlex.quote(str(AUTRAIL))} -q -if <(cat {shlex.quote(str(EXAMPLE))}) stat --json'
@@ -1362,10 +1362,12 @@ class Ordered(Scratch):
         (self.folder / 'audit.log.2.gz').write_bytes(gzip.compress(b''.join(lines[:third])[:-1]))
         (self.folder / 'audit.log.1.xz').write_bytes(lzma.compress(b''.join(lines[third:2 * third])))
         (self.folder / 'audit.log').write_bytes(b''.join(lines[2 * third:]))
-        counts = json.loads(ordered(self.folder, 'stat', '--json')[1])
+        copies = self.folder / 'copies'
+        copies.mkdir()
+        counts = json.loads(ordered(self.folder, 'stat', '--json', TMPDIR=str(copies))[1])
         self.assertGreaterEqual(counts['lines'], len(lines))
         self.assertEqual((counts['late'], counts['malformed']), (0, 0))
-        self.assertFalse(list(Path(tempfile.gettempdir()).glob('autrail-*')))
+        self.assertFalse(list(copies.iterdir()))
 
     def test_a_program_that_fails_gives_no_answer(self) -> None:
         long = self.log(EXAMPLE.read_bytes() * 20, 'long.log')
