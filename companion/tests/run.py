@@ -250,6 +250,14 @@ class Names(Scratch):
             done = run('-q', '-if', self.file, 'find', name)
             self.assertEqual((done.returncode, done.stdout.count(b'\n')), (0, 1), name)
 
+    def test_a_name_is_found_as_it_is_shown(self) -> None:
+        """The prompt offers a name with bytes that aren't UTF-8 as it is shown, and whoever copies it types that."""
+        shown = json.loads(run('-q', '-if', self.file, 'find', 'inode:08:01:54', '--json').stdout)
+        self.assertEqual(shown['names'], [HOSTILE['bytes'].decode('utf-8', 'replace')])
+        self.assertEqual(prompt.Completion(shown['names']).words('/tmp'), [shlex.quote(shown['names'][0])])
+        for word in (*shown['names'], 'name:' + shown['names'][0], os.path.basename(shown['names'][0])):
+            self.assertEqual(json.loads(run('-q', '-if', self.file, 'find', word, '--json').stdout), shown, word)
+
     def test_a_name_is_said_apart_from_a_number(self) -> None:
         done = run('-q', '-if', self.file, 'find', b'name:' + HOSTILE['dollar'])
         self.assertIn(b'/tmp/#15', done.stdout)
