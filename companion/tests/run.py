@@ -2103,7 +2103,7 @@ class Scripts(Scratch):
             (tools / tool).symlink_to(shutil.which(tool))
         for name in ('audit_cli', 'audit_order'):
             status, out, err = self.ended(self.start(name, PATH=str(tools)))
-            self.assertEqual((status, out, err), (127, '', [f"{name}: the Rattle kit's command rt isn't on the PATH, and the program must be proved before it is built"]))
+            self.assertEqual((status, out, err), (127, '', [f"{name}: the Rattle kit's command rt isn't on the PATH, and the program must be proved before it is built; README.md says what is needed"]))
 
 
 class Gate(Scratch):
