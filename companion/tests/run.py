@@ -163,6 +163,12 @@ class Answers(unittest.TestCase):
                      '13 common objects hidden; -a shows them', 'first taken in 2026-06-09 08:01:55.644'):
             self.assertIn(want, text)
 
+    def test_programs_are_named_by_path_base_name_or_pattern(self) -> None:
+        found = [[json.loads(it)['label'] for it in asked(EXAMPLE, f'find {word} --json').splitlines()] for word in ('exe:/usr/bin/tar', 'exe:tar', 'exe:*/tar', 'exe:nc.openbsd')]
+        self.assertEqual(found[:3], 3 * [['tar[434]']])
+        self.assertEqual(found[3], [f'nc.openbsd[{it}]' for it in (424, 425, 430, 435)])
+        self.assertEqual(run('-q', '-if', EXAMPLE, 'find', 'exe:customers.csv').returncode, 1)
+
     def test_no_path_says_what_the_log_cannot_show(self) -> None:
         done = run('-if', EXAMPLE, 'why', '/customers.csv', '/srv/evil/received.tar')
         self.assertEqual((done.returncode, done.stdout), (1, b''))
@@ -427,6 +433,15 @@ class Rotated(Scratch):
 
 class Fitness(Scratch):
     """A warning before the answer says what a log isn't fit for."""
+
+    def test_lines_with_a_blank_before_the_colon_are_read_too(self) -> None:
+        """The program takes both forms of a header."""
+        text = opened_and(0, '"/tmp/in"', 7, 10) + opened_and(1, '"/tmp/out"', 8, 20, 'CREATE') + call(30, 57, exit=101) + call(40, 59, exit=0)
+        text += 'type=EXECVE msg=audit(1780992040.000:40): argc=1 a0="p"\n'
+        questions = 'stat\nshow pid:100\nwhy /tmp/in /tmp/out\nwhy /tmp/in /tmp/out --lines\n'
+        one, other = (asked(self.log(it), questions) for it in (text, text.replace('): ', ') : ')))
+        self.assertEqual(other.replace(') : ', '): '), one)
+        self.assertNotIn('warning', one)
 
     def test_each_fault_is_told(self) -> None:
         good = opened_and(0, '"/a"', 7, 1) + opened_and(1, '"/b"', 8, 3, 'CREATE') + call(5, 57, exit=101) + call(6, 59, exit=0)

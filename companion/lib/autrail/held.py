@@ -18,7 +18,7 @@ from .whole import WINDOW
 # This many first bytes tell a file of a log from another one: they have the time and serial number of its first record.
 START = 4096
 RENAMING = 20
-ANY_RECORD = re.compile(rb'^(?:node=\S+ )?type=\w+ msg=audit\((\d{1,15}\.\d{3}:\d{1,10})\):', re.MULTILINE)
+ANY_RECORD = re.compile(rb'^(?:node=\S+ )?type=\w+ msg=audit\((\d{1,15}\.\d{3}:\d{1,10})\) ?:', re.MULTILINE)
 
 
 class Held:
