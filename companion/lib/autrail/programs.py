@@ -148,17 +148,22 @@ class Program:
         return self.ask_all([question])[0]
 
     def ask_all(self, questions: Sequence[str]) -> list[dict]:
-        """The replies to some questions. They are few enough for a pipe, so that neither side waits for the other."""
-        replies = []
+        """The replies to some questions. While the program answers some, those before are read; both together are few enough for a pipe."""
+        replies: list[dict] = []
+        asked: Sequence[str] = []
         for start in range(0, len(questions), AT_ONCE):
             some = questions[start:start + AT_ONCE]
-            try:
-                self.process.stdin.write(b''.join(os.fsencode(it) + b'\n' for it in some))
-                self.process.stdin.flush()
-            except BrokenPipeError:
-                self.ended()
-            replies += self.replies(some)
-        return replies
+            self.write(some)
+            replies += self.replies(asked)
+            asked = some
+        return replies + self.replies(asked)
+
+    def write(self, questions: Sequence[str]) -> None:
+        try:
+            self.process.stdin.write(b''.join(os.fsencode(it) + b'\n' for it in questions))
+            self.process.stdin.flush()
+        except BrokenPipeError:
+            self.ended()
 
     def replies(self, questions: Sequence[str]) -> list[dict]:
         """A reply to each of these questions. All are read as one list, since that takes less time than line by line."""
