@@ -420,6 +420,38 @@ class Rotated(Scratch):
         self.assertEqual((done.returncode, done.stdout), (4, b''))
         self.assertIn(b'audit.log.1.gz', done.stderr)
 
+    def test_a_log_that_is_rotated_while_it_is_asked(self) -> None:
+        """auditd renames the files between their listing and their reading, or while somebody is at the prompt."""
+        def rotate() -> None:
+            for number in (2, 1, 0):
+                (self.folder / f'audit.log{f".{number}" if number else ""}').rename(self.folder / f'audit.log.{number + 1}')
+            (self.folder / 'audit.log').write_bytes(b'')
+
+        for word in (self.folder, self.folder / 'audit.log'):
+            self.rotate({2: '', 1: '', 0: ''})
+            found = autrail_logs.logs_of([str(word)], contextlib.ExitStack())
+            want = [(self.folder / it).read_bytes() for it in ('audit.log.2', 'audit.log.1', 'audit.log')]
+            rotate()
+            self.assertEqual([b''.join(autrail_logs.pieces(it)) for it in found.files], want)
+            (self.folder / 'audit.log.3').unlink()
+            with self.assertRaises(basics.Refused) as refused:
+                b''.join(autrail_logs.pieces(found.files[0]))
+            self.assertEqual((refused.exception.status, str(refused.exception)),
+                             (4, f'{self.folder / "audit.log.2"}: the log was rotated meanwhile, and this file was packed or removed; ask again'))
+            for file in self.folder.iterdir():
+                file.unlink()
+
+    def test_a_prompt_shows_lines_of_a_log_that_was_rotated_since(self) -> None:
+        log = self.log(EXAMPLE.read_bytes())
+        child = subprocess.Popen([AUTRAIL, '-q', '--no-order', '-if', log, 'ask'], stdin=subprocess.PIPE, stdout=subprocess.PIPE, stderr=subprocess.PIPE, env=environment())
+        child.stdin.write(b'find /customers.csv\n')
+        child.stdin.flush()
+        child.stderr.readline()
+        log.rename(self.folder / 'audit.log.1')
+        log.write_bytes(b'')
+        out, err = child.communicate(b'why /customers.csv /tmp/.loot.tar --lines\n', timeout=120)
+        self.assertEqual((out.count(b'type=SYSCALL'), err), (2, b''))
+
     def test_standard_input_is_a_log(self) -> None:
         done = run('-q', '-if', '-', 'find', '/customers.csv', stdin=gzip.compress(EXAMPLE.read_bytes()), TMPDIR=str(self.folder))
         self.assertEqual((done.returncode, done.stdout), (0, b'#47     file     /customers.csv   file fe:00 19130 0\n'))
