@@ -11,8 +11,8 @@ from .session import Session
 from .things import Step
 from .times import clock
 
-# How many paths a tree is made of. For each of them the program walks over all that the root came from, or that the object on its other end did, so
-# a tree out of many objects is made of fewer.
+# The most paths that a tree is made of. For each path the program walks over everything from which the path's end can have come, so a tree out of many
+# objects is made of fewer.
 MOST_PATHS, MOST_OF_MANY, MANY = 300, 100, 3000
 SOME_PATHS = 10
 
