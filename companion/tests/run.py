@@ -54,7 +54,7 @@ RAW = re.compile(rb'[\x00-\x09\x0b-\x1f\x7f]|\xc2[\x80-\x9f]')
 # The package, for its functions on words alone.
 sys.dont_write_bytecode = True
 sys.path.insert(0, str(PACKAGE))
-from autrail import basics, lines, logs as autrail_logs, main as autrail_main, prompt, signs, times, whole  # noqa: E402 pylint: disable=wrong-import-position
+from autrail import basics, lines, logs as autrail_logs, main as autrail_main, prompt, signs, times, trees, whole  # noqa: E402 pylint: disable=wrong-import-position
 
 
 def environment(**more: str) -> dict[str, str]:
@@ -163,6 +163,12 @@ class Answers(unittest.TestCase):
                      '13 common objects hidden; -a shows them', 'first taken in 2026-06-09 08:01:55.644'):
             self.assertIn(want, text)
 
+    def test_programs_are_named_by_path_base_name_or_pattern(self) -> None:
+        found = [[json.loads(it)['label'] for it in asked(EXAMPLE, f'find {word} --json').splitlines()] for word in ('exe:/usr/bin/tar', 'exe:tar', 'exe:*/tar', 'exe:nc.openbsd')]
+        self.assertEqual(found[:3], 3 * [['tar[434]']])
+        self.assertEqual(found[3], [f'nc.openbsd[{it}]' for it in (424, 425, 430, 435)])
+        self.assertEqual(run('-q', '-if', EXAMPLE, 'find', 'exe:customers.csv').returncode, 1)
+
     def test_no_path_says_what_the_log_cannot_show(self) -> None:
         done = run('-if', EXAMPLE, 'why', '/customers.csv', '/srv/evil/received.tar')
         self.assertEqual((done.returncode, done.stdout), (1, b''))
@@ -250,6 +256,14 @@ class Names(Scratch):
             done = run('-q', '-if', self.file, 'find', name)
             self.assertEqual((done.returncode, done.stdout.count(b'\n')), (0, 1), name)
 
+    def test_a_name_is_found_as_it_is_shown(self) -> None:
+        """The prompt offers a name with bytes that aren't UTF-8 as it is shown, and whoever copies it types that."""
+        shown = json.loads(run('-q', '-if', self.file, 'find', 'inode:08:01:54', '--json').stdout)
+        self.assertEqual(shown['names'], [HOSTILE['bytes'].decode('utf-8', 'replace')])
+        self.assertEqual(prompt.Completion(shown['names']).words('/tmp'), [shlex.quote(shown['names'][0])])
+        for word in (*shown['names'], 'name:' + shown['names'][0], os.path.basename(shown['names'][0])):
+            self.assertEqual(json.loads(run('-q', '-if', self.file, 'find', word, '--json').stdout), shown, word)
+
     def test_a_name_is_said_apart_from_a_number(self) -> None:
         done = run('-q', '-if', self.file, 'find', b'name:' + HOSTILE['dollar'])
         self.assertIn(b'/tmp/#15', done.stdout)
@@ -330,6 +344,14 @@ class Trees(Scratch):
         self.assertIn('one path for each of 4 objects', lines)
         self.assertIn('8 objects of the answer left out, since 3 paths were asked for; --paths N asks for more', lines)
 
+    def test_a_tree_out_of_many_objects_is_made_of_fewer_paths(self) -> None:
+        self.assertEqual([trees.most_paths(it) for it in (1, 3000, 3001, 100000)], [300, 300, 100, 100])
+        # Without --paths, and with a number that is more than that.
+        for objects, words, want in ((300, '', 301), (302, '', 301), (302, '--paths 400', 303)):
+            text = ''.join(opened_and(0, f'"/tmp/f{it}"', 50 + it, 10 * it) for it in range(1, objects + 1)) + opened_and(1, '"/tmp/out"', 9, 9000, 'CREATE')
+            lines = asked(self.log(text), f'back /tmp/out --tree {words}').splitlines()
+            self.assertIn(f'one path for each of {want} objects', lines)
+
     def test_times_along_each_branch_go_one_way(self) -> None:
         """Two objects reach the target over one process, which wrote it after each of them was read."""
         text = opened_and(0, '"/a"', 7, 10) + opened_and(1, '"/out"', 9, 20, 'CREATE') + call(22, 3, exit=0) + opened_and(0, '"/b"', 8, 30)
@@ -398,10 +420,42 @@ class Rotated(Scratch):
         self.assertEqual((done.returncode, done.stdout), (4, b''))
         self.assertIn(b'audit.log.1.gz', done.stderr)
 
+    def test_a_log_that_is_rotated_while_it_is_asked(self) -> None:
+        """auditd renames the files between their listing and their reading, or while somebody is at the prompt."""
+        def rotate() -> None:
+            for number in (2, 1, 0):
+                (self.folder / f'audit.log{f".{number}" if number else ""}').rename(self.folder / f'audit.log.{number + 1}')
+            (self.folder / 'audit.log').write_bytes(b'')
+
+        for word in (self.folder, self.folder / 'audit.log'):
+            self.rotate({2: '', 1: '', 0: ''})
+            found = autrail_logs.logs_of([str(word)], contextlib.ExitStack())
+            want = [(self.folder / it).read_bytes() for it in ('audit.log.2', 'audit.log.1', 'audit.log')]
+            rotate()
+            self.assertEqual([b''.join(autrail_logs.pieces(it)) for it in found.files], want)
+            (self.folder / 'audit.log.3').unlink()
+            with self.assertRaises(basics.Refused) as refused:
+                b''.join(autrail_logs.pieces(found.files[0]))
+            self.assertEqual((refused.exception.status, str(refused.exception)),
+                             (4, f'{self.folder / "audit.log.2"}: the log was rotated meanwhile, and this file was packed or removed; ask again'))
+            for file in self.folder.iterdir():
+                file.unlink()
+
+    def test_a_prompt_shows_lines_of_a_log_that_was_rotated_since(self) -> None:
+        log = self.log(EXAMPLE.read_bytes())
+        child = subprocess.Popen([AUTRAIL, '-q', '--no-order', '-if', log, 'ask'], stdin=subprocess.PIPE, stdout=subprocess.PIPE, stderr=subprocess.PIPE, env=environment())
+        child.stdin.write(b'find /customers.csv\n')
+        child.stdin.flush()
+        child.stderr.readline()
+        log.rename(self.folder / 'audit.log.1')
+        log.write_bytes(b'')
+        out, err = child.communicate(b'why /customers.csv /tmp/.loot.tar --lines\n', timeout=120)
+        self.assertEqual((out.count(b'type=SYSCALL'), err), (2, b''))
+
     def test_standard_input_is_a_log(self) -> None:
-        done = run('-q', '-if', '-', 'find', '/customers.csv', stdin=gzip.compress(EXAMPLE.read_bytes()))
+        done = run('-q', '-if', '-', 'find', '/customers.csv', stdin=gzip.compress(EXAMPLE.read_bytes()), TMPDIR=str(self.folder))
         self.assertEqual((done.returncode, done.stdout), (0, b'#47     file     /customers.csv   file fe:00 19130 0\n'))
-        self.assertFalse(list(Path(tempfile.gettempdir()).glob('autrail-*')))
+        self.assertFalse(list(self.folder.iterdir()))
 
     def test_a_pipe_is_a_log(self) -> None:
         command = f'{shlex.quote(str(AUTRAIL))} -q -if <(cat {shlex.quote(str(EXAMPLE))}) stat --json'
@@ -411,6 +465,15 @@ class Rotated(Scratch):
 
 class Fitness(Scratch):
     """A warning before the answer says what a log isn't fit for."""
+
+    def test_lines_with_a_blank_before_the_colon_are_read_too(self) -> None:
+        """The program takes both forms of a header."""
+        text = opened_and(0, '"/tmp/in"', 7, 10) + opened_and(1, '"/tmp/out"', 8, 20, 'CREATE') + call(30, 57, exit=101) + call(40, 59, exit=0)
+        text += 'type=EXECVE msg=audit(1780992040.000:40): argc=1 a0="p"\n'
+        questions = 'stat\nshow pid:100\nwhy /tmp/in /tmp/out\nwhy /tmp/in /tmp/out --lines\n'
+        one, other = (asked(self.log(it), questions) for it in (text, text.replace('): ', ') : ')))
+        self.assertEqual(other.replace(') : ', '): '), one)
+        self.assertNotIn('warning', one)
 
     def test_each_fault_is_told(self) -> None:
         good = opened_and(0, '"/a"', 7, 1) + opened_and(1, '"/b"', 8, 3, 'CREATE') + call(5, 57, exit=101) + call(6, 59, exit=0)
@@ -1354,10 +1417,12 @@ class Ordered(Scratch):
         (self.folder / 'audit.log.2.gz').write_bytes(gzip.compress(b''.join(lines[:third])[:-1]))
         (self.folder / 'audit.log.1.xz').write_bytes(lzma.compress(b''.join(lines[third:2 * third])))
         (self.folder / 'audit.log').write_bytes(b''.join(lines[2 * third:]))
-        counts = json.loads(ordered(self.folder, 'stat', '--json')[1])
+        copies = self.folder / 'copies'
+        copies.mkdir()
+        counts = json.loads(ordered(self.folder, 'stat', '--json', TMPDIR=str(copies))[1])
         self.assertGreaterEqual(counts['lines'], len(lines))
         self.assertEqual((counts['late'], counts['malformed']), (0, 0))
-        self.assertFalse(list(Path(tempfile.gettempdir()).glob('autrail-*')))
+        self.assertFalse(list(copies.iterdir()))
 
     def test_a_program_that_fails_gives_no_answer(self) -> None:
         long = self.log(EXAMPLE.read_bytes() * 20, 'long.log')
@@ -1557,6 +1622,7 @@ ZONES = {
     'UTC': {'06/09/2026 08:01:00': 1780992060, 'now': 1781008245, 'recent': 1781007645, 'today': 1780963200, 'yesterday': 1780876800, 'this-week': 1780790400,
             'week-ago': 1780358400, 'this-month': 1780272000, 'this-year': 1767225600, 'this-hour': 1781006400, 'yesterday 14:00': 1780927200, '14:00': 1781013600,
             '10 min ago': 1781007645, '2 days ago': 1780835445, '3 hours ago': 1780997445, '2026-06-09T08:01': 1780992060, '2026-06-09 08:01:00': 1780992060,
+            '06/09/26 08:01:00': 1780992060, '6/9/26': 1780963200,
             '2026-06-09T08:01:00Z': 1780992060, '2026-06-09T08:01+02:00': 1780984860, '2026-06-09': 1780963200, '1780992060': 1780992060},
     'America/New_York': {'06/09/2026 08:01:00': 1781006460, 'today': 1780977600, 'this-month': 1780286400, 'this-year': 1767243600, 'this-week': 1780804800, '2026-06-09T08:01:00Z': 1780992060,
                          # the clocks went forward on 8 March at 2:00 and go back on 1 November at 2:00
@@ -1587,7 +1653,7 @@ class Words(Scratch):
 
     def test_parts_of_a_second(self) -> None:
         self.in_zone('UTC')
-        for words, at in {'1780992064.4': 1780992064400, '1.000': 1000, '1780992064.4567': 1780992064456, '2026-06-09 08:01:04.25': 1780992064250}.items():
+        for words, at in {'1780992064.4': 1780992064400, '1.000': 1000, '1780992064.4567': 1780992064456, '2026-06-09 08:01:04.25': 1780992064250, '06/09/26 08:01:04.424': 1780992064424}.items():
             self.assertEqual(times.moment(words), at, words)
         self.assertEqual(times.spelled(1001), '1.001')
         self.assertEqual(times.spelled(1780992064400), '1780992064.400')
@@ -1718,6 +1784,53 @@ for line in sys.stdin:
         done = subprocess.run(['bash', '-c', f'{words} | true; echo ${{PIPESTATUS[0]}}'], capture_output=True, env=environment(), check=False)
         self.assertIn(done.stdout, (b'141\n', b'0\n'))
         self.assertEqual(done.stderr.decode(), OF_THE_LOG)
+
+    def shell(self, command: str, **more: str) -> tuple[str, str]:
+        """What a command of bash's writes, in which $autrail is autrail with a log."""
+        words = ' '.join(shlex.quote(str(it)) for it in (AUTRAIL, '-q', '--no-order', '-if', EXAMPLE))
+        done = subprocess.run(['bash', '-c', f'autrail() {{ {words} "$@"; }}; {command}'], capture_output=True, env=environment(**more), check=False)
+        return done.stdout.decode(), done.stderr.decode()
+
+    def test_standard_streams_that_are_closed(self) -> None:
+        """No other file takes their numbers, no note goes into the answer, and status 1 would say that the log was asked."""
+        found = '#47     file     /customers.csv   file fe:00 19130 0\n'
+        for closed, out, err in (('<&-', found + '0', OF_THE_LOG), ('2>&-', found + '0', ''), ('2>/dev/full', found + '0', ''), ('<&- 2>&-', found + '0', ''),
+                                 ('>&-', '5', OF_THE_LOG + "autrail: the answer can't be written (Bad file descriptor)\n"), ('<&- >&- 2>&-', '5', '')):
+            self.assertEqual(self.shell(f'autrail find /customers.csv {closed}; echo $?'), (out + '\n', err), closed)
+        self.assertEqual(self.shell('autrail ask <&-; echo $?'), ('0\n', OF_THE_LOG))
+
+    def test_help_and_version_need_room_too(self) -> None:
+        for unbuffered in ('', '1'):
+            for word in ('--help', '--version'):
+                self.assertEqual(self.shell(f'autrail {word} >/dev/full; echo $?', PYTHONUNBUFFERED=unbuffered), ('5\n', "autrail: the answer can't be written (No space left on device)\n"))
+
+    def test_what_cannot_be_copied_is_said(self) -> None:
+        """A limit of one block, as bash counts them, stands for a full disk."""
+        log = self.log(repeated(300000))
+        store = shlex.quote(str(self.folder / 'host.store'))
+        out, err = self.shell(f'ulimit -f 1; {{ {shlex.quote(str(AUTRAIL))} keep {store} -if {shlex.quote(str(log))}; echo $?; }} 2>&1 | cat')
+        self.assertEqual((out, err), (f"autrail: {self.folder}/host.store.portion: it can't be written (File too large); nothing is lost, and the next run goes on\n5\n", ''))
+        out, err = self.shell(f'ulimit -f 1; {{ {shlex.quote(str(AUTRAIL))} -if - stat <{shlex.quote(str(log))}; echo $?; }} 2>&1 | cat')
+        self.assertEqual((out, err), ('autrail: the log comes through a pipe, and no copy of it can be made (File too large): set TMPDIR to a folder that has room for it\n5\n', ''))
+
+    def test_a_log_that_fails_when_it_is_read_is_a_read_fault(self) -> None:
+        with unittest.mock.patch('builtins.open', side_effect=OSError(5, 'Input/output error')), self.assertRaises(basics.Refused) as refused:
+            autrail_logs.logs_of([str(EXAMPLE)], contextlib.ExitStack())
+        self.assertEqual((refused.exception.status, str(refused.exception)), (4, f"{EXAMPLE}: the file can't be read (Input/output error)"))
+
+    def test_a_time_that_took_the_other_words_is_said(self) -> None:
+        for words in (('back', '--at', 'today', 'x'), ('fore', '--since', 'today', 'x'), ('why', '--at', 'today', 'x', 'y')):
+            done = run(*words)
+            self.assertEqual((done.returncode, done.stderr.count(b'\n')), (2, 1))
+            self.assertIn(b'a time is all words up to the next option, so it stands after what is asked about', done.stderr)
+        self.assertNotIn(b'a time is', run('back').stderr)
+
+    def test_nothing_is_no_name(self) -> None:
+        for words in (('find', ''), ('back', ''), ('why', '', '/customers.csv')):
+            self.assertEqual(run('-q', '-if', EXAMPLE, *words).returncode, 2, words)
+
+    def test_the_prompt_helps(self) -> None:
+        self.assertEqual(asked(EXAMPLE, 'help\n?\n'), 2 * f'{prompt.HELP}\n')
 
     def test_an_interrupt_ends_the_program_too(self) -> None:
         fifo = self.folder / 'pid'
@@ -1964,13 +2077,26 @@ class Scripts(Scratch):
         status, out, err = self.ended(self.start('audit_cli', 'back', '2'))
         self.assertEqual((status, out), (3, 'audit_cli: back 2\n'))
         self.assertIn('proving and building the program', err[0])
-        self.assertRegex(err[2], r'^audit_cli: a_crate is done after \d+ seconds$')
+        self.assertRegex(err[2], r'^audit_cli: a_crate is done after \d+ seconds, 1 of \d+ parts$')
         self.assertEqual(self.asked(), ['top: all check --jobs N', 'audit_cli: run -- back 0'])
         self.assertEqual(self.ended(self.start('audit_cli', 'x y')), (3, 'audit_cli: x y\n', []))
         self.assertEqual(len(self.asked()), 2)
         (self.top / 'crates' / 'audit_cli' / 'code').write_text('changed')
         self.assertEqual(self.ended(self.start('audit_cli'))[:2], (3, 'audit_cli:\n'))
         self.assertEqual(len(self.asked()), 4)
+
+    def test_while_nothing_is_done_it_says_that_it_is_at_work(self) -> None:
+        script = self.top / '.ci' / 'built_program'
+        script.write_text(script.read_text().replace('read -r -t 5', 'read -r -t 1').replace('-ge 60 ]', '-ge 1 ]'))
+        # The first line comes in two halves, and the time is up in between.
+        (self.folder / 'rt').write_text(RT.replace("echo '== a_crate'; sleep 1;", "printf '== a_'; sleep 3; echo crate; sleep 3;"))
+        status, _, err = self.ended(self.start('audit_cli'))
+        said = [re.sub(r'\d+ (seconds|of)', r'N \1', it) for it in err[2:]]
+        parts = len([it for it in (TOP / 'crates.txt').read_text().splitlines() if it and not it.startswith('#')])
+        self.assertEqual(status, 3)
+        self.assertEqual(list(dict.fromkeys(said)), [f'audit_cli: at work for N seconds, N of {parts} parts are done', f'audit_cli: a_crate is done after N seconds, N of {parts} parts'])
+        self.assertIn(f', 0 of {parts} parts are done', err[2])
+        self.assertIn(f', 1 of {parts} parts are done', err[-1])
 
     def test_the_forms_of_words_are_told_without_building(self) -> None:
         for name in ('audit_cli', 'audit_order'):
@@ -2007,7 +2133,7 @@ class Scripts(Scratch):
         self.assertEqual({'audit_cli: run -- back 0', 'audit_order: run'}, set(self.asked()) - {'top: all check --jobs N'})
         for says in ('the program says: audit_cli: ', 'audit_order says: audit_order: '):
             self.assertIn(f'autrail: {says}proving and building the program', done.stderr.decode())
-            self.assertRegex(done.stderr.decode(), rf'autrail: {says}a_crate is done after \d+ seconds\n')
+            self.assertRegex(done.stderr.decode(), rf'autrail: {says}a_crate is done after \d+ seconds, 1 of \d+ parts\n')
         self.assertTrue(done.stderr.decode().endswith(OF_EFFECTS))
 
     def test_what_is_not_proved_is_not_built(self) -> None:
@@ -2024,7 +2150,7 @@ class Scripts(Scratch):
             (tools / tool).symlink_to(shutil.which(tool))
         for name in ('audit_cli', 'audit_order'):
             status, out, err = self.ended(self.start(name, PATH=str(tools)))
-            self.assertEqual((status, out, err), (127, '', [f"{name}: the Rattle kit's command rt isn't on the PATH, and the program must be proved before it is built"]))
+            self.assertEqual((status, out, err), (127, '', [f"{name}: the Rattle kit's command rt isn't on the PATH, and the program must be proved before it is built; README.md says what is needed"]))
 
 
 class Gate(Scratch):

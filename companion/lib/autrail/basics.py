@@ -1,6 +1,7 @@
 """What every part needs: how a run ends, and text as it may reach a terminal."""
 from __future__ import annotations
 
+import os
 import sys
 from pathlib import Path
 from typing import NoReturn
@@ -38,8 +39,11 @@ def escape(c: str) -> str:
 
 
 def say(text: str) -> None:
-    """A note on standard error."""
-    print(f'autrail: {text}', file=sys.stderr, flush=True)
+    """A note on standard error. If it can't be written the answer is given all the same."""
+    try:
+        print(f'autrail: {text}', file=sys.stderr, flush=True)
+    except OSError:
+        os.dup2(os.open(os.devnull, os.O_WRONLY), sys.stderr.fileno())
 
 
 def many(count: int, one: str, more: str | None = None) -> str:

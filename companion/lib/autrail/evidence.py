@@ -20,7 +20,7 @@ ADMIN_PATH = os.environ.get('PATH', os.defpath) + ':/usr/sbin:/sbin'
 # The part of a file's mode that says what kind of file it is, and that of a regular file.
 KIND_OF_FILE, REGULAR = 0o170000, 0o100000
 # Where a serial number stands in a line.
-SERIAL = re.compile(rb'\.\d{3}:(\d{1,10})\):')
+SERIAL = re.compile(rb'\.\d{3}:(\d{1,10})\) ?:')
 
 
 @dataclass

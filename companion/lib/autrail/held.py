@@ -11,14 +11,13 @@ from typing import BinaryIO
 
 from .basics import bad_words, shown
 from .kept import Place
-from .logs import LogFile, PIECE, bad_log, files_of, must_be_readable, unpacked, without_doubles
+from .logs import LogFile, PIECE, RENAMING, bad_log, files_of, must_be_readable, unpacked, without_doubles
 from .stores import begins_as_a_store
 from .whole import WINDOW
 
 # This many first bytes tell a file of a log from another one: they have the time and serial number of its first record.
 START = 4096
-RENAMING = 20
-ANY_RECORD = re.compile(rb'^(?:node=\S+ )?type=\w+ msg=audit\((\d{1,15}\.\d{3}:\d{1,10})\):', re.MULTILINE)
+ANY_RECORD = re.compile(rb'^(?:node=\S+ )?type=\w+ msg=audit\((\d{1,15}\.\d{3}:\d{1,10})\) ?:', re.MULTILINE)
 
 
 class Held:

@@ -9,7 +9,7 @@ from dataclasses import asdict, dataclass
 from pathlib import Path
 from typing import BinaryIO, Iterator
 
-from .basics import NO_ANSWER, READ_FAULT, Refused, shown
+from .basics import NO_ANSWER, READ_FAULT, Refused, WRITE_FAULT, shown
 from .lines import NEEDED_CALLS
 from .signs import Signs
 from .times import clock
@@ -81,10 +81,14 @@ class Kept:
 @contextlib.contextmanager
 def written_beside(name: str) -> Iterator[BinaryIO]:
     """A new file for the owner alone, since it has what a log has. At the end it is on the disk."""
-    with open(os.open(name, os.O_RDWR | os.O_CREAT | os.O_TRUNC | os.O_CLOEXEC | os.O_NOFOLLOW, 0o600), 'w+b') as file:
-        yield file
-        file.flush()
-        os.fsync(file.fileno())
+    descriptor = os.open(name, os.O_RDWR | os.O_CREAT | os.O_TRUNC | os.O_CLOEXEC | os.O_NOFOLLOW, 0o600)
+    try:
+        with open(descriptor, 'w+b') as file:
+            yield file
+            file.flush()
+            os.fsync(file.fileno())
+    except OSError as fault:
+        raise fault if fault.filename else Refused(WRITE_FAULT, f'{shown(name)}: it can\'t be written ({fault.strerror}); nothing is lost, and the next run goes on')
 
 
 def on_the_disk(folder: str) -> None:

@@ -26,16 +26,16 @@ OUR_MACHINE = X86_64.encode()
 AFTER_TYPE = len('type=SYSCALL')
 READ_LINES = (b'type=SYSCALL ', b'type=EXECVE ', b'node=')
 CALL = re.compile(
-    rb'(?:node=(\S+) )?type=SYSCALL msg=audit\((\d{1,15})\.(\d{3}):(\d{1,10})\): arch=(\w{1,8}) syscall=(\d{1,10})'
+    rb'(?:node=(\S+) )?type=SYSCALL msg=audit\((\d{1,15})\.(\d{3}):(\d{1,10})\) ?: arch=(\w{1,8}) syscall=(\d{1,10})'
     rb'(?: per=\w+)?(?: success=(\w+))?[^\x1d]*? ppid=\d{1,10} pid=(\d{1,10})')
 STARTED = re.compile(rb' exit=(\d{1,10}) a0=([0-9A-Fa-f]{1,16}) ')
 # What is read of a call's line only if its process is shown.
 CALLER = re.compile(
     rb' ppid=(\d{1,10}) pid=\d{1,10}(?: auid=(\d{1,10}) uid=(\d{1,10}))?'
     rb'(?:[^\x1d]*? tty=(\S+) ses=(\d{1,10}))?(?:[^\x1d]*\x1d.*?AUID="([^"]*)" UID="([^"]*)")?')
-ARGUMENTS = re.compile(rb'(?:node=\S+ )?type=EXECVE msg=audit\((\d+\.\d{3}:\d+)\): ([^\x1d]*)')
+ARGUMENTS = re.compile(rb'(?:node=\S+ )?type=EXECVE msg=audit\((\d+\.\d{3}:\d+)\) ?: ([^\x1d]*)')
 ARGUMENT = re.compile(rb'(?:^|\s)a(\d{1,6})(?:\[\d+\])?=("[^"]*"|[0-9A-Fa-f]+)')
-HEADER = re.compile(rb'(?:node=\S+ )?type=\S+ msg=audit\((\d{1,15})\.(\d{3}):(\d{1,10})\):')
+HEADER = re.compile(rb'(?:node=\S+ )?type=\S+ msg=audit\((\d{1,15})\.(\d{3}):(\d{1,10})\) ?:')
 # The mark by which audit_order keeps the time that a line had, and a part that was rewritten.
 MARK = re.compile(rb'\x1dWAS=\{ audit\((\d{1,15})\.(\d{3}):\d{1,10}\)(?: \d{1,10} [^\x1d]*)? \}$')
 

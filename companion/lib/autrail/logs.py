@@ -13,22 +13,50 @@ import tempfile
 from dataclasses import dataclass, field
 from typing import BinaryIO, Iterable, Iterator, NoReturn, Sequence
 
-from .basics import MAY_NOT, READ_FAULT, Refused, bad_words, shown
+from .basics import MAY_NOT, READ_FAULT, Refused, WRITE_FAULT, bad_words, shown
 from .stores import begins_as_a_store
 
 DEFAULT_LOG = '/var/log/audit/audit.log'
 PIECE = 1 << 20
 
 
+# How often the names of a log's files are looked at again if auditd renames them meanwhile.
+RENAMING = 20
+
+
 @dataclass(frozen=True)
 class LogFile:
-    """One file of a log. The number is 0 for the newest file, and greater for older ones."""
+    """One file of a log. The number is 0 for the newest file, and greater for older ones. By the inode it is found if it was renamed since."""
     path: str
     number: int = 0
+    inode: tuple[int, int] | None = None
 
     def open(self) -> BinaryIO:
         """The file's bytes, unpacked if it begins as a packed file does."""
-        return unpacked(open(self.path, 'rb'))
+        for path in self.paths():
+            with contextlib.suppress(FileNotFoundError):
+                raw = open(path, 'rb')
+                if self.inode in (None, inode_of(os.fstat(raw.fileno()))):
+                    return unpacked(raw)
+                raw.close()
+        bad_log(self.path, 'the log was rotated meanwhile, and this file was packed or removed; ask again')
+
+    def paths(self) -> Iterator[str]:
+        """Where the file was, and then, if it isn't there, where it is now."""
+        yield self.path
+        for _ in range(RENAMING):
+            yield from (it.path for it in rotated(family(self.path)) if it.inode == self.inode)
+
+
+def inode_of(status: os.stat_result) -> tuple[int, int]:
+    """What stays the same of a file when it is renamed."""
+    return status.st_dev, status.st_ino
+
+
+def inode_at(path: str) -> tuple[int, int] | None:
+    with contextlib.suppress(OSError):
+        return inode_of(os.stat(path))
+    return None
 
 
 def unpacked(raw: BinaryIO) -> BinaryIO:
@@ -49,7 +77,16 @@ class Logs:
 
 
 def rotated(name: str) -> list[LogFile]:
-    """The files of one log, oldest first: audit.log.4.gz .. audit.log.1 audit.log."""
+    """The files of one log, oldest first: audit.log.4.gz .. audit.log.1 audit.log. If they are renamed meanwhile, they are looked at again."""
+    found = rotated_at_once(name)
+    for _ in range(RENAMING):
+        before, found = found, rotated_at_once(name)
+        if found == before:
+            break
+    return found
+
+
+def rotated_at_once(name: str) -> list[LogFile]:
     pattern = re.compile(re.escape(os.path.basename(name)) + r'(?:\.(\d+))?(?:\.(?:gz|xz|bz2))?')
     folder = os.path.dirname(name) or '.'
     found = []
@@ -59,7 +96,8 @@ def rotated(name: str) -> list[LogFile]:
         bad_log(folder, MAY_NOT)
     for entry in entries:
         if match := pattern.fullmatch(entry):
-            found.append(LogFile(os.path.join(os.path.dirname(name), entry), int(match[1] or 0)))
+            path = os.path.join(os.path.dirname(name), entry)
+            found.append(LogFile(path, int(match[1] or 0), inode_at(path)))
     return sorted(found, key=lambda it: -it.number)
 
 
@@ -79,15 +117,19 @@ def files_of(word: str, ends: contextlib.ExitStack) -> list[LogFile]:
         return rotated(os.path.join(word, 'audit.log')) or bad_log(word, 'no audit.log in this folder')
     number = re.search(r'\.(\d+)(?:\.(?:gz|xz|bz2))?$', word)
     if number:
-        return [LogFile(word, int(number[1]))]
-    return rotated(word) or [LogFile(word)]
+        return [LogFile(word, int(number[1]), inode_at(word))]
+    return rotated(word) or [LogFile(word, inode=inode_at(word))]
 
 
 def spooled(stream: BinaryIO, ends: contextlib.ExitStack) -> str:
     """A pipe as a file, since the log is read again for its lines. It is removed at the end."""
-    copy = ends.enter_context(tempfile.NamedTemporaryFile(prefix='autrail-'))
-    shutil.copyfileobj(stream, copy)
-    copy.flush()
+    try:
+        copy = ends.enter_context(tempfile.NamedTemporaryFile(prefix='autrail-'))
+        shutil.copyfileobj(stream, copy)
+        copy.flush()
+    except OSError as fault:
+        raise Refused(WRITE_FAULT, f'the log comes through a pipe, and no copy of it can be made ({fault.strerror or shown(str(fault))}): '
+                                   'set TMPDIR to a folder that has room for it') from None
     return copy.name
 
 

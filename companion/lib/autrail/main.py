@@ -41,6 +41,14 @@ def run(words: Sequence[str]) -> int:
         return ask(session) if options.command == 'ask' else answered(session, options)
 
 
+def run_to_its_end(words: Sequence[str]) -> int:
+    """The status of a run, also of one that ends after --help or --version."""
+    try:
+        return run(words)
+    except SystemExit as end:
+        return end.code
+
+
 def say_the_order(session: Session, options: argparse.Namespace) -> None:
     """Says in which order the answer is meant. Unless --order is given `stat` is about the log as it is, and says so itself."""
     if session.ordered or session.store is None and options.command != 'stat':
@@ -61,12 +69,29 @@ def bounds_are_times(options: argparse.Namespace) -> None:
         spelled(moment(' '.join(options.time)))
 
 
+def open_standard_streams() -> None:
+    """Opens the standard streams that autrail was started without: else a pipe or a log would get the number of one, and notes would go into the answer.
+
+    An answer can't be written to a standard output that wasn't there, and notes to such a standard error are lost.
+    """
+    for number, way in enumerate((os.O_RDONLY, os.O_RDONLY, os.O_WRONLY)):
+        try:
+            os.fstat(number)
+        except OSError:
+            os.set_inheritable(os.open(os.devnull, way), True)
+    sys.stdin = sys.stdin or open(0, encoding='utf-8')
+    sys.stdout = sys.stdout or open(1, 'w', encoding='utf-8')
+    sys.stderr = sys.stderr or open(2, 'w', encoding='utf-8')
+
+
 def main() -> int:
-    for stream in (sys.stdout, sys.stderr):
-        stream.reconfigure(errors='backslashreplace')
+    open_standard_streams()
+    # argparse passes over a fault of its own writing, so what it writes waits for the flush.
+    sys.stdout.reconfigure(errors='backslashreplace', write_through=False)
+    sys.stderr.reconfigure(errors='backslashreplace')
     signal.signal(signal.SIGTERM, lambda number, _: sys.exit(128 + number))
     try:
-        status = run(sys.argv[1:])
+        status = run_to_its_end(sys.argv[1:])
         sys.stdout.flush()
         return status
     except Refused as fault:

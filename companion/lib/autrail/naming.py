@@ -34,6 +34,8 @@ class Match:
 
 
 def candidates(session: Session, what: str) -> Match:
+    if not what:
+        bad_words('what is asked about is empty; name a path, a pattern, an address or a process')
     if match := re.fullmatch(r'#(\d{1,10})', what):
         return Match([session.numbered(int(match[1]))])
     prefix, _, rest = what.partition(':')
@@ -43,7 +45,7 @@ def candidates(session: Session, what: str) -> Match:
         key = f'process {match[1]} ' + (match[2] or '')
         return Match([it for it in session.everything() if it.key == key or not match[2] and it.key.startswith(key)], one_name=True)
     if prefix == 'exe':
-        return Match([it for it in session.named(rest) if it.kind == 'process'])
+        return Match([it for it in session.named(rest) if it.kind == 'process'] or running(session, rest))
     if match := re.fullmatch(r'inode:(\w+:\w+):(\d+)', what):
         key = f'file {match[1]} {match[2]} '
         return Match([it for it in session.everything() if it.key.startswith(key)], one_name=True)
@@ -75,6 +77,11 @@ def of_name(session: Session, name: str) -> list[Thing]:
     if HOST_AND_PORT.fullmatch(name) or name.startswith('unix:') or session.ordered and len(names) > 1:
         found |= {it for it in session.everything() if it.kind == 'address' and any(place_of(each) in names for each in it.names)}
     return sorted(found, key=lambda it: it.number)
+
+
+def running(session: Session, what: str) -> list[Thing]:
+    """The processes that ran a program of this base name, or of a name of this pattern."""
+    return [it for it in session.everything() if it.kind == 'process' and any(os.path.basename(name) == what or fnmatch.fnmatchcase(name, what) for name in it.names)]
 
 
 def alike(session: Session, what: str) -> list[Thing]:

@@ -5,9 +5,9 @@ import argparse
 import re
 from typing import Callable, NoReturn, Sequence
 
-from .basics import MODES, VERSION, bad_words, shown
+from .basics import MODES, Refused, VERSION, bad_words, shown
 from .logs import DEFAULT_LOG
-from .trees import MOST_PATHS
+from .trees import MANY, MOST_OF_MANY, MOST_PATHS
 
 
 class Parser(argparse.ArgumentParser):
@@ -73,7 +73,8 @@ def add_reach(commands, shared: argparse.ArgumentParser, name: str, time: str, t
     command.add_argument('-a', '--all', action='store_true', help='hide nothing')
     command.add_argument('--hide', action='append', default=[], metavar='PATTERN', help='hide these too')
     command.add_argument('--each', action='store_true', help='answer for every object that WHAT may mean')
-    command.add_argument('--paths', type=count, default=MOST_PATHS, metavar='N', help=f'the most paths that a tree or picture is made of ({MOST_PATHS})')
+    command.add_argument('--paths', type=count, metavar='N',
+                         help=f'the most paths that a tree or picture is made of ({MOST_PATHS}, or {MOST_OF_MANY} if the answer has more than {MANY:,} objects)')
     form = command.add_mutually_exclusive_group()
     form.add_argument('--tree', action='store_true', help='one path for each object, as a tree with times')
     form.add_argument('--json', action='store_true', help='a line of JSON for each object')
@@ -106,7 +107,12 @@ def ending(suffix: str) -> Callable[[str], str]:
 
 
 def options_of(words: Sequence[str]) -> argparse.Namespace:
-    options = parser().parse_args(words)
+    try:
+        options = parser().parse_args(words)
+    except Refused as fault:
+        if 'arguments are required' in str(fault) and {'--at', '--since'} & set(words):
+            bad_words(f'{fault}; a time is all words up to the next option, so it stands after what is asked about')
+        raise
     if getattr(options, 'interpret', False):
         options.lines = True
     for name, value in (('input', []), ('store', None), ('mode', None), ('quiet', False), ('order', None), ('program', None)):

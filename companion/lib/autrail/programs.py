@@ -21,6 +21,8 @@ from .logs import Logs, PIECE, pieces
 # The command of fcntl that sets how many bytes a pipe holds; Python has a name for it from 3.10 on.
 F_SETPIPE_SZ = 1031
 TAKE = 1 << 22
+# How many questions are asked at once.
+AT_ONCE = 200
 
 
 def program_words(option: str | None) -> list[str]:
@@ -146,26 +148,33 @@ class Program:
         return self.ask_all([question])[0]
 
     def ask_all(self, questions: Sequence[str]) -> list[dict]:
-        """The replies to some questions. They are few enough for a pipe, so that neither side waits for the other."""
-        replies = []
-        for start in range(0, len(questions), 200):
-            some = questions[start:start + 200]
-            try:
-                self.process.stdin.write(b''.join(os.fsencode(it) + b'\n' for it in some))
-                self.process.stdin.flush()
-            except BrokenPipeError:
-                self.ended()
-            replies += [self.reply(it) for it in some]
-        return replies
+        """The replies to some questions. While the program answers some, those before are read; both together are few enough for a pipe."""
+        replies: list[dict] = []
+        asked: Sequence[str] = []
+        for start in range(0, len(questions), AT_ONCE):
+            some = questions[start:start + AT_ONCE]
+            self.write(some)
+            replies += self.replies(asked)
+            asked = some
+        return replies + self.replies(asked)
 
-    def reply(self, question: str) -> dict:
-        line = self.process.stdout.readline()
-        if not line.endswith(b'\n'):
+    def write(self, questions: Sequence[str]) -> None:
+        try:
+            self.process.stdin.write(b''.join(os.fsencode(it) + b'\n' for it in questions))
+            self.process.stdin.flush()
+        except BrokenPipeError:
             self.ended()
-        reply = json.loads(line)
-        if reply.get('error') == 'BadQuestion':
-            bad_words(f'this program doesn\'t answer {question.split()[0]!r}; autrail {VERSION} needs a later one')
-        return reply
+
+    def replies(self, questions: Sequence[str]) -> list[dict]:
+        """A reply to each of these questions. All are read as one list, since that takes less time than line by line."""
+        lines = [self.process.stdout.readline() for _ in questions]
+        if not all(it.endswith(b'\n') for it in lines):
+            self.ended()
+        replies = json.loads(b'[' + b','.join(lines) + b']')
+        for question, reply in zip(questions, replies):
+            if reply.get('error') == 'BadQuestion':
+                bad_words(f'this program doesn\'t answer {question.split()[0]!r}; autrail {VERSION} needs a later one')
+        return replies
 
     def ended(self) -> NoReturn:
         status = self.process.wait()

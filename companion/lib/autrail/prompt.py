@@ -10,6 +10,8 @@ from .commands import ASKED, answered
 from .options import options_of
 from .session import Session
 
+HELP = 'commands: ' + ', '.join(ASKED) + '; quit, or Ctrl-D, ends; "autrail back --help" and the like have their options'
+
 
 def ask(session: Session) -> int:
     """Commands at a prompt, over a log that is read once."""
@@ -18,13 +20,15 @@ def ask(session: Session) -> int:
     readline.set_completer(Completion(it for thing in session.everything() for it in thing.known_as))
     readline.parse_and_bind('tab: complete')
     if sys.stdin.isatty():
-        print('commands: ' + ', '.join(ASKED) + '; quit, or Ctrl-D, ends')
+        print(HELP)
     while True:
         try:
             words = words_of(input('autrail> ' if sys.stdin.isatty() else ''))
             if words in (['quit'], ['exit']):
                 break
-            if words:
+            if words in (['help'], ['?']):
+                print(HELP)
+            elif words:
                 run_asked(session, words)
         except EOFError:
             break

@@ -12,7 +12,7 @@ from .processes import READ_FROM_LOG, process_lines, tell_processes
 from .session import Session
 from .things import Thing
 from .times import bound_of
-from .trees import tree_lines, tree_of, without_hidden
+from .trees import most_paths, tree_lines, tree_of, without_hidden
 from .trust import blind_spots, order_of
 
 KINDS = {'process': 'processes', 'file': 'files', 'path': 'paths without a file number', 'address': 'addresses',
@@ -63,11 +63,12 @@ def nothing_else(session: Session, hidden: Hidden) -> str:
 def show_tree(session: Session, options: argparse.Namespace, root: Thing, things: list[Thing], hidden: Hidden, bound: str) -> None:
     back = options.command == 'back'
     visible = [it.number for it in things if it.number not in hidden and it.number != root.number]
-    tree = tree_of(session, root.number, visible, back, bound, options.paths)
+    most = options.paths or most_paths(len(things))
+    tree = tree_of(session, root.number, visible, back, bound, most)
     tree.root = without_hidden(tree, hidden)
     notes = [f'one path for each of {many(len(visible) - len(tree.left_out), "object")}', *sources_alone(session, back), *hidden.texts()]
     if tree.left_out:
-        notes.append(f'{many(len(tree.left_out), "object")} of the answer left out, since {many(options.paths, "path")} were asked for; --paths N asks for more')
+        notes.append(f'{many(len(tree.left_out), "object")} of the answer left out, since {many(most, "path")} were asked for; --paths N asks for more')
     if tree.without:
         notes.append('in the answer, with no path shown: ' + ', '.join(f'#{it} {session.thing(it).label}' for it in tree.without))
     if options.tree:

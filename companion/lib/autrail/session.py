@@ -93,9 +93,9 @@ class Session:
         return self.of(range(self.known))
 
     def named(self, name: str) -> list[Thing]:
-        """The objects that have exactly this name."""
+        """The objects that have exactly this name. In a reply U+FFFD stands for a byte that isn't UTF-8, so a name with it is looked for among the replies."""
         question = f'find {name}'
-        if '\n' in name or not name or len(os.fsencode(question)) > LONGEST_QUESTION:
+        if '\n' in name or '\ufffd' in name or not name or len(os.fsencode(question)) > LONGEST_QUESTION:
             return [it for it in self.everything() if name in it.names]
         return self.of(self.program.ask(question)['ids'])
 

@@ -13,8 +13,11 @@ NO_LINES = 'a store has no lines of its own; name the log by -if beside --store'
 
 
 def head_of(path: str, length: int) -> bytes:
-    with open(path, 'rb') as file:
-        return file.read(length)
+    try:
+        with open(path, 'rb') as file:
+            return file.read(length)
+    except OSError as fault:
+        raise Refused(READ_FAULT, f'{shown(path)}: the file can\'t be read ({fault.strerror})') from None
 
 
 def begins_as_a_store(path: str) -> bool:

@@ -55,7 +55,8 @@ def day_of(text: str, now: datetime) -> datetime:
              'this-month': day.replace(day=1), 'this-year': day.replace(month=1, day=1), 'this-hour': now.replace(minute=0, second=0, microsecond=0)}
     if text in words:
         return words[text]
-    return datetime.strptime(text, '%m/%d/%Y' if '/' in text else '%Y-%m-%d')
+    # ausearch -i writes a year in two digits.
+    return datetime.strptime(text, '%m/%d/%y' if re.fullmatch(r'\d+/\d+/\d\d', text) else '%m/%d/%Y' if '/' in text else '%Y-%m-%d')
 
 
 def on_clock(day: datetime, clock: str) -> int:

@@ -11,8 +11,9 @@ from .session import Session
 from .things import Step
 from .times import clock
 
-# How many paths a tree is made of. Each of them takes the program a pass over the rows.
-MOST_PATHS = 300
+# The most paths that a tree is made of. For each path the program walks over everything from which the path's end can have come, so a tree out of many
+# objects is made of fewer.
+MOST_PATHS, MOST_OF_MANY, MANY = 300, 100, 3000
 SOME_PATHS = 10
 
 
@@ -42,6 +43,11 @@ class Tree:
     back: bool
     without: list[int]
     left_out: list[int]
+
+
+def most_paths(objects: int) -> int:
+    """Of how many paths a tree out of this many objects is made, unless --paths says it."""
+    return MOST_OF_MANY if objects > MANY else MOST_PATHS
 
 
 def tree_of(session: Session, root: int, numbers: Sequence[int], back: bool, bound: str, most: int) -> Tree:
