@@ -5,10 +5,11 @@ ghost use Rattle.audit_order.specs.Halts.{HasCauses, GoesUp};
 ghost use Rattle.audit_order.specs.Sorted.{Sorts, Goes, any_is_past};
 
 use crate::halt::Halt;
-use crate::sorter::{Sorter, hold, is_over, is_ripe, write_end, write_least};
+use crate::sorter::{Sorter, hold, is_over, is_ripe, read_line, write_end, write_least};
 use crate::taker::Taker;
 use crate::writer::CHUNK;
 use flow_base::Bytes;
+use order_queue::Noted;
 use outside::Sink;
 
 // Hands on what was written, if it is much.
@@ -88,10 +89,11 @@ impl Taker for Sorter {
 
     // The line waits for its turn, and lines whose turn it is are written.
     fn take_line<O: Sink>(&mut self, sink: &mut O, line: Bytes) -> Result<(), Halt> {
-        let place = self.places.place_of(line.as_slice())?;
-        release_before(self, sink, place.starts)?;
+        let read = read_line(&mut self.places, line.as_slice())?;
+        release_before(self, sink, read.place.starts)?;
         make_room(self, sink, line.as_slice().len() as u64)?;
-        hold(self, place, line)?;
+        let noted = Noted::new(line, read.marks, read.note);
+        hold(self, read.place, noted)?;
         release_past(self, sink)
     }
 }

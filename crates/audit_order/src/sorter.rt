@@ -1,5 +1,8 @@
 //! The sorter: lines that wait for their turn, and what is written of them.
 ghost use Rattle.std.specs.Prelude.{◌≡◌, ◌+◌, ◌-◌, ◌<◌, ◌≤◌, ◌^◌, [], List, ℕ, Option, true, false, length, IfOk, OnOk};
+ghost use Rattle.order_calls.specs.Reads.{IsRead};
+ghost use Rattle.order_rules.specs.Notes.{IsNoted};
+ghost use Rattle.order_queue.specs.Marks.{AreMarks};
 ghost use Rattle.audit_order.specs.Start.{Start};
 ghost use Rattle.audit_order.specs.Course.{Gives, Keeps};
 ghost use Rattle.audit_order.specs.Sorted.{Sorts, Moves, Holds, counts_of, is_past, any_is_past};
@@ -10,10 +13,13 @@ use crate::counts::{Counts, Tally};
 use crate::end::{End, is_call};
 use crate::switches::Switches;
 use crate::writer::Writer;
+use audit_lex::UsedLine;
 use flow_base::{Bytes, NoMemory};
+use order_calls::read_call;
 use order_place::{Place, Places};
-use order_queue::{Queue, Waiting};
-use order_text::read_stamp;
+use order_queue::{Marks, Noted, Queue, Waiting, marks_of};
+use order_rules::{Note, note_of};
+use order_text::{Stamp, read_stamp};
 use std::alloc::Global;
 
 /// The event whose lines are written now, and the record of its call, if it is a call's event without an end so far.
@@ -22,7 +28,7 @@ pub struct Turn {
     pub ms: u64,
     pub serial: u32,
     pub node: Bytes,
-    pub call: Option<Bytes>,
+    pub call: Option<Noted>,
 }
 
 /// What was seen, what waits, and what is written.
@@ -141,7 +147,7 @@ fn is_of(turn: &Turn, item: &Waiting) -> bool
 }
 
 // The record of a call is held until its event has an end, and a line that ends the event is one.
-fn note_end(turn: &mut Turn, rank: u8, calls: bool, line: Bytes) {
+fn note_end(turn: &mut Turn, rank: u8, calls: bool, line: Noted) {
     if rank > 0 {
         turn.call = None;
     } else if calls {
@@ -159,8 +165,8 @@ fn write_item(sorter: &mut Sorter, item: Waiting) -> Result<(), NoMemory>
 {
     turn_to(sorter, &item)?;
     let line = item.line.as_slice();
-    let stamp = read_stamp(line);
-    sorter.writer.write(line, &stamp)?;
+    let stamp = item.line.stamp();
+    sorter.writer.write(line, &stamp, item.line.note())?;
     let calls = is_call(&stamp);
     note_end(&mut sorter.turn, item.rank, calls, item.line);
     Ok(())
@@ -179,8 +185,41 @@ pub fn write_least(sorter: &mut Sorter) -> Result<(), NoMemory>
     }
 }
 
+/// What was read of a line when it came.
+#[derive(Drop)]
+pub struct Read {
+    pub place: Place,
+    pub marks: Option<Marks>,
+    pub note: Option<Note>,
+}
+
+/// What is read of the next line. Its stamp is read once, and the record of a call too, for its place and for the rules.
+pub fn read_line(places: &mut Places, line: &[u8]) -> Result<Read, NoMemory>
+    ensures marks { IfOk result (λ read. AreMarks read.marks line.now) }
+    ensures note { IfOk result (λ read. IsNoted read.note line.now) }
+{
+    let stamp = read_stamp(line);
+    let used = read_if(line, &stamp);
+    let place = places.place_read(line, &stamp, &used)?;
+    Ok(Read {
+        place,
+        marks: marks_of(&stamp),
+        note: note_of(&used),
+    })
+}
+
+// A line as it was read, if it is the record of a call by its stamp.
+fn read_if<'a>(line: &'a [u8], stamp: &Option<Stamp<'a>>) -> Option<UsedLine<'a>>
+    ensures { IsRead line.now result }
+{
+    match stamp {
+        None => None,
+        Some(stamp) => read_call(line, stamp.front),
+    }
+}
+
 /// Holds a line of this place.
-pub fn hold(sorter: &mut Sorter, place: Place, line: Bytes) -> Result<(), NoMemory>
+pub fn hold(sorter: &mut Sorter, place: Place, line: Noted) -> Result<(), NoMemory>
     requires fits { sorter.old.queue.bytes + length line < 2 ^ 64 }
     ensures holds { OnOk result (Holds sorter.old sorter.new line) }
     ensures bounds { sorter.new.bounds ≡ sorter.old.bounds }

@@ -7,6 +7,7 @@ ghost use Rattle.outside.specs.Cause.{Rose};
 ghost use Rattle.audit_order.specs.Halts.{HasCauses, GoesUp};
 ghost use Rattle.order_text.specs.declared.rewrite.Rewrite.{Rewrite};
 ghost use Rattle.order_lines.specs.Rules.{or_else};
+ghost use Rattle.order_rules.specs.Notes.{IsNoted};
 ghost use Rattle.audit_order.specs.Shown.{Latest, later_of, change_alone};
 ghost use Rattle.audit_order.specs.Lines.{wrote, Asks, Writes, Adds, IsBlank, more_if};
 
@@ -15,7 +16,7 @@ use crate::halt::Halt;
 use crate::switches::Switches;
 use flow_base::{Bytes, NoMemory};
 use order_lines::rewrite_of;
-use order_rules::Rules;
+use order_rules::{Note, Rules};
 use order_text::{Rewrite, Stamp, read_stamp, write_stamped};
 use outside::{Sink, put_all};
 use std::alloc::Global;
@@ -108,26 +109,39 @@ impl Writer {
     pub fn write_added(&mut self, line: &[u8]) -> Result<(), NoMemory>
         ensures { OnOk result (Adds self.old self.new line.now) }
     {
-        self.write(line, &read_stamp(line))?;
+        self.write(line, &read_stamp(line), None)?;
         count_one(&mut self.added)
     }
 
-    /// Writes a line of this stamp. Its time is raised if it would fall, and it is rewritten if a rule says so.
-    pub fn write(&mut self, line: &[u8], stamp: &Option<Stamp<'_>>) -> Result<(), NoMemory>
+    /// Writes a line of this stamp, of which something may have been noted. Its time is raised if it would fall, and it is rewritten
+    /// if a rule says so.
+    pub fn write(
+        &mut self,
+        line: &[u8],
+        stamp: &Option<Stamp<'_>>,
+        note: Option<Note>,
+    ) -> Result<(), NoMemory>
+        requires noted { IsNoted note line.now }
         requires is { option_map stamp_seen stamp.now ≡ stamp_of line.now }
         requires timed { IfSome stamp.now (λ s. time_of s.time.now ≡ Some s.ms) }
         ensures { OnOk result (Writes self.old self.new line.now) }
     {
-        let change = self.ask(line, stamp)?;
+        let change = self.ask(line, stamp, note)?;
         self.put(line, stamp, change)
     }
 
     // How a line of this stamp is rewritten.
-    fn ask(&mut self, line: &[u8], stamp: &Option<Stamp<'_>>) -> Result<Option<Rewrite>, NoMemory>
+    fn ask(
+        &mut self,
+        line: &[u8],
+        stamp: &Option<Stamp<'_>>,
+        note: Option<Note>,
+    ) -> Result<Option<Rewrite>, NoMemory>
+        requires noted { IsNoted note line.now }
         requires is { option_map stamp_seen stamp.now ≡ stamp_of line.now }
         ensures { IfOk result (Asks self.old self.new line.now) }
     {
-        let found = self.rules.see_read(line, stamp)?;
+        let found = self.rules.see_read(line, stamp, note)?;
         let alone = alone(self.alloc, self.switches, stamp)?;
         Ok(or_else(alone, found))
     }

@@ -1,3 +1,5 @@
 pub mod Deeds
 pub mod Known
 pub mod Lines
+pub mod Minor
+pub mod Reads

@@ -1,5 +1,5 @@
 //! Which descriptors are known to be regular files, by what lines said.
-ghost use Rattle.std.specs.Prelude.{◌≡◌, ℕ, List, [], ◌∷◌, None, Some, false, IfOk, OnOk, if◌then◌else◌};
+ghost use Rattle.std.specs.Prelude.{◌≡◌, ℕ, List, [], ◌∷◌, None, Some, false, is_some, IfOk, OnOk, if◌then◌else◌};
 ghost use Rattle.std.specs.Map.{lookup};
 ghost use Rattle.order_calls.specs.Deeds.{Event, Said, is_same, is_at, told, copy_of, given};
 ghost use Rattle.order_calls.specs.Known.{nothing, fds_at, held_at, is_file_at, opened_at, Keeps, Becomes, Hears, StandsFor};
@@ -67,6 +67,13 @@ impl Files {
             Some(held) => held.get(fd),
             None => None,
         }
+    }
+
+    /// Whether the call of an event opened a descriptor of whose kind nothing was said so far.
+    pub fn awaits(&self, ms: u64, serial: u32) -> bool
+        ensures { result ≡ is_some (opened_at self.now (ms, serial)) }
+    {
+        self.opens.get(&(ms, serial)).is_some()
     }
 
     /// A line of an event said this.

@@ -9,9 +9,11 @@ mod call;
 mod deed;
 mod files;
 mod held;
+mod minor;
 mod mode;
 mod reading;
 
 pub use call::{Call, Takes};
 pub use deed::Deed;
 pub use files::Files;
+pub use reading::read_call;

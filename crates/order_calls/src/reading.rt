@@ -1,14 +1,16 @@
 //! What a line says: its call, and what it does to descriptors.
-ghost use Rattle.std.specs.Prelude.{◌≡◌, ◌<◌, ◌++◌, List, IfOk, OnOk, nat_eq};
+ghost use Rattle.std.specs.Prelude.{◌≡◌, ◌<◌, ◌++◌, List, IfOk, OnOk, codes, nat_eq};
 ghost use Rattle.std.specs.List.{list_any};
 ghost use Rattle.audit_lex.specs.FieldTable.{name_of};
 ghost use Rattle.order_calls.specs.Deeds.{Said};
 ghost use Rattle.order_calls.specs.Known.{is_file_at, StandsFor};
 ghost use Rattle.order_calls.specs.Lines.{text_in, number_in, hex_in, is_native, is_done, opens, closes, copies, copies_from, opens_socket, lacks, is_apart, forks, begins, runs, waiting, deed_with, deed_in, deed_of_path, deed_of_kind, call_in, call_of_kind, takes_from, HearsKind, HearsLine, saying, deed_of};
+ghost use Rattle.order_calls.specs.Reads.{IsRead};
 
 use crate::call::{Call, Takes};
 use crate::deed::Deed;
 use crate::files::Files;
+use crate::minor::is_minor;
 use crate::mode::has_file_mode;
 use audit_lex::{Field, Kind, Lexed, UsedLine, dec32, hex32, lex};
 use flow_base::NoMemory;
@@ -23,6 +25,37 @@ impl Files {
         ensures stands { OnOk result ((before : List Said) → StandsFor self.old before
             → StandsFor self.new (saying (ms, serial) (deed_of line.now) ++ before)) }
     {
+        self.see_read(line, &None, ms, serial)
+    }
+
+    /// The same, of a line that may have been read.
+    pub fn see_read(
+        &mut self,
+        line: &[u8],
+        used: &Option<UsedLine<'_>>,
+        ms: u64,
+        serial: u32,
+    ) -> Result<Option<Call>, NoMemory>
+        requires is { IsRead line.now used.now }
+        ensures hears { IfOk result (HearsLine self.old self.new line.now (ms, serial)) }
+        ensures stands { OnOk result ((before : List Said) → StandsFor self.old before
+            → StandsFor self.new (saying (ms, serial) (deed_of line.now) ++ before)) }
+    {
+        match used {
+            Some(used) => self.see_used(used, ms, serial),
+            None => self.see_unread(line, ms, serial),
+        }
+    }
+
+    // The same, of a line that wasn't read. It needn't be if nothing that it can say would change what is known.
+    fn see_unread(&mut self, line: &[u8], ms: u64, serial: u32) -> Result<Option<Call>, NoMemory>
+        ensures hears { IfOk result (HearsLine self.old self.new line.now (ms, serial)) }
+        ensures stands { OnOk result ((before : List Said) → StandsFor self.old before
+            → StandsFor self.new (saying (ms, serial) (deed_of line.now) ++ before)) }
+    {
+        if is_minor(line) && !self.awaits(ms, serial) {
+            return Ok(None);
+        }
         match lex(line, LINE) {
             Lexed::Used(used) => self.see_used(&used, ms, serial),
             _ => Ok(None),
@@ -50,6 +83,19 @@ impl Files {
                 Ok(call)
             }
         }
+    }
+}
+
+/// A line as it was read, if it is a used record of a call, by what stands before its stamp.
+pub fn read_call<'a>(line: &'a [u8], front: &[u8]) -> Option<UsedLine<'a>>
+    ensures { IsRead line.now result }
+{
+    if !front.ends_with(b"type=SYSCALL msg=audit") {
+        return None;
+    }
+    match lex(line, LINE) {
+        Lexed::Used(used) => Some(used),
+        _ => None,
     }
 }
 
@@ -143,48 +189,38 @@ fn deed_in(used: &UsedLine<'_>) -> Option<Deed>
     if !is_done(used) {
         return None;
     }
-    deed_with(
-        number,
-        pid,
-        number_in(used, Field::Ppid),
-        number_in(used, Field::Exit),
-        hex_in(used, Field::A0),
-        hex_in(used, Field::A1),
-    )
+    deed_with(used, number, pid)
 }
 
-// What a call did that has succeeded, by its number, its process and that one's parent, its answer and its arguments.
-fn deed_with(
-    number: u32,
-    pid: u32,
-    parent: Option<u32>,
-    answer: Option<u32>,
-    first: Option<u32>,
-    second: Option<u32>,
-) -> Option<Deed>
-    ensures { result ≡ deed_with number pid parent answer first second }
+// What a call did that has succeeded, by its number, its process, its answer and its arguments.
+fn deed_with(used: &UsedLine<'_>, number: u32, pid: u32) -> Option<Deed>
+    ensures { result ≡ deed_with number pid
+        (number_in used.now.line.now (codes "ppid")) (number_in used.now.line.now (codes "exit"))
+        (hex_in used.now.line.now (codes "a0")) (hex_in used.now.line.now (codes "a1")) }
 {
     if opens(number) {
-        return Some(Deed::Opens { pid, fd: answer? });
+        let fd = number_in(used, Field::Exit)?;
+        return Some(Deed::Opens { pid, fd });
     }
     if closes(number) {
-        return Some(Deed::Closes { pid, fd: first? });
+        let fd = hex_in(used, Field::A0)?;
+        return Some(Deed::Closes { pid, fd });
     }
-    if copies(number, second) {
-        return copies_from(pid, first, answer);
+    if copies(number, hex_in(used, Field::A1)) {
+        return copies_from(pid, hex_in(used, Field::A0), number_in(used, Field::Exit));
     }
     if opens_socket(number) {
-        return Some(Deed::Closes { pid, fd: answer? });
+        let fd = number_in(used, Field::Exit)?;
+        return Some(Deed::Closes { pid, fd });
     }
-    if forks(number, first) {
-        return Some(Deed::Forks {
-            pid,
-            parent,
-            child: answer?,
-        });
+    if forks(number, hex_in(used, Field::A0)) {
+        let child = number_in(used, Field::Exit)?;
+        let parent = number_in(used, Field::Ppid);
+        return Some(Deed::Forks { pid, parent, child });
     }
     if begins(number) {
-        return Some(Deed::Begins { pid: answer? });
+        let child = number_in(used, Field::Exit)?;
+        return Some(Deed::Begins { pid: child });
     }
     if runs(number) {
         return Some(Deed::Runs { pid });

@@ -1,11 +1,13 @@
 //! What was seen of a node: the times of its processes and of its events.
 ghost use Rattle.std.specs.Prelude.{◌≡◌, ℕ, [], IfOk, OnOk, min};
+ghost use Rattle.order_calls.specs.Reads.{IsRead};
 ghost use Rattle.order_text.specs.Seen.{stamp_seen};
 ghost use Rattle.order_place.specs.Sights.{StandsFor};
 ghost use Rattle.order_place.specs.Nodes.{fresh, booted};
 ghost use Rattle.order_place.specs.Places.{call_at, own_time, SeesNext, Forgets, HoldsEvent, event_time, first_time, call_time, calls_after};
 
 use crate::clock::Clock;
+use audit_lex::UsedLine;
 use flow_base::NoMemory;
 use order_calls::{Call, Files, Takes};
 use order_text::Stamp;
@@ -69,12 +71,18 @@ impl Node {
         self.calls.clear();
     }
 
-    /// The time at which the next line counts.
-    pub fn see(&mut self, line: &[u8], stamp: &Stamp<'_>) -> Result<u64, NoMemory>
+    /// The time at which the next line counts, which may have been read.
+    pub fn see(
+        &mut self,
+        line: &[u8],
+        used: &Option<UsedLine<'_>>,
+        stamp: &Stamp<'_>,
+    ) -> Result<u64, NoMemory>
+        requires is { IsRead line.now used.now }
         ensures { IfOk result (λ time.
             SeesNext self.old self.new (stamp_seen stamp.now) line.now time) }
     {
-        let call = self.files.see(line, stamp.ms, stamp.number)?;
+        let call = self.files.see_read(line, used, stamp.ms, stamp.number)?;
         let clock = self.clock.after(stamp.ms, stamp.number);
         let time = self.time_of(call, stamp, clock.time)?;
         self.clock = clock;

@@ -1,5 +1,6 @@
 //! Places, by what was seen before.
-ghost use Rattle.std.specs.Prelude.{◌≡◌, ◌++◌, ℕ, List, [], Some, false, drop, IfOk, OnOk};
+ghost use Rattle.std.specs.Prelude.{◌≡◌, ◌++◌, ℕ, List, [], Some, false, drop, option_map, IfOk, OnOk};
+ghost use Rattle.order_calls.specs.Reads.{IsRead};
 ghost use Rattle.order_text.specs.Seen.{stamp_seen};
 ghost use Rattle.order_text.specs.Stamp.{stamp_of, line_of};
 ghost use Rattle.order_place.specs.Places.{rank_of, node_of, is_boot, read_as, SeesNext};
@@ -7,6 +8,7 @@ ghost use Rattle.order_place.specs.Nodes.{is_node, node_at, begun, HasPlace, Kee
 
 use crate::node::Node;
 use crate::nodes::Nodes;
+use audit_lex::UsedLine;
 use flow_base::{Bytes, NoMemory};
 use order_lines::{Settings, rewrite_of};
 use order_text::{Rewrite, Stamp, at_first, read_stamp};
@@ -103,14 +105,37 @@ impl Places {
         ensures sees { IfOk result
             (SeesLine self.old self.new (stamp_of line.now) line.now) }
     {
-        if let Some(stamp) = read_stamp(line) {
-            self.see(line, &stamp)?;
+        self.place_read(line, &read_stamp(line), &None)
+    }
+
+    /// The place of the next line, whose stamp was read. The line may have been read too.
+    pub fn place_read(
+        &mut self,
+        line: &[u8],
+        stamp: &Option<Stamp<'_>>,
+        used: &Option<UsedLine<'_>>,
+    ) -> Result<Place, NoMemory>
+        requires is { option_map stamp_seen stamp.now ≡ stamp_of line.now }
+        requires read { IsRead line.now used.now }
+        ensures place { IfOk result (HasPlace self.old (stamp_of line.now)) }
+        ensures last { IfOk result (λ place. self.new.last ≡ place) }
+        ensures sees { IfOk result
+            (SeesLine self.old self.new (stamp_of line.now) line.now) }
+    {
+        if let Some(stamp) = stamp {
+            self.see(line, used, stamp)?;
         }
         self.last.copy()
     }
 
     // A line of this stamp is the last one.
-    fn see(&mut self, line: &[u8], stamp: &Stamp<'_>) -> Result<(), NoMemory>
+    fn see(
+        &mut self,
+        line: &[u8],
+        used: &Option<UsedLine<'_>>,
+        stamp: &Stamp<'_>,
+    ) -> Result<(), NoMemory>
+        requires read { IsRead line.now used.now }
         ensures place { OnOk result
             (HasPlace self.old (Some (stamp_seen stamp.now)) self.new.last) }
         ensures sees { OnOk result (SeesLine
@@ -120,7 +145,7 @@ impl Places {
         let mut node = self.take_node(&name);
         let starts = is_boot(stamp.front);
         start_if(&mut node, starts);
-        let time = see_as(&mut node, self.alloc, self.compat, line, stamp)?;
+        let time = see_as(&mut node, self.alloc, self.compat, line, used, stamp)?;
         self.clock = self.clock.max(node.clock());
         self.last = Place {
             time,
@@ -172,8 +197,10 @@ fn see_as(
     alloc: Global,
     compat: bool,
     line: &[u8],
+    used: &Option<UsedLine<'_>>,
     stamp: &Stamp<'_>,
 ) -> Result<u64, NoMemory>
+    requires { IsRead line.now used.now }
     ensures { IfOk result (λ time. SeesNext node.old node.new (stamp_seen stamp.now)
         (read_as compat (stamp_seen stamp.now) line.now) time) }
 {
@@ -182,10 +209,10 @@ fn see_as(
         compat,
     };
     match rewrite_of(alloc, settings, stamp)? {
-        None => node.see(line, stamp),
+        None => node.see(line, used, stamp),
         Some(rewrite) => {
             let read = rewritten(alloc, stamp, &rewrite)?;
-            node.see(read.as_slice(), stamp)
+            node.see(read.as_slice(), &None, stamp)
         }
     }
 }

@@ -1,3 +1,4 @@
 pub mod Queue
 pub mod Turned
 pub mod Order
+pub mod Marks

@@ -1,5 +1,6 @@
 //! A line that waits, with its place.
 
+use crate::noted::Noted;
 use flow_base::Bytes;
 
 /// A line that waits. Lines are compared by their places: by the time at which their event counts, then by its serial
@@ -13,5 +14,5 @@ pub struct Waiting {
     pub node: Bytes,
     pub rank: u8,
     pub number: u64,
-    pub line: Bytes,
+    pub line: Noted,
 }

@@ -6,3 +6,4 @@ pub mod QuietLemmas
 pub mod RuleLemmas
 pub mod SeeLemmas
 pub mod TableLemmas
+pub mod PathLemmas

@@ -10,3 +10,4 @@ pub mod Quiet
 pub mod Rewrites
 pub mod Rules
 pub mod Texts
+pub mod Notes

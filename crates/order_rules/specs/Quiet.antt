@@ -7,3 +7,7 @@ abbrev pub is_quiet : List ℕ → Bool
 is_quiet line =
     starts_with nat_eq line (codes "type=PROCTITLE ")
     || (starts_with nat_eq line (codes "type=EOE ") || starts_with nat_eq line (codes "type=EXECVE "))
+
+-- the record of a path, without a node
+abbrev pub is_path : List ℕ → Bool
+is_path line = starts_with nat_eq line (codes "type=PATH ")

@@ -1,13 +1,16 @@
 //! What becomes of a line, and what is known after it.
-ghost use Rattle.std.specs.Prelude.{◌≡◌, List, IfOk, OnOk, option_map, codes};
+ghost use Rattle.std.specs.Prelude.{◌≡◌, ◌&&◌, not, is_some, List, IfOk, OnOk, option_map, codes};
 ghost use Rattle.std.specs.Option.{option_copied};
-ghost use Rattle.order_rules.specs.Deeds.{Said, Calls, Addresses, of_event};
+ghost use Rattle.order_rules.specs.Deeds.{Said, Calls, Addresses, of_event, opened_in};
+ghost use Rattle.order_rules.specs.Quiet.{is_path};
 ghost use Rattle.order_rules.specs.Known.{HearsIt, StandsFor};
 ghost use Rattle.order_rules.specs.Kept.{ends_of};
 ghost use Rattle.order_rules.specs.Lines.{call_in, bytes_in, deed_of_kind};
+ghost use Rattle.order_rules.specs.Notes.{IsNoted};
 ghost use Rattle.order_rules.specs.Rewrites.{class_in, said_after, rewritten, rewrite_kind, at_directory, at_address, at_end, address_at};
 
-use crate::quiet::is_quiet;
+use crate::note::Note;
+use crate::quiet::{is_path, is_quiet};
 use crate::reading::{bytes_in, call_in, directory_name, is_path_opened, text_in};
 use crate::rewrite::{rewrite_line, written_text};
 use crate::settings::Settings;
@@ -21,8 +24,42 @@ use std::alloc::Global;
 const LINE: usize = 65_536;
 
 impl Table {
-    /// What becomes of the next line. After that what it says is known.
+    /// What becomes of the next line, of which something may have been noted. After that what it says is known.
     pub fn see(
+        &mut self,
+        alloc: Global,
+        settings: Settings,
+        line: &[u8],
+        note: Option<Note>,
+    ) -> Result<Option<Rewrite>, NoMemory>
+        requires is { IsNoted note line.now }
+        ensures rewrites { IfOk result (λ made. (said : List Said) → StandsFor self.old said
+            → made ≡ rewritten settings said line.now) }
+        ensures stands { OnOk result ((said : List Said) → StandsFor self.old said
+            → StandsFor self.new (said_after line.now (class_in line.now) said)) }
+    {
+        match note {
+            Some(note) => {
+                self.hear_note(note)?;
+                Ok(None)
+            }
+            None => self.see_unread(alloc, settings, line),
+        }
+    }
+
+    // The record of a call was seen, with what was noted of it.
+    fn hear_note(&mut self, note: Note) -> Result<(), NoMemory>
+        ensures { OnOk result
+            (HearsIt self.old self.new note.key (option_map Calls note.call)) }
+    {
+        match note.call {
+            Some(call) => self.hear_call(note.key, call),
+            None => Ok(()),
+        }
+    }
+
+    // What becomes of the next line, of which nothing was noted.
+    fn see_unread(
         &mut self,
         alloc: Global,
         settings: Settings,
@@ -33,13 +70,20 @@ impl Table {
         ensures stands { OnOk result ((said : List Said) → StandsFor self.old said
             → StandsFor self.new (said_after line.now (class_in line.now) said)) }
     {
-        if is_quiet(line) {
+        if is_quiet(line) || self.passes(line) {
             return Ok(None);
         }
         match lex(line, LINE) {
             Lexed::Used(used) => self.see_used(alloc, settings, &used),
             _ => Ok(None),
         }
+    }
+
+    // Whether a line is the record of a path, which says nothing unless the newest call opened what it names.
+    fn passes(&self, line: &[u8]) -> bool
+        ensures { result ≡ (is_path line.now && not (is_some (opened_in self.now.under))) }
+    {
+        is_path(line) && !self.opens()
     }
 
     // What becomes of a used line.

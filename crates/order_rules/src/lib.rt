@@ -21,6 +21,7 @@ mod fds;
 mod hearing;
 mod held;
 mod laws;
+mod note;
 mod quiet;
 mod reading;
 mod rewrite;
@@ -33,5 +34,6 @@ mod tests;
 mod under;
 
 pub use laws::{nothing_changes_without_a_rule, rewrites_fit_their_lines};
+pub use note::{Note, note_of};
 pub use rules::Rules;
 pub use settings::Settings;

@@ -3,8 +3,10 @@ ghost use Rattle.std.specs.Prelude.{◌≡◌, ℕ, List, [], ◌∷◌, false, 
 ghost use Rattle.order_text.specs.Seen.{stamp_seen};
 ghost use Rattle.order_text.specs.Stamp.{stamp_of};
 ghost use Rattle.order_place.specs.Nodes.{is_node};
+ghost use Rattle.order_rules.specs.Notes.{IsNoted};
 ghost use Rattle.order_rules.specs.Rules.{event_of, rewrite_of, rewrite_stamped, known_of, begun, KeepsNode, StandsForLines, SeesStamped};
 
+use crate::note::Note;
 use crate::settings::Settings;
 use crate::table::Table;
 use audit_lex::EventKey;
@@ -51,16 +53,19 @@ impl Rules {
             → StandsForLines self.new (line.now ∷ lines)) }
         ensures settings { OnOk result (self.new.settings ≡ self.old.settings) }
     {
-        self.see_read(line, &read_stamp(line))
+        self.see_read(line, &read_stamp(line), None)
     }
 
-    /// What becomes of the next line, whose stamp was read, by the lines before it. After that it is one of them.
+    /// What becomes of the next line, whose stamp was read and of which something may have been noted, by the lines before it. After
+    /// that it is one of them.
     pub fn see_read(
         &mut self,
         line: &[u8],
         stamp: &Option<Stamp<'_>>,
+        note: Option<Note>,
     ) -> Result<Option<Rewrite>, NoMemory>
         requires is { option_map stamp_seen stamp.now ≡ stamp_of line.now }
+        requires noted { IsNoted note line.now }
         ensures rewrites { IfOk result (λ made. (lines : List (List ℕ)) →
             StandsForLines self.old lines → made ≡ rewrite_of self.old.settings lines line.now) }
         ensures stands { OnOk result ((lines : List (List ℕ)) → StandsForLines self.old lines
@@ -68,13 +73,19 @@ impl Rules {
         ensures settings { OnOk result (self.new.settings ≡ self.old.settings) }
     {
         match stamp {
-            Some(stamp) => self.see_stamped(line, stamp),
+            Some(stamp) => self.see_stamped(line, stamp, note),
             None => Ok(None),
         }
     }
 
     // What becomes of a line of this stamp.
-    fn see_stamped(&mut self, line: &[u8], stamp: &Stamp<'_>) -> Result<Option<Rewrite>, NoMemory>
+    fn see_stamped(
+        &mut self,
+        line: &[u8],
+        stamp: &Stamp<'_>,
+        note: Option<Note>,
+    ) -> Result<Option<Rewrite>, NoMemory>
+        requires { IsNoted note line.now }
         ensures rewrites { IfOk result (λ made. (lines : List (List ℕ)) →
             StandsForLines self.old lines → made ≡ rewrite_stamped
             self.old.settings lines line.now (Some (stamp_seen stamp.now))) }
@@ -86,7 +97,7 @@ impl Rules {
         let mut table = self.take(&name);
         start_if(&mut table, is_boot(stamp.front));
         table.pass(event_of(stamp));
-        let made = table.see(self.alloc, self.settings, line)?;
+        let made = table.see(self.alloc, self.settings, line, note)?;
         self.keep(name, table)?;
         Ok(made)
     }

@@ -1,5 +1,5 @@
 //! What lines said of the processes of a node.
-ghost use Rattle.std.specs.Prelude.{◌≡◌, ◌∷◌, ℕ, [], None, Some, not, option_map, IfOk, OnOk, if◌then◌else◌};
+ghost use Rattle.std.specs.Prelude.{◌≡◌, ◌∷◌, ℕ, [], None, Some, not, is_some, option_map, IfOk, OnOk, if◌then◌else◌};
 ghost use Rattle.order_rules.specs.Deeds as deeds;
 ghost use Rattle.order_rules.specs.Deeds.{Passes, Calls, Stands, Names, Addresses, is_same, is_local, changed, acted, copy_of, at_exec, directory, directory_in, cwd_in, base_in, path_from, path_in, place_at, kept_path, opened_in, bound_in, of_event, listening_in, own_place_in, socket, bound_to, datagram_place, stream_of, knocked, if_placed, is_connect, target_by, inet_target, answered, is_near, name_of, or_else, stem_by, stem_from, own_name, answer_name, waited, left};
 ghost use Rattle.order_rules.specs.Doors.{found_name, wait_name};
@@ -529,6 +529,16 @@ impl Table {
         match &self.under {
             Some(under) if is_event(key, under.key) => Some(under),
             _ => None,
+        }
+    }
+
+    /// Whether the newest call opened a descriptor.
+    pub fn opens(&self) -> bool
+        ensures { result ≡ is_some (opened_in self.now.under) }
+    {
+        match &self.under {
+            Some(under) => matches!(under.call.act, Act::Opens { fd: _, stays: _ }),
+            None => false,
         }
     }
 

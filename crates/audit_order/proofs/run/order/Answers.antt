@@ -22,6 +22,11 @@ returns-clause-ordered g c = λ bytes told.
     (ap (λ (k : Counts). k.times_raised) c.counts.ensures) (ap (λ (k : Counts). k.added_ends) c.counts.ensures) (ap (λ (k : Counts). k.rewrites) c.counts.ensures)
     (c.in_ok-finish.ensures.goes before (log_lines bytes) all.takes)
 
+pub returns-in_err-take_log-clause-causes : goal.returns-in_err-take_log-clause-causes
+returns-in_err-take_log-clause-causes g c =
+    let p = err_from_is_err_and c.from_residual-in_err-take_log.result c.from_residual-in_err-take_log.ensures.1 in
+    rw (p.1, p.2) c.in_err-take_log.ensures.causes
+
 pub returns-in_err-take_tail-clause-causes : goal.returns-in_err-take_tail-clause-causes
 returns-in_err-take_tail-clause-causes g c =
     let p = err_from_is_err_and c.from_residual-in_err-take_tail.result c.from_residual-in_err-take_tail.ensures.1 in
