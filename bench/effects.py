@@ -19,7 +19,7 @@ from pathlib import Path
 from runs import MODES, PROGRAM, TOP, lines_of, run
 
 ORDER = TOP / 'crates/audit_order/out/audit_order'
-READ, WRITE, CLOSE, PIPE, DUP2, SOCKET, CONNECT, ACCEPT, BIND, FORK, EXIT, OPEN = 0, 1, 3, 22, 33, 41, 42, 43, 49, 57, 231, 257
+READ, WRITE, CLOSE, PIPE, DUP2, SOCKET, CONNECT, ACCEPT, SEND, RECEIVE, BIND, FORK, EXIT, OPEN = 0, 1, 3, 22, 33, 41, 42, 43, 44, 45, 49, 57, 231, 257
 FILE, FIFO = '0100644', '010600'
 # Lines that are no records: they pass, and change nothing.
 ODD_LINES = [b'', b'garbage', b' \t', b'type=SYSCALL msg=audit(x:1)', b'\xff\x00\xfe', b'type=SYSCALL msg=audit(1000.000:77: arch=c000003e', b'(((:)))']
@@ -81,8 +81,8 @@ class Log:
     def end(self, at, pid):
         self.call(at, EXIT, pid)
 
-    def socket(self, at, pid, fd, family=2):
-        self.call(at, SOCKET, pid, fd, (family, 1, 0, 0))
+    def socket(self, at, pid, fd, family=2, kind=1):
+        self.call(at, SOCKET, pid, fd, (family, kind, 0, 0))
 
     def bind(self, at, pid, fd, address):
         self.call(at, BIND, pid, 0, (fd, 0, 16, 0), [('SOCKADDR', f'saddr={address}')])
@@ -90,8 +90,15 @@ class Log:
     def connect(self, at, pid, fd, address):
         self.call(at, CONNECT, pid, 0, (fd, 0, 16, 0), [('SOCKADDR', f'saddr={address}')])
 
-    def accept(self, at, pid, fd, new, peer):
-        self.call(at, ACCEPT, pid, new, (fd, 0, 0, 0), [('SOCKADDR', f'saddr={peer}')])
+    def accept(self, at, pid, fd, new, peer=None):
+        """An accept; one without a peer doesn't ask for its address, so it has no record of that."""
+        self.call(at, ACCEPT, pid, new, (fd, 0x7f00 if peer else 0, 0, 0), [('SOCKADDR', f'saddr={peer}')] if peer else [])
+
+    def receive(self, at, pid, fd, peer):
+        self.call(at, RECEIVE, pid, 8, (fd, 0, 8, 0), [('SOCKADDR', f'saddr={peer}')])
+
+    def send(self, at, pid, fd, peer):
+        self.call(at, SEND, pid, 8, (fd, 0, 8, 0), [('SOCKADDR', f'saddr={peer}')])
 
     def clock(self, at, pid=9):
         """Two calls that move the clock: another process reads nothing."""
@@ -267,8 +274,9 @@ def inherited_pipe():
     return log.text(), [('/secret', '/out')], [('/later', '/out')]
 
 
-def clients_of_a_server(count, family):
-    """A server forks for each of its clients, each of which sends a file, and its child writes what came and sends an answer. They overlap."""
+def clients_of_a_server(count, family, silent=False):
+    """A server forks for each of its clients, each of which sends a file, and its child writes what came and sends an answer. They overlap. A silent server
+    accepts them without asking for their addresses."""
     log, chance = Log(), random.Random(count)
     at_server, at_client = (inet(8080), lambda it: inet(40000 + it)) if family == 2 else (unix('/run/server'), lambda it: unix())
     log.clock(0)
@@ -282,7 +290,7 @@ def clients_of_a_server(count, family):
         log.socket(at + 2, client, 5, family)
         log.connect(at + 4, client, 5, at_server)
         # The accept had waited since the one before.
-        log.accept(at - 30, 100, 3, 4, at_client(it))
+        log.accept(at - 30, 100, 3, 4, None if silent else at_client(it))
         log.fork(at + 5, 100, child)
         log.close(at + 6, 100, 4)
         waits.append((client, child, it))
@@ -310,6 +318,31 @@ def clients_of_a_server(count, family):
     none = [(f'/{source}/{it}', f'/{target}/{other}') for it in range(count) for other in range(count) if it != other
             for source, target in (('in', 'out'), ('answer', 'got'))]
     return log.text(), paths, none
+
+
+def connected_datagrams():
+    """Two clients connect datagram sockets to a server's port, and send a file and get an answer."""
+    log = Log()
+    log.clock(0)
+    log.socket(4, 100, 3, kind=2)
+    log.bind(8, 100, 3, inet(5353))
+    log.open(9, 100, 4, '/out')
+    log.open(9, 100, 5, '/answer')
+    for it, client in enumerate((300, 301)):
+        at = 100 + 100 * it
+        log.copies(at, client, f'/in/{it}', f'/got/{it}')
+        log.read(at + 1, client, 3)
+        log.socket(at + 2, client, 5, kind=2)
+        log.connect(at + 3, client, 5, inet(5353))
+        log.write(at + 4, client, 5)
+        log.receive(at + 4, 100, 3, inet(40000 + it))
+        log.write(at + 8, 100, 4)
+        log.read(at + 9, 100, 5)
+        log.send(at + 10, 100, 3, inet(40000 + it))
+        log.read(at + 10, client, 5)
+        log.write(at + 14, client, 4)
+    log.clock(400)
+    return log.text(), [('/in/0', '/out'), ('/in/1', '/out'), ('/answer', '/got/0'), ('/answer', '/got/1')], [('/in/1', '/got/0')]
 
 
 def two_boots():
@@ -344,6 +377,9 @@ CASES = {
     'a pipe just before two forks': inherited_pipe,
     'forty clients over TCP': lambda: clients_of_a_server(40, 2),
     'forty clients over a unix socket': lambda: clients_of_a_server(40, 1),
+    'forty clients of a silent server over TCP': lambda: clients_of_a_server(40, 2, silent=True),
+    'forty clients of a silent server over a unix socket': lambda: clients_of_a_server(40, 1, silent=True),
+    'datagrams of sockets that are connected': connected_datagrams,
     'two boots': two_boots,
 }
 

@@ -41,6 +41,7 @@ RENAMED = {'mmap2': 'mmap', **{name: name.removesuffix('32') for name in ('chown
 # The words that turn rules off.
 RULES = ('--no-join', '--shared-connections', '--no-names', '--no-compat')
 END = re.compile(rb'^(.*)type=EOE msg=audit\((\d+\.\d{3}):(\d+)\): $', re.S)
+ADDED_PEER = re.compile(rb'^(.*)type=SOCKADDR msg=audit\((\d+\.\d{3}):(\d+)\): saddr=0100\x1dADDED=yes$', re.S)
 
 ODD = {
     'empty': b'',
@@ -169,6 +170,15 @@ MEETINGS = {
     'datagrams of a client that is bound': (BOUND + call('1000.011', 4, BIND, 2, 'saddr=0200D431000000000000000000000000', answer=0) + call('1000.020', 5, SEND, 2, CALLED)
                                             + call('1000.021', 6, RECEIVE, 1, PEER) + call('1000.022', 7, SEND, 1, PEER) + call('1000.023', 8, RECEIVE, 2, CALLED), (2, 2, 0, 2)),
     'a stream that is bound': (call('1000.009', 7, SOCKET, 1, a1=1, answer=3) + BOUND + call('1000.021', 5, RECEIVE, 1, PEER) + call('1000.022', 6, SEND, 1, PEER), (0, 0, 0, 0)),
+    'a silent accept': (BOUND + call('1000.020', 4, CONNECT, 2, CALLED, answer=0) + call('1000.030', 5, ACCEPT, 1, answer=4), (2, 0, 0, 2)),
+    'a silent accept that no connect waits for': (BOUND + call('1000.030', 5, ACCEPT, 1, answer=4), (0, 0, 0, 0)),
+    'a silent accept at a path': (BOUND_PATH + call('1000.020', 4, ACCEPT, 1, answer=4) + call('1000.020', 5, CONNECT, 2, 'saddr=01002F72756E2F7300', answer=0), (2, 0, 0, 2)),
+    'an accept of another gate than that of x86-64': (BOUND + call('1000.020', 4, CONNECT, 2, CALLED, answer=0) + call('1000.030', 5, 364, 1, arch=GATE, answer=4), (2, 1, 1, 2)),
+    'an accept whose peer was asked for': (BOUND + call('1000.020', 4, CONNECT, 2, CALLED, answer=0) + call('1000.030', 5, ACCEPT, 1, a1='7f00', answer=4), (1, 0, 0, 1)),
+    'a silent accept that failed': (BOUND + call('1000.020', 4, CONNECT, 2, CALLED, answer=0) + call('1000.030', 5, ACCEPT, 1, done='no', answer=-11), (1, 0, 0, 1)),
+    'a silent accept of a socket that is not bound': (BOUND + call('1000.020', 4, CONNECT, 2, CALLED, answer=0) + call('1000.030', 5, ACCEPT, 1, a0=7, answer=4), (1, 0, 0, 1)),
+    'a datagram socket that is connected': (call('1000.009', 7, SOCKET, 2, a1=2, answer=3) + BOUND + call('1000.020', 4, CONNECT, 2, CALLED, answer=0), (0, 0, 0, 0)),
+    'a stream that is connected': (call('1000.009', 7, SOCKET, 2, a1=80001, answer=3) + BOUND + call('1000.020', 4, CONNECT, 2, CALLED, answer=0), (1, 0, 0, 1)),
     'a name in a folder': (opening('1000.010', 3, 2, 3, FOLDER) + call('1000.020', 4, UNLINKAT, 2, cwd='/home'), (1, 1, 1, 0)),
     'a name in what was closed': (opening('1000.010', 3, 2, 3, FOLDER) + call('1000.015', 4, CLOSE, 2, answer=0) + call('1000.020', 5, UNLINKAT, 2, cwd='/home'), (0, 0, 0, 0)),
     'a name in a folder of another process': (opening('1000.010', 3, 5, 3, FOLDER) + call('1000.020', 4, UNLINKAT, 2, cwd='/home'), (0, 0, 0, 0)),
@@ -181,13 +191,15 @@ NAMES_MET = {
     'a connection that was accepted first': ['127.0.0.1:8080#1000020:4', '127.0.0.1:8080#1000030:5'],
     'an accept a tick before its connect': ['127.0.0.1:8080#1000020:4'] * 2,
     'an accept and a connect at a path': ['/run/s#1000020:4'] * 2,
+    'a silent accept': ['127.0.0.1:8080#1000020:4'] * 2,
+    'a silent accept at a path': ['/run/s#1000020:4'] * 2,
     'two connections that wait': ['127.0.0.1:8080#1000020:4'] * 4,
 }
 
 
 def names_in(written):
     """The names of connections in lines."""
-    return [bytes.fromhex(it[1].decode())[2:].decode() for line in written if (it := re.search(rb': saddr=(0100[0-9A-F]+23[0-9A-F]+)\x1dWAS=', line))]
+    return [bytes.fromhex(it[1].decode())[2:].decode() for line in written if (it := re.search(rb': saddr=(0100[0-9A-F]+23[0-9A-F]+)\x1d', line))]
 
 
 def faults_of_names():
@@ -195,7 +207,7 @@ def faults_of_names():
     for name, wanted in NAMES_MET.items():
         log = (EARLY + MEETINGS[name][0]).encode()
         written = subprocess.run([PROGRAM], input=log, stdout=subprocess.PIPE, check=True).stdout
-        for way, lines in [('the program', lines_of(written)), ('the plain reading', shown(lines_of(log), []))]:
+        for way, lines in [('the program', lines_of(written)), ('the plain reading', shown(map(undone, lines_of(written)), []))]:
             if (found := names_in(lines)) != wanted:
                 yield f'{name}: the names {found} and not {wanted}, by {way}'
 
@@ -312,10 +324,26 @@ def event_of(line):
     return stamp and (stamp[2], stamp[3], stamp[1].split(b' ')[0] if stamp[1].startswith(b'node=') else b'')
 
 
+def faults_of_peers(lines, leaves_out):
+    """What isn't so of the peers that were added to lines: which don't lack, and which lack still at the end of their event."""
+    rules = Rules(leaves_out)
+    for line in lines:
+        stamp = STAMP.match(line)
+        if not stamp or int(stamp[3]) >= 2 ** 32:
+            continue
+        time = int(stamp[2].replace(b'.', b''))
+        lacks = rules.lacks_peer(stamp[1], time, int(stamp[3]))
+        if ADDED_PEER.match(line) and not lacks:
+            yield f'a peer that did not lack: {line!r}'
+        if lacks and stamp[1].endswith((b'type=PROCTITLE msg=audit', b'type=EOE msg=audit')):
+            yield f'a peer lacks before {line!r}'
+        rules.see(stamp[1], time, stamp[4], line)
+
+
 def counts_of(written, added):
-    """What a report has to count of an answer, except late events; and events, if some line bears no stamp: it may stand apart from its event."""
+    """What a report has to count of an answer with these lines added, except late events; and events, if some line bears no stamp: it may stand apart from its event."""
     events = [event_of(undone(line)) for line in written]
-    return {'added_ends': added, **({} if None in events else {'events': sum(1 for _ in itertools.groupby(events))}),
+    return {'added_ends': sum(1 for it in added if END.match(it)), 'added_peers': sum(1 for it in added if ADDED_PEER.match(it)), **({} if None in events else {'events': sum(1 for _ in itertools.groupby(events))}),
             'rewrites': sum(map(is_rewritten, written)), 'times_raised': sum(STAMP.match(line)[2] != STAMP.match(undone(line))[2] for line in written if STAMP.match(line))}
 
 
@@ -330,21 +358,22 @@ def faults_of(log, words=()):
     left = collections.Counter(map(undone, written))
     left.subtract(lines_of(log))
     report = json.loads(ran.stderr)
-    counts = counts_of(written, sum(left.values()))
+    counts = counts_of(written, list((+left).elements()))
     if any(report[name] != count for name, count in counts.items()):
         yield f'the report is {report} and not {counts}'
     for line, count in left.items():
         if count < 0:
             yield f'lost: {line!r}'
-        elif count and not END.match(line):
+        elif count and not END.match(line) and not ADDED_PEER.match(line):
             yield f'made up: {line!r}'
     calls = {stamp[2] + stamp[3] for line in lines_of(log) if (stamp := STAMP.match(line)) and stamp[1].endswith(b'type=SYSCALL msg=audit')}
     for line in (+left).elements():
-        end = END.match(line)
+        end = END.match(line) or ADDED_PEER.match(line)
         if end and end[2] + end[3] not in calls:
-            yield f'an end of no call: {line!r}'
+            yield f'an end or a peer of no call: {line!r}'
     if TABLES_ARE_THERE and list(shown(map(undone, written), switches)) != written:
         yield 'lines are written otherwise than the rules say'
+    yield from faults_of_peers(map(undone, written), switches)
     yield from faults_of_undoing(ran.stdout)
     yield from faults_of_undoing(log)
     greatest = 0

@@ -7,6 +7,7 @@ import re
 from plain_reading import X86_64, address_key, address_text, class_of, join_path
 
 WORKING, LEAVES, TICK = 0xFFFFFF9C, 0x80000, 4
+BLANK_PEER = b'\1\0'
 OPENS, SOCKETS, COPIES, FORKS, RUNS = {2: 1, 85: None, 257: 2, 437: None}, {41: 1, 43: None, 288: 3}, {32, 33, 292}, {57, 58, 435}, {59, 322}
 AT_FIRST, AT_BOTH = {257, 258, 259, 260, 263, 268, 322, 437}, {264, 265, 316}
 MAPPED = bytes(10) + b'\xff\xff'
@@ -58,7 +59,7 @@ class Node:
         number, pid, exit_, done = fields['syscall'], fields['pid'], fields['exit'], fields['success']
         a = [fields[f'a{i}'] % 2**32 for i in range(4)]
         answer = exit_ if exit_ is not None and 0 <= exit_ < 2**32 else None
-        self.call = {'key': key, 'pid': pid, 'cwd': None, 'opens': None, 'asks': asks_of(number, a, done, exit_ == -115)}
+        self.call = {'key': key, 'pid': pid, 'cwd': None, 'opens': None, 'asks': asks_of(number, a, done, exit_ == -115), 'silent': number in (43, 288) and done and a[1] == 0}
         if number == 231:
             self.become(pid, {})
         elif done:
@@ -74,7 +75,7 @@ class Node:
             self.put((pid, answer), None)
             self.call['opens'] = (pid, answer), open_stays
         elif number in SOCKETS and answer is not None:
-            self.put((pid, answer), ('socket', b'', number == 43 or stays(SOCKETS[number]), number != 41 or a[1] % 16 == 1))
+            self.put((pid, answer), ('socket', b'', number == 43 or stays(SOCKETS[number]), {1: 'stream', 2: 'datagrams'}.get(a[1] % 16) if number == 41 else 'stream'))
         elif number == 3:
             self.put((pid, a[0]), None)
         elif number in COPIES or number == 72 and a[1] in (0, 1030):
@@ -102,6 +103,8 @@ class Node:
     def hear_address(self, call, key, saddr):
         target, door = self.knocked(call, saddr), self.answered(call, saddr)
         inet, place = inet_of(saddr), place_of(saddr)
+        if call:
+            call['silent'] = False
         if target:
             self.hear_connect(*target, key)
         if door:
@@ -109,7 +112,7 @@ class Node:
         if call and call['asks'] and call['asks'][0] == 'binds' and place is not None:
             at = call['pid'], call['asks'][1]
             was = self.held.get(at, (None, None, True))
-            self.put(at, ('socket', place, was[2], was[0] == 'socket' and was[3]))
+            self.put(at, ('socket', place, was[2], was[3] if was[0] == 'socket' else None))
             self.places.add(place)
             if inet and inet[0].strip(b'\0'):
                 self.hosts.add(inet[0])
@@ -145,7 +148,7 @@ class Node:
 
     def knocked(self, call, saddr):
         """The place that a connect goes to, and what its name begins with."""
-        if not call or call['asks'] != ('connects',):
+        if not call or not call['asks'] or call['asks'][0] != 'connects' or self.held.get((call['pid'], call['asks'][1]), ())[3:] == ('datagrams',):
             return None
         inet, key = inet_of(saddr), is_unix(saddr) and address_key(saddr)
         if is_unix(saddr):
@@ -166,11 +169,19 @@ class Node:
         asks, what = call['asks'][0], self.held.get((call['pid'], call['asks'][1]))
         if not what or what[0] != 'socket' or len(what[1]) != 2 or what[1] == bytes(2):
             return None
-        is_stream, is_known = what[3], inet[1] in self.places
+        is_stream, is_known = what[3] == 'stream', inet[1] in self.places
         return what[1] if asks == 'accepts' or not is_stream and (asks == 'receives' or not is_known) else None
 
     def answered(self, call, saddr):
         return self.listening(call) if is_unix(saddr) or self.is_local(inet_of(saddr)) else None
+
+    def lacks_peer(self, key, leaves_out):
+        """Whether an event's accept didn't ask for the address of its peer, and no record has it, but its connection has a name."""
+        call = self.call if self.call and self.call['key'] == key else None
+        if not call or not call['silent'] or '--no-join' in leaves_out or '--shared-connections' in leaves_out:
+            return False
+        door = self.answered(call, BLANK_PEER)
+        return bool(door) and (door in self.waits or own_name(door, key, BLANK_PEER) is not None)
 
     # ---- what becomes of a line
 
@@ -218,7 +229,7 @@ def asks_of(number, a, done, begun):
     if fd is not None or number in AT_BOTH:
         return ('at', fd) if fd not in (None, WORKING) else None
     if number == 42:
-        return ('connects',) if done or begun else None
+        return ('connects', a[0]) if done or begun else None
     asks = {49: 'binds', 43: 'accepts', 288: 'accepts', 45: 'receives', 47: 'receives', 44: 'sends', 46: 'sends'}.get(number)
     return (asks, a[0]) if done and asks else None
 
@@ -228,6 +239,11 @@ class Rules:
 
     def __init__(self, leaves_out):
         self.leaves_out, self.nodes = leaves_out, {}
+
+    def lacks_peer(self, front, time, serial):
+        """Whether the event of a line of this stamp lacks the address of its peer, after the lines that were seen."""
+        node = self.nodes.get(front[5:].split(b' ')[0] if front.startswith(b'node=') else b'')
+        return bool(node) and node.lacks_peer((time, serial), self.leaves_out)
 
     def see(self, front, time, rest, line):
         """What of a line is rewritten, and to what; nothing if no rule says so. After that it was seen. It is given with what stands before and after its stamp, and

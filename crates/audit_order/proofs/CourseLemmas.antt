@@ -1,5 +1,5 @@
 -- How the ordering of a log goes on.
-use Rattle.std.proofs.Common.{◌≡◌, ◌≤◌, ◌+◌, ◌-◌, ◌∙◌, sym, refl, ap, subst, ℕ, Bool, true, false, List, [], ◌∷◌, ◌++◌, length, Option, None, Some, option_map, map, max, nat_lt, reverse, arith, append_assoc, append-nil, add-one, length-append, if◌then◌else◌}
+use Rattle.std.proofs.Common.{◌≡◌, ◌≤◌, ◌+◌, ◌-◌, ◌∙◌, inl, inr, sym, refl, ap, subst, ℕ, Bool, true, false, List, [], ◌∷◌, ◌++◌, length, Option, None, Some, option_map, map, max, nat_lt, reverse, arith, append_assoc, append-nil, add-one, length-append, if◌then◌else◌}
 use Rattle.std.specs.Prelude.{option_to_list}
 use Rattle.std.specs.List.{All, filter}
 use Rattle.std.proofs.lemmas.Bool.Decides.{nat_tests}
@@ -8,18 +8,20 @@ use Rattle.std.specs.Io.KnownBytes.{Appends}
 use Rattle.std.proofs.lemmas.Grind.{flat_map-append}
 use Rattle.std.proofs.lemmas.List.{map-append}
 use Rattle.std.proofs.lemmas.List.Elements.{All-push, All-weaker, All-cons, All-nil, filter-append}
-use Rattle.std.proofs.lemmas.List.Sorted.{IsPermutation-refl, IsPermutation-sym, IsPermutation-trans, IsPermutation-cons, IsPermutation-to_front, IsPermutation-append_left, IsNonDecreasingBy-push, IsNonDecreasingBy-short}
+use Rattle.std.proofs.lemmas.List.Sorted.{IsPermutation-refl, IsPermutation-sym, IsPermutation-trans, IsPermutation-cons, IsPermutation-to_front, IsPermutation-middle, IsPermutation-append_left, IsNonDecreasingBy-push, IsNonDecreasingBy-short}
 use Rattle.order_text.specs.Stamp.{time_of, stamp_of}
 use Rattle.order_text.specs.Laws.{time_in, is_one_line, IsOneLine}
 use Rattle.order_text.specs.Undo.{undone, written_after, is_rewritten, takes_rewrite}
 use Rattle.order_text.specs.declared.rewrite.Rewrite.{Rewrite}
 use Rattle.order_lines.specs.Rules.{or_else}
-use Rattle.order_rules.specs.Rules.{AllKnown, StandsForLines, rewrite_of}
+use Rattle.order_rules.specs.Rules.{AllKnown, StandsForLines, rewrite_of, lacks_of}
+use Rattle.order_rules.specs.declared.settings.Settings as of_rules
+use Rattle.audit_order.specs.declared.switches.Switches.{Switches}
 use Rattle.order_text.proofs.UndoLemmas.{written_undone, written_stays, written_told}
 use Rattle.order_text.proofs.LineLemmas.{written_one}
 use Rattle.audit_order.specs.Start.{Start}
-use Rattle.audit_order.specs.Shown.{Latest, no_time, latest, rules_of, change_alone}
-use Rattle.audit_order.specs.Lines.{text_of, times_of, IsEnd, AddsNoFeed, is_less, is_raised, raised_in, risen, more_if, Written, wrote, Writes, Adds, IsBlank}
+use Rattle.audit_order.specs.Shown.{Latest, no_time, latest, rules_of, change_alone, WasLacking}
+use Rattle.audit_order.specs.Lines.{text_of, times_of, IsEnd, IsPeer, AddsNoFeed, is_less, is_raised, raised_in, risen, more_if, Written, wrote, Writes, Adds, AddsPeer, MayAddPeer, IsBlank}
 use Rattle.audit_order.specs.Course.{Course, Keeps, Gives}
 use Rattle.audit_order.proofs.ShownLemmas.{latest_timed, later_ms, stands_more, counted_more, exact_more, greatest_more}
 
@@ -90,6 +92,19 @@ is_shown t line change lines is =
       told = written_told t.time t.ms line change timed;
     }
 
+-- what was lacking was so whatever is written after it
+lacked_more : (switches : Switches) (lines all : List (List ℕ)) (line : List ℕ) (peers : List (List ℕ)) → all ≡ lines ++ line ∷ []
+    → All (WasLacking switches lines) peers → All (WasLacking switches all) peers
+lacked_more switches lines all line peers are lacked =
+    All-weaker (WasLacking switches lines) (WasLacking switches all)
+    (λ peer was. record {
+      before = was.before;
+      after = was.after ++ line ∷ [];
+      is = are ∙ ap (λ (l : List (List ℕ)). l ++ line ∷ []) was.is ∙ append_assoc was.before (peer ∷ was.after) (line ∷ []);
+      lacks = was.lacks;
+    })
+    peers lacked
+
 -- one more line is written with a rewrite
 puts : (old : Written) (line : List ℕ) (change : Option Rewrite) (rules : AllKnown) (before : Start) (now : Option (List ℕ)) (waits lines : List (List ℕ))
     (c : Course before now old (line ∷ waits) lines)
@@ -110,18 +125,22 @@ puts old line change rules before now waits lines c settings stands by =
     record {
       outs = c.outs ++ out ∷ [];
       added = c.added;
+      peers = c.peers;
       done = c.done;
       appends = c.appends;
       text = sym (append_assoc c.done old.pending (out ++ 10 ∷ []))
           ∙ ap (λ (t : List ℕ). t ++ (out ++ 10 ∷ [])) c.text ∙ sym (text_more c.outs out);
-      same = rw undid (moved (c.added ++ lines) waits (map undone c.outs) line c.same);
+      same = rw undid (moved (c.added ++ (c.peers ++ lines)) waits (map undone c.outs) line c.same);
       rises = there.rises;
       below = there.below;
       ends = c.ends;
+      blank = c.blank;
+      lacked = lacked_more before.switches (map undone c.outs) (map undone (c.outs ++ out ∷ [])) line c.peers undid c.lacked;
       own = All-push AddsNoFeed c.outs out c.own (λ one. w.one (ap is_one_line (sym w.undone) ∙ one));
       counts_raised = ap (more_if (is_less (time_in line) (Some ms))) c.counts_raised
           ∙ ap (λ (b : Bool). more_if b (raised_in c.outs)) (sym (raised_by ms out line w.undone w.time)) ∙ sym (counted_more is_raised c.outs out);
       counts_added = c.counts_added;
+      counts_peers = c.counts_peers;
       counts_rewritten = ap (λ (b : Bool). more_if b old.rewritten) (sym w.told) ∙ ap (more_if (is_rewritten out)) c.counts_rewritten ∙ sym (counted_more is_rewritten c.outs out);
       switches = c.switches;
       settings = settings ∙ c.settings;
@@ -146,16 +165,20 @@ pub adds : (before : Start) (now : Option (List ℕ)) (w : Written) (waits lines
 adds before now w waits lines line is c = record {
   outs = c.outs;
   added = line ∷ c.added;
+  peers = c.peers;
   done = c.done;
   appends = c.appends;
   text = c.text;
-  same = IsPermutation-cons line (c.added ++ lines) (waits ++ map undone c.outs) c.same;
+  same = IsPermutation-cons line (c.added ++ (c.peers ++ lines)) (waits ++ map undone c.outs) c.same;
   rises = c.rises;
   below = c.below;
   ends = All-cons IsEnd line c.added is c.ends;
+  blank = c.blank;
+  lacked = c.lacked;
   own = c.own;
   counts_raised = c.counts_raised;
   counts_added = ap (λ (n : ℕ). n + 1) c.counts_added ∙ add-one (length c.added);
+  counts_peers = c.counts_peers;
   counts_rewritten = c.counts_rewritten;
   switches = c.switches;
   settings = c.settings;
@@ -185,23 +208,32 @@ keeps_end old new line a is before now waits lines c =
     (gives (record old { added = old.added + 1 }) more line (writes_added old a.mid line a.writes) before now waits lines
     (adds before now old waits lines line is c))
 
--- those that wait may stand in another order
-pub shuffled : (before : Start) (now : Option (List ℕ)) (w : Written) (waits other lines : List (List ℕ)) → IsPermutation waits other
-    → Course before now w waits lines → Course before now w other lines
-shuffled before now w waits other lines same c = record {
+-- one more line of the log waits
+pub joins : (before : Start) (now : Option (List ℕ)) (w : Written) (waits lines : List (List ℕ)) (line : List ℕ)
+    → Course before now w waits lines → Course before now w (line ∷ waits) (lines ++ line ∷ [])
+joins before now w waits lines line c = record {
   outs = c.outs;
   added = c.added;
+  peers = c.peers;
   done = c.done;
   appends = c.appends;
   text = c.text;
-  same = IsPermutation-trans (c.added ++ lines) (waits ++ map undone c.outs) (other ++ map undone c.outs) c.same
-      (IsPermutation-append_left (map undone c.outs) waits other same);
+  same =
+      let all = c.added ++ (c.peers ++ lines) in
+      let front : IsPermutation (all ++ line ∷ []) (line ∷ all) = IsPermutation-to_front all line in
+      let more : IsPermutation (line ∷ all) (line ∷ (waits ++ map undone c.outs)) = IsPermutation-cons line all (waits ++ map undone c.outs) c.same in
+      subst (λ (from : List (List ℕ)). IsPermutation from (line ∷ (waits ++ map undone c.outs)))
+      (append_assoc c.added (c.peers ++ lines) (line ∷ []) ∙ ap (λ (l : List (List ℕ)). c.added ++ l) (append_assoc c.peers lines (line ∷ [])))
+      (IsPermutation-trans (all ++ line ∷ []) (line ∷ all) (line ∷ (waits ++ map undone c.outs)) front more);
   rises = c.rises;
   below = c.below;
   ends = c.ends;
+  blank = c.blank;
+  lacked = c.lacked;
   own = c.own;
   counts_raised = c.counts_raised;
   counts_added = c.counts_added;
+  counts_peers = c.counts_peers;
   counts_rewritten = c.counts_rewritten;
   switches = c.switches;
   settings = c.settings;
@@ -210,27 +242,98 @@ shuffled before now w waits other lines same c = record {
   exact = c.exact;
 }
 
--- one more line of the log waits
-pub joins : (before : Start) (now : Option (List ℕ)) (w : Written) (waits lines : List (List ℕ)) (line : List ℕ)
-    → Course before now w waits lines → Course before now w (line ∷ waits) (lines ++ line ∷ [])
-joins before now w waits lines line c = record {
+-- a line of the log becomes a peer that was added
+swapped : (added peers lines all : List (List ℕ)) (line : List ℕ)
+    → IsPermutation (added ++ (peers ++ (lines ++ line ∷ []))) all → IsPermutation (added ++ ((line ∷ peers) ++ lines)) all
+swapped added peers lines all line same =
+    let rest = peers ++ lines in
+    let last : IsPermutation ((added ++ rest) ++ line ∷ []) (line ∷ (added ++ rest)) = IsPermutation-to_front (added ++ rest) line in
+    let middle : IsPermutation (added ++ line ∷ rest) (line ∷ (added ++ rest)) = IsPermutation-middle added line rest in
+    let here : (added ++ rest) ++ line ∷ [] ≡ added ++ (peers ++ (lines ++ line ∷ [])) =
+    append_assoc added rest (line ∷ []) ∙ ap (λ (l : List (List ℕ)). added ++ l) (append_assoc peers lines (line ∷ [])) in
+    IsPermutation-trans (added ++ line ∷ rest) ((added ++ rest) ++ line ∷ []) all
+    (IsPermutation-trans (added ++ line ∷ rest) (line ∷ (added ++ rest)) ((added ++ rest) ++ line ∷ []) middle
+    (IsPermutation-sym ((added ++ rest) ++ line ∷ []) (line ∷ (added ++ rest)) last))
+    (subst (λ (from : List (List ℕ)). IsPermutation from all) (sym here) same)
+
+-- a peer that was lacking is written, and counted
+puts_peer : (old : Written) (line : List ℕ) (change : Option Rewrite) (rules : AllKnown) (before : Start) (now : Option (List ℕ)) (waits lines : List (List ℕ))
+    (c : Course before now old waits lines)
+    → rules.settings ≡ old.rules.settings → StandsForLines rules (line ∷ reverse (map undone c.outs))
+    → change ≡ or_else (change_alone old.switches (stamp_of line)) (rewrite_of old.rules.settings (reverse (map undone c.outs)) line)
+    → IsPeer line → true ≡ lacks_of old.rules.settings (reverse (map undone c.outs)) line
+    → Course before now (record (wrote (record old { rules = rules }) line (stamp_of line) change) { peers = old.peers + 1 }) waits lines
+unfolding joins puts
+puts_peer old line change rules before now waits lines c settings stands by is lacks =
+    let out = written_after old.latest.time old.latest.ms line change in
+    let d = puts old line change rules before now waits (lines ++ line ∷ []) (joins before now old waits lines line c) settings stands by in
+    let undid = undone_more c.outs out line (is_shown old.latest line change (reverse (map undone c.outs)) c.greatest).undone in
+    record {
+      outs = d.outs;
+      added = d.added;
+      peers = line ∷ d.peers;
+      done = d.done;
+      appends = d.appends;
+      text = d.text;
+      same = swapped d.added d.peers lines (waits ++ map undone d.outs) line d.same;
+      rises = d.rises;
+      below = d.below;
+      ends = d.ends;
+      blank = All-cons IsPeer line c.peers is c.blank;
+      lacked = All-cons (WasLacking before.switches (map undone d.outs)) line d.peers
+          (record {
+            before = map undone c.outs;
+            after = [];
+            is = undid;
+            lacks = lacks ∙ ap (λ (s : of_rules.Settings). lacks_of s (reverse (map undone c.outs)) line) c.settings;
+          })
+          d.lacked;
+      own = d.own;
+      counts_raised = d.counts_raised;
+      counts_added = d.counts_added;
+      counts_peers = ap (λ (n : ℕ). n + 1) c.counts_peers ∙ add-one (length c.peers);
+      counts_rewritten = d.counts_rewritten;
+      switches = d.switches;
+      settings = d.settings;
+      rules = d.rules;
+      greatest = d.greatest;
+      exact = d.exact;
+    }
+
+adds_peer : (old new : Written) (line : List ℕ) → AddsPeer old new line → IsPeer line → Keeps old new
+adds_peer old new line a is before now waits lines c =
+    let w = a.writes in
+    let back = reverse (map undone c.outs) in
+    let same : new ≡ record (wrote (record old { rules = w.mid.rules }) line (stamp_of line) w.change) { peers = old.peers + 1 } =
+    a.is ∙ ap (λ (m : Written). record m { peers = m.peers + 1 }) (w.is ∙ ap (λ (m : Written). wrote m line (stamp_of line) w.change) w.asks.same) in
+    subst (λ (n : Written). Course before now n waits lines) (sym same)
+    (puts_peer old line w.change w.mid.rules before now waits lines c w.asks.settings (w.asks.stands back c.rules) (w.asks.by back c.rules) is (a.lacks back c.rules))
+
+pub keeps_peer : (old new : Written) (line : List ℕ) → MayAddPeer old new line → IsPeer line → Keeps old new
+keeps_peer old new line (inl same) is before now waits lines c = subst (λ (w : Written). Course before now w waits lines) (sym same) c
+keeps_peer old new line (inr a) is before now waits lines c = adds_peer old new line a is before now waits lines c
+
+-- those that wait may stand in another order
+pub shuffled : (before : Start) (now : Option (List ℕ)) (w : Written) (waits other lines : List (List ℕ)) → IsPermutation waits other
+    → Course before now w waits lines → Course before now w other lines
+shuffled before now w waits other lines same c = record {
   outs = c.outs;
   added = c.added;
+  peers = c.peers;
   done = c.done;
   appends = c.appends;
   text = c.text;
-  same =
-      let all = c.added ++ lines in
-      let front : IsPermutation (all ++ line ∷ []) (line ∷ all) = IsPermutation-to_front all line in
-      let more : IsPermutation (line ∷ all) (line ∷ (waits ++ map undone c.outs)) = IsPermutation-cons line all (waits ++ map undone c.outs) c.same in
-      subst (λ (from : List (List ℕ)). IsPermutation from (line ∷ (waits ++ map undone c.outs))) (append_assoc c.added lines (line ∷ []))
-      (IsPermutation-trans (all ++ line ∷ []) (line ∷ all) (line ∷ (waits ++ map undone c.outs)) front more);
+  same = IsPermutation-trans (c.added ++ (c.peers ++ lines)) (waits ++ map undone c.outs) (other ++ map undone c.outs) c.same
+      (IsPermutation-append_left (map undone c.outs) waits other same);
   rises = c.rises;
   below = c.below;
   ends = c.ends;
+  blank = c.blank;
+  lacked = c.lacked;
   own = c.own;
   counts_raised = c.counts_raised;
   counts_added = c.counts_added;
+  counts_peers = c.counts_peers;
   counts_rewritten = c.counts_rewritten;
   switches = c.switches;
   settings = c.settings;
@@ -251,6 +354,7 @@ pub flushed : (before : Start) (now later : Option (List ℕ)) (w : Written) (wa
 flushed before now later w waits lines handed c = record {
   outs = c.outs;
   added = c.added;
+  peers = c.peers;
   done = c.done ++ w.pending;
   appends = appends_both before.written now later c.done w.pending c.appends handed;
   text = append-nil (c.done ++ w.pending) ∙ c.text;
@@ -258,9 +362,12 @@ flushed before now later w waits lines handed c = record {
   rises = c.rises;
   below = c.below;
   ends = c.ends;
+  blank = c.blank;
+  lacked = c.lacked;
   own = c.own;
   counts_raised = c.counts_raised;
   counts_added = c.counts_added;
+  counts_peers = c.counts_peers;
   counts_rewritten = c.counts_rewritten;
   switches = c.switches;
   settings = c.settings;
@@ -274,10 +381,11 @@ appends_none None = tt
 appends_none (Some xs) = sym (append-nil xs)
 
 blank : (before : Start) (rules : AllKnown) → rules.settings ≡ rules_of before.switches → StandsForLines rules []
-    → Course before before.written (record { switches = before.switches; rules = rules; pending = []; latest = no_time; raised = 0; rewritten = 0; added = 0 }) [] []
+    → Course before before.written (record { switches = before.switches; rules = rules; pending = []; latest = no_time; raised = 0; rewritten = 0; added = 0; peers = 0 }) [] []
 blank before rules settings stands = record {
   outs = [];
   added = [];
+  peers = [];
   done = [];
   appends = appends_none before.written;
   text = refl;
@@ -285,9 +393,12 @@ blank before rules settings stands = record {
   rises = IsNonDecreasingBy-short (λ (t : ℕ). t) [] (omega arith);
   below = All-nil (λ (t : ℕ). t ≤ 0);
   ends = All-nil IsEnd;
+  blank = All-nil IsPeer;
+  lacked = All-nil (WasLacking before.switches []);
   own = All-nil AddsNoFeed;
   counts_raised = refl;
   counts_added = refl;
+  counts_peers = refl;
   counts_rewritten = refl;
   switches = refl;
   settings = settings;
@@ -301,7 +412,7 @@ starts before w b = subst (λ (v : Written). Course before before.written v [] [
 
 -- ---- lines
 
-pub end_pieces : (node a b c d e n0 n1 n2 n3 n4 n5 : List ℕ) → n0 ≡ node → n1 ≡ n0 ++ a → n2 ≡ n1 ++ b → n3 ≡ n2 ++ c → n4 ≡ n3 ++ d → n5 ≡ n4 ++ e
-    → n5 ≡ node ++ (a ++ (b ++ (c ++ (d ++ e))))
-end_pieces node a b c d e n0 n1 n2 n3 n4 n5 e0 e1 e2 e3 e4 e5 =
-    rw (e5, e4, e3, e2, e1, e0) (simp append_assoc refl)
+pub added_pieces : (node a b c d e f g h n0 n1 n2 n3 n4 n5 n6 n7 n8 : List ℕ) → n0 ≡ node → n1 ≡ n0 ++ a → n2 ≡ n1 ++ b → n3 ≡ n2 ++ c → n4 ≡ n3 ++ d
+    → n5 ≡ n4 ++ e → n6 ≡ n5 ++ f → n7 ≡ n6 ++ g → n8 ≡ n7 ++ h → n8 ≡ node ++ (a ++ (b ++ (c ++ (d ++ (e ++ (f ++ (g ++ h)))))))
+added_pieces node a b c d e f g h n0 n1 n2 n3 n4 n5 n6 n7 n8 e0 e1 e2 e3 e4 e5 e6 e7 e8 =
+    rw (e8, e7, e6, e5, e4, e3, e2, e1, e0) (simp append_assoc refl)

@@ -14,7 +14,7 @@ use Rattle.order_text.specs.Undo.{undone}
 use Rattle.order_text.specs.Laws.{is_one_line, IsOneLine}
 use Rattle.audit_order.specs.declared.switches.Switches.{Switches}
 use Rattle.audit_order.specs.declared.counts.Counts.{Counts}
-use Rattle.audit_order.specs.Lines.{text_of, IsEnd, AddsNoFeed}
+use Rattle.audit_order.specs.Lines.{text_of, IsEnd, IsPeer, AddsNoFeed}
 use Rattle.audit_order.specs.Reads.{log_lines, Orders, Undoes, GivesBack}
 
 -- ---- the lines of a log have no line feed
@@ -58,11 +58,13 @@ one_each (out ∷ outs) own one =
     (All-head AddsNoFeed out outs own (All-head IsOneLine (undone out) (map undone outs) one))
     (one_each outs (All-tail AddsNoFeed out outs own) (All-tail IsOneLine (undone out) (map undone outs) one))
 
-pub given_back_one : (bytes : List ℕ) (added lines : List (List ℕ)) → All IsEnd added → IsPermutation (added ++ log_lines bytes) lines → All IsOneLine lines
-given_back_one bytes added lines ends same =
-    All-permutation IsOneLine (added ++ log_lines bytes) lines same
-    (All-append IsOneLine added (log_lines bytes) (All-weaker IsEnd IsOneLine (λ end is. is.one) added ends)
-    (lines_one (map Byte bytes ++ Settle ∷ [])))
+pub given_back_one : (bytes : List ℕ) (added peers lines : List (List ℕ)) → All IsEnd added → All IsPeer peers
+    → IsPermutation (added ++ (peers ++ log_lines bytes)) lines → All IsOneLine lines
+given_back_one bytes added peers lines ends blank same =
+    All-permutation IsOneLine (added ++ (peers ++ log_lines bytes)) lines same
+    (All-append IsOneLine added (peers ++ log_lines bytes) (All-weaker IsEnd IsOneLine (λ end is. is.one) added ends)
+    (All-append IsOneLine peers (log_lines bytes) (All-weaker IsPeer IsOneLine (λ peer is. is.one) peers blank)
+    (lines_one (map Byte bytes ++ Settle ∷ []))))
 
 -- ---- such lines are read again
 
@@ -115,8 +117,10 @@ undone_orders switches bytes ordered before now counts o undoes =
     record {
       lines = map undone o.outs;
       added = o.added;
+      peers = o.peers;
       written = subst (λ (l : List (List ℕ)). Appends before now (text_of (map undone l))) lines undoes;
       same = o.same;
       ends = o.ends;
-      one = given_back_one bytes o.added (map undone o.outs) o.ends o.same;
+      blank = o.blank;
+      one = given_back_one bytes o.added o.peers (map undone o.outs) o.ends o.blank o.same;
     }

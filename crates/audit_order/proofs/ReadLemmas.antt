@@ -102,22 +102,26 @@ ends_log stands bytes left later was now cut cut2 s s2 piece empty log read ende
 
 -- what was written at the end orders the log
 pub orders : (bytes : List ℕ) (before : Start) (now : Option (List ℕ)) (w : Written) (waits lines : List (List ℕ)) (counts : Counts) → w.pending ≡ [] → waits ≡ []
-    → lines ≡ log_lines bytes → counts.times_raised ≡ w.raised → counts.added_ends ≡ w.added → counts.rewrites ≡ w.rewritten
+    → lines ≡ log_lines bytes → counts.times_raised ≡ w.raised → counts.added_ends ≡ w.added → counts.added_peers ≡ w.peers → counts.rewrites ≡ w.rewritten
     → Course before now w waits lines → Orders before.switches bytes before.written now counts
-orders bytes before now w waits lines counts flushed none are raised added rewritten c =
-    let same : IsPermutation (c.added ++ log_lines bytes) (map undone c.outs) =
-    subst (λ (l : List (List ℕ)). IsPermutation (c.added ++ l) (map undone c.outs)) are
-    (subst (λ (v : List (List ℕ)). IsPermutation (c.added ++ lines) (v ++ map undone c.outs)) none c.same) in
+orders bytes before now w waits lines counts flushed none are raised added peers rewritten c =
+    let same : IsPermutation (c.added ++ (c.peers ++ log_lines bytes)) (map undone c.outs) =
+    subst (λ (l : List (List ℕ)). IsPermutation (c.added ++ (c.peers ++ l)) (map undone c.outs)) are
+    (subst (λ (v : List (List ℕ)). IsPermutation (c.added ++ (c.peers ++ lines)) (v ++ map undone c.outs)) none c.same) in
     record {
       outs = c.outs;
       added = c.added;
+      peers = c.peers;
       written = subst (λ (t : List ℕ). Appends before.written now t) (sym (append-nil c.done) ∙ ap (λ (p : List ℕ). c.done ++ p) (sym flushed) ∙ c.text) c.appends;
       same = same;
       rises = c.rises;
       ends = c.ends;
-      one = one_each c.outs c.own (given_back_one bytes c.added (map undone c.outs) c.ends same);
+      blank = c.blank;
+      lacked = c.lacked;
+      one = one_each c.outs c.own (given_back_one bytes c.added c.peers (map undone c.outs) c.ends c.blank same);
       counts_raised = raised ∙ c.counts_raised;
       counts_added = added ∙ c.counts_added;
+      counts_peers = peers ∙ c.counts_peers;
       counts_rewritten = rewritten ∙ c.counts_rewritten;
       exact = c.exact;
     }

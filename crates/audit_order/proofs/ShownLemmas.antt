@@ -1,9 +1,9 @@
 -- Lines as they are written one after the other.
-use Rattle.std.proofs.Common.{◌≡◌, ◌+◌, ◌∙◌, sym, refl, ap, subst, ℕ, Bool, true, false, List, [], ◌∷◌, ◌++◌, length, Option, None, Some, option_map, map, max, nat_lt, reverse, arith, append_assoc, append-nil, length-append, if◌then◌else◌}
-use Rattle.std.specs.List.{filter}
+use Rattle.std.proofs.Common.{◌≡◌, ◌+◌, ◌∙◌, ◌&&◌, sym, refl, ap, subst, ℕ, Bool, true, false, List, [], ◌∷◌, ◌++◌, length, Option, None, Some, option_map, map, max, nat_lt, reverse, arith, append_assoc, append-nil, length-append, if◌then◌else◌}
+use Rattle.std.specs.List.{All, filter}
 use Rattle.std.proofs.lemmas.Bool.{ltb-true, ltb-false}
 use Rattle.std.proofs.lemmas.List.{reverse-append}
-use Rattle.std.proofs.lemmas.List.Elements.{filter-append}
+use Rattle.std.proofs.lemmas.List.Elements.{All-head, filter-append}
 use Rattle.order_text.specs.Stamp.{Stamp, time_of, stamp_of}
 use Rattle.order_text.specs.Undo.{undone, written_after, is_rewritten, takes_rewrite}
 use Rattle.order_text.specs.declared.rewrite.Rewrite.{Rewrite}
@@ -11,11 +11,14 @@ use Rattle.order_text.proofs.CutLemmas.{by_test}
 use Rattle.order_text.proofs.UndoLemmas.{has_parts, written_told}
 use Rattle.audit_order.specs.declared.switches.Switches.{Switches}
 use Rattle.order_lines.specs.Rules.{or_else}
-use Rattle.order_rules.specs.Rules.{AllKnown, StandsForLines, rewrite_of}
+use Rattle.order_rules.specs.Rules.{AllKnown, StandsForLines, rewrite_of, event_of, said_of, lacks_stamped}
+use Rattle.order_rules.specs.Deeds.{of_event, under_in}
+use Rattle.order_rules.specs.Rewrites.{ends_in, lacks_peer}
+use Rattle.order_place.specs.Places.{node_of}
 use Rattle.order_rules.proofs.LawLemmas.{rewrite_off}
 use Rattle.order_rules.specs.declared.settings.Settings as rules
 use Rattle.audit_order.specs.declared.counts.Counts.{Counts}
-use Rattle.audit_order.specs.Shown.{Latest, later_of, no_time, latest, rules_of, change_alone, change_after, shown, shown_after}
+use Rattle.audit_order.specs.Shown.{Latest, later_of, no_time, latest, rules_of, change_alone, change_after, shown, WasLacking, shown_after}
 use Rattle.audit_order.specs.Lines.{rewritten_in, risen, more_if}
 use Rattle.audit_order.specs.Reads.{Orders}
 
@@ -129,3 +132,28 @@ pub rewrites_by_rules : (switches : Switches) (bytes : List ℕ) (before now : O
     → switches.join ≡ false → switches.names ≡ false → switches.compat ≡ false → Orders switches bytes before now counts → counts.rewrites ≡ 0
 rewrites_by_rules switches bytes before now counts join names compat o =
     o.counts_rewritten ∙ ap rewritten_in o.exact ∙ plain_lines switches [] (map undone o.outs) join names compat
+
+-- ---- without connections that are apart
+
+isnt_lacking : (join apart : Bool) (b : Bool) → join && apart ≡ false → (join && (apart && b)) ≡ false
+isnt_lacking true true b e = absurd (cc e)
+isnt_lacking true false b e = refl
+isnt_lacking false apart b e = refl
+
+lacks_none : (settings : rules.Settings) (before : List (List ℕ)) (found : Option Stamp) → settings.join && settings.apart ≡ false
+    → lacks_stamped settings before found ≡ false
+lacks_none settings before None off = refl
+lacks_none settings before (Some s) off =
+    let said = said_of (node_of s.front) before in
+    isnt_lacking settings.join settings.apart (lacks_peer (ends_in said) (of_event (under_in said) (event_of s)) (event_of s)) off
+
+none_lacked : (switches : Switches) (lines peers : List (List ℕ)) → switches.join && switches.apart ≡ false
+    → All (WasLacking switches lines) peers → length peers ≡ 0
+none_lacked switches lines [] off lacked = refl
+none_lacked switches lines (peer ∷ peers) off lacked =
+    let was = All-head (WasLacking switches lines) peer peers lacked in
+    absurd (cc (was.lacks ∙ lacks_none (rules_of switches) (reverse was.before) (stamp_of peer) off))
+
+pub peers_by_rules : (switches : Switches) (bytes : List ℕ) (before now : Option (List ℕ)) (counts : Counts)
+    → switches.join && switches.apart ≡ false → Orders switches bytes before now counts → counts.added_peers ≡ 0
+peers_by_rules switches bytes before now counts off o = o.counts_peers ∙ none_lacked switches (map undone o.outs) o.peers off o.lacked

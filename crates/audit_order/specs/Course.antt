@@ -6,25 +6,29 @@ use Rattle.std.specs.Io.KnownBytes.{Appends}
 use Rattle.order_text.specs.Undo.{undone}
 use Rattle.order_rules.specs.Rules.{StandsForLines}
 use Rattle.audit_order.specs.Start.{Start}
-use Rattle.audit_order.specs.Shown.{latest, rules_of, shown_after}
-use Rattle.audit_order.specs.Lines.{text_of, times_of, raised_in, rewritten_in, IsEnd, AddsNoFeed, Written}
+use Rattle.audit_order.specs.Shown.{latest, rules_of, WasLacking, shown_after}
+use Rattle.audit_order.specs.Lines.{text_of, times_of, raised_in, rewritten_in, IsEnd, IsPeer, AddsNoFeed, Written}
 
 -- Of the lines of the log so far, each is written or waits, and none is lost, doubled or made up: what was written is undone
--- to them and to the ends that were added. Times don't fall in what is written. Each line is rewritten by the rules. Raised times,
--- rewritten lines and added ends are counted.
+-- to them, to the ends that were added, and to the peers that were because they were lacking. Times don't fall in what is written.
+-- Each line is rewritten by the rules. Raised times, rewritten lines, and added ends and peers are counted.
 pub record Course (before : Start) (now : Option (List ℕ)) (w : Written) (waits lines : List (List ℕ)) : Type 0 where
   pub outs : List (List ℕ)
   pub added : List (List ℕ)
+  pub peers : List (List ℕ)
   pub done : List ℕ
   pub appends : Appends before.written now done
   pub text : done ++ w.pending ≡ text_of outs
-  pub same : IsPermutation (added ++ lines) (waits ++ map undone outs)
+  pub same : IsPermutation (added ++ (peers ++ lines)) (waits ++ map undone outs)
   pub rises : IsNonDecreasing (times_of outs)
   pub below : All (λ time. time ≤ w.latest.ms) (times_of outs)
   pub ends : All IsEnd added
+  pub blank : All IsPeer peers
+  pub lacked : All (WasLacking before.switches (map undone outs)) peers
   pub own : All AddsNoFeed outs
   pub counts_raised : w.raised ≡ raised_in outs
   pub counts_added : w.added ≡ length added
+  pub counts_peers : w.peers ≡ length peers
   pub counts_rewritten : w.rewritten ≡ rewritten_in outs
   pub switches : w.switches ≡ before.switches
   pub settings : w.rules.settings ≡ rules_of before.switches

@@ -1,12 +1,12 @@
 -- Lines that are written.
-use Rattle.std.specs.Prelude.{◌≡◌, ℕ, ◌+◌, Bool, false, List, [], ◌∷◌, ◌++◌, Option, None, Some, max, length, nat_lt, codes, option_map, option_to_list, if◌then◌else◌}
+use Rattle.std.specs.Prelude.{◌≡◌, ◌⊎◌, ℕ, ◌+◌, Bool, true, false, List, [], ◌∷◌, ◌++◌, Option, None, Some, max, length, nat_lt, codes, option_map, option_to_list, if◌then◌else◌}
 use Rattle.std.specs.List.{flat_map, filter}
 use Rattle.order_text.specs.Stamp.{Stamp, stamp_of}
 use Rattle.order_text.specs.Laws.{time_in, number_in, IsOneLine}
 use Rattle.order_text.specs.Undo.{undone, written_of, is_rewritten, takes_rewrite}
 use Rattle.order_text.specs.declared.rewrite.Rewrite.{Rewrite}
 use Rattle.order_lines.specs.Rules.{or_else}
-use Rattle.order_rules.specs.Rules.{AllKnown, StandsForLines, rewrite_of}
+use Rattle.order_rules.specs.Rules.{AllKnown, StandsForLines, rewrite_of, lacks_of}
 use Rattle.audit_order.specs.declared.switches.Switches.{Switches}
 use Rattle.audit_order.specs.Shown.{Latest, later_of, no_time, rules_of, change_alone}
 
@@ -22,17 +22,25 @@ times_of lines = flat_map (λ line. option_to_list (time_in line)) lines
 abbrev pub numbers_of : List (List ℕ) → List ℕ
 numbers_of lines = flat_map (λ line. option_to_list (number_in line)) lines
 
--- the text of an EOE record: a node or nothing, a time and a serial number
-pub record SpellsEnd (line : List ℕ) : Type 0 where
+-- the text of a record of this kind: a node or nothing, a time and a serial number, and what it says
+pub record Spells (kind says line : List ℕ) : Type 0 where
   pub node : List ℕ
   pub time : List ℕ
   pub serial : List ℕ
-  pub is : line ≡ node ++ (codes "type=EOE msg=audit(" ++ (time ++ 58 ∷ (serial ++ codes "): ")))
+  pub is : line ≡ node ++ (codes "type=" ++ (kind ++ (codes " msg=audit(" ++ (time ++ 58 ∷ (serial ++ (codes "): " ++ says))))))
+
+-- a record of some event that is one line
+pub record IsAdded (kind says line : List ℕ) : Type 0 where
+  pub spells : Spells kind says line
+  pub one : IsOneLine line
 
 -- an EOE record of some event: the line that ends it
-pub record IsEnd (line : List ℕ) : Type 0 where
-  pub spells : SpellsEnd line
-  pub one : IsOneLine line
+abbrev pub IsEnd : List ℕ → Type 0
+IsEnd line = IsAdded (codes "EOE") [] line
+
+-- the record of a peer without an address that is marked as added
+abbrev pub IsPeer : List ℕ → Type 0
+IsPeer line = IsAdded (codes "SOCKADDR") (codes "saddr=0100" ++ 29 ∷ codes "ADDED=yes") line
 
 -- a line as it is written has a line feed only if it had one before
 abbrev pub AddsNoFeed : List ℕ → Type 0
@@ -61,7 +69,7 @@ risen ms None = ms
 risen ms (Some time) = max ms time
 
 -- which lines are rewritten, what is known for that, what waits to be written, the greatest time that was written, how many times
--- were raised, how many lines were rewritten and how many ends were added
+-- were raised, how many lines were rewritten, and how many ends and peers were added
 pub record Written : Type 0 where
   pub switches : Switches
   pub rules : AllKnown
@@ -70,10 +78,11 @@ pub record Written : Type 0 where
   pub raised : ℕ
   pub rewritten : ℕ
   pub added : ℕ
+  pub peers : ℕ
 
 -- nothing was written
 pub record IsBlank (switches : Switches) (w : Written) : Type 0 where
-  pub is : w ≡ record { switches = switches; rules = w.rules; pending = []; latest = no_time; raised = 0; rewritten = 0; added = 0 }
+  pub is : w ≡ record { switches = switches; rules = w.rules; pending = []; latest = no_time; raised = 0; rewritten = 0; added = 0; peers = 0 }
   pub settings : w.rules.settings ≡ rules_of switches
   pub rules : StandsForLines w.rules []
 
@@ -109,8 +118,18 @@ pub record Writes (old new : Written) (line : List ℕ) : Type 0 where
   pub asks : Asks old mid line change
   pub is : new ≡ wrote mid line (stamp_of line) change
 
--- one more line is written, and counted as added
+-- one more line is written, and counted as an end that was added
 pub record Adds (old new : Written) (line : List ℕ) : Type 0 where
   pub mid : Written
   pub writes : Writes old mid line
   pub is : new ≡ record mid { added = mid.added + 1 }
+
+-- one more line is written because it is lacking, as the rules say, and counted as a peer that was added
+pub record AddsPeer (old new : Written) (line : List ℕ) : Type 0 where
+  pub lacks : (before : List (List ℕ)) → StandsForLines old.rules before → true ≡ lacks_of old.rules.settings before line
+  pub mid : Written
+  pub writes : Writes old mid line
+  pub is : new ≡ record mid { peers = mid.peers + 1 }
+
+abbrev pub MayAddPeer : Written → Written → List ℕ → Type 0
+MayAddPeer old new line = (new ≡ old) ⊎ AddsPeer old new line

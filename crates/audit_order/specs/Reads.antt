@@ -1,5 +1,5 @@
 -- How far a log was read.
-use Rattle.std.specs.Prelude.{◌≡◌, ℕ, false, List, [], ◌∷◌, ◌++◌, Option, None, Some, map, length, IsPermutation}
+use Rattle.std.specs.Prelude.{◌≡◌, ℕ, ◌&&◌, false, List, [], ◌∷◌, ◌++◌, Option, None, Some, map, length, IsPermutation}
 use Rattle.std.specs.List.{All}
 use Rattle.std.specs.List.Sorted.{IsNonDecreasing}
 use Rattle.std.specs.Io.KnownBytes.{Appends}
@@ -11,8 +11,8 @@ use Rattle.order_text.specs.Laws.{IsOneLine}
 use Rattle.audit_order.specs.declared.counts.Counts.{Counts}
 use Rattle.audit_order.specs.declared.switches.Switches.{Switches}
 use Rattle.audit_order.specs.Start.{Start}
-use Rattle.audit_order.specs.Shown.{shown_after}
-use Rattle.audit_order.specs.Lines.{text_of, times_of, raised_in, rewritten_in, IsEnd}
+use Rattle.audit_order.specs.Shown.{WasLacking, shown_after}
+use Rattle.audit_order.specs.Lines.{text_of, times_of, raised_in, rewritten_in, IsEnd, IsPeer}
 use Rattle.audit_order.specs.Taken.{Standing, Stays, Takes}
 
 -- the lines of a history were cut out and taken
@@ -34,19 +34,24 @@ TakesNext stands was old now new (Some line) = (line.long ≡ false) × Takes st
 abbrev pub log_lines : List ℕ → List (List ℕ)
 log_lines bytes = lines_of (with_bytes [] bytes ++ Settle ∷ [])
 
--- What was written orders a log: with what was changed undone it is the lines of the log and the ends that were added, in some
--- order, none of them lost, doubled or made up; the times in it don't fall; and each of its lines is one line. The lines are
--- changed exactly as the greatest time before each and the rules say. Raised times, rewritten lines and added ends are counted.
+-- What was written orders a log: with what was changed undone it is the lines of the log and the ends and peers that were added, in
+-- some order, none of them lost, doubled or made up, and each peer was lacking; the times in it don't fall; and each of its lines is
+-- one line. The lines are changed exactly as the greatest time before each and the rules say. Raised times, rewritten lines, and
+-- added ends and peers are counted.
 pub record Orders (switches : Switches) (bytes : List ℕ) (before now : Option (List ℕ)) (counts : Counts) : Type 0 where
   pub outs : List (List ℕ)
   pub added : List (List ℕ)
+  pub peers : List (List ℕ)
   pub written : Appends before now (text_of outs)
-  pub same : IsPermutation (added ++ log_lines bytes) (map undone outs)
+  pub same : IsPermutation (added ++ (peers ++ log_lines bytes)) (map undone outs)
   pub rises : IsNonDecreasing (times_of outs)
   pub ends : All IsEnd added
+  pub blank : All IsPeer peers
+  pub lacked : All (WasLacking switches (map undone outs)) peers
   pub one : All IsOneLine outs
   pub counts_raised : counts.times_raised ≡ raised_in outs
   pub counts_added : counts.added_ends ≡ length added
+  pub counts_peers : counts.added_peers ≡ length peers
   pub counts_rewritten : counts.rewrites ≡ rewritten_in outs
   pub exact : outs ≡ shown_after switches [] (map undone outs)
 
@@ -54,16 +59,19 @@ pub record Orders (switches : Switches) (bytes : List ℕ) (before now : Option 
 abbrev pub Undoes : List ℕ → (before now : Option (List ℕ)) → Type 0
 Undoes bytes before now = Appends before now (text_of (map undone (log_lines bytes)))
 
--- What was written is the lines of a log and the ends that were added, in some order: none of them is lost, doubled or made up.
+-- What was written is the lines of a log and the ends and peers that were added, in some order: none of them is lost, doubled or
+-- made up.
 pub record GivesBack (bytes : List ℕ) (before now : Option (List ℕ)) : Type 0 where
   pub lines : List (List ℕ)
   pub added : List (List ℕ)
+  pub peers : List (List ℕ)
   pub written : Appends before now (text_of lines)
-  pub same : IsPermutation (added ++ log_lines bytes) lines
+  pub same : IsPermutation (added ++ (peers ++ log_lines bytes)) lines
   pub ends : All IsEnd added
+  pub blank : All IsPeer peers
   pub one : All IsOneLine lines
 
--- undoing what orders a log gives the lines of the log and the ends that were added
+-- undoing what orders a log gives the lines of the log and the ends and peers that were added
 abbrev pub UndoesOrders : Type 0
 UndoesOrders =
     (switches : Switches) (bytes ordered : List ℕ) (before now : Option (List ℕ)) (counts : Counts)
@@ -78,3 +86,9 @@ abbrev pub RewritesByRules : Type 0
 RewritesByRules =
     (switches : Switches) (bytes : List ℕ) (before now : Option (List ℕ)) (counts : Counts)
     → switches.join ≡ false → switches.names ≡ false → switches.compat ≡ false → Orders switches bytes before now counts → counts.rewrites ≡ 0
+
+-- without connections that are apart no peer is added
+abbrev pub AddsPeersByRules : Type 0
+AddsPeersByRules =
+    (switches : Switches) (bytes : List ℕ) (before now : Option (List ℕ)) (counts : Counts)
+    → switches.join && switches.apart ≡ false → Orders switches bytes before now counts → counts.added_peers ≡ 0

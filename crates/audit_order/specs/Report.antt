@@ -10,7 +10,8 @@ number_text n = decimal n
 abbrev pub report_of : Counts → List ℕ
 report_of counts =
     codes "{\"added_ends\":" ++ (number_text counts.added_ends
+    ++ (codes ",\"added_peers\":" ++ (number_text counts.added_peers
     ++ (codes ",\"events\":" ++ (number_text counts.events
     ++ (codes ",\"late\":" ++ (number_text counts.late
     ++ (codes ",\"rewrites\":" ++ (number_text counts.rewrites
-    ++ (codes ",\"times_raised\":" ++ (number_text counts.times_raised ++ codes "}\n")))))))))
+    ++ (codes ",\"times_raised\":" ++ (number_text counts.times_raised ++ codes "}\n")))))))))))

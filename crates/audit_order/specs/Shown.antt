@@ -1,11 +1,11 @@
 -- How lines are written: with times that never fall, and rewritten by rules.
-use Rattle.std.specs.Prelude.{ℕ, List, [], ◌∷◌, Option, None, Some, nat_lt, codes, if◌then◌else◌}
+use Rattle.std.specs.Prelude.{◌≡◌, ℕ, true, List, [], ◌∷◌, ◌++◌, reverse, Option, None, Some, nat_lt, codes, if◌then◌else◌}
 use Rattle.order_text.specs.Stamp.{Stamp, stamp_of}
 use Rattle.order_text.specs.Undo.{written_after}
 use Rattle.order_text.specs.declared.rewrite.Rewrite.{Rewrite}
 use Rattle.order_lines.specs.Rules.{change_of, or_else}
 use Rattle.order_lines.specs.declared.rules.Settings as alone
-use Rattle.order_rules.specs.Rules.{rewrite_of}
+use Rattle.order_rules.specs.Rules.{rewrite_of, lacks_of}
 use Rattle.order_rules.specs.declared.settings.Settings as rules
 use Rattle.audit_order.specs.declared.switches.Switches.{Switches}
 
@@ -47,6 +47,13 @@ change_after switches before line = or_else (change_alone switches (stamp_of lin
 -- a line as it is written after these, the newest of which stands first
 abbrev pub shown : Switches → List (List ℕ) → List ℕ → List ℕ
 shown switches before line = written_after (latest before).time (latest before).ms line (change_after switches before line)
+
+-- a line stands among these, and after those before it the rules said that it was lacking
+pub record WasLacking (switches : Switches) (lines : List (List ℕ)) (line : List ℕ) : Type 0 where
+  pub before : List (List ℕ)
+  pub after : List (List ℕ)
+  pub is : lines ≡ before ++ line ∷ after
+  pub lacks : true ≡ lacks_of (rules_of switches) (reverse before) line
 
 -- lines as they are written one after the other, after these, the newest of which stands first
 abbrev pub shown_after : Switches → List (List ℕ) → List (List ℕ) → List (List ℕ)

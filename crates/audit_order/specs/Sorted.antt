@@ -29,7 +29,7 @@ Goes was old now new = Stays Sorts was old now new
 -- what a sorter has done
 abbrev pub counts_of : Sorter → Counts
 counts_of s =
-    record { added_ends = s.writer.added; events = s.tally.events; late = s.tally.late; rewrites = s.writer.rewritten; times_raised = s.writer.raised }
+    record { added_ends = s.writer.added; added_peers = s.writer.peers; events = s.tally.events; late = s.tally.late; rewrites = s.writer.rewritten; times_raised = s.writer.raised }
 
 -- the clock is more than the window past a time, if there is one
 abbrev pub is_past : ℕ → Option ℕ → ℕ → Bool

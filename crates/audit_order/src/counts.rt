@@ -12,13 +12,15 @@ use std::alloc::Global;
 pub struct Counts {
     /// The ends that were added.
     pub added_ends: u64,
+    /// The blank peers that were added.
+    pub added_peers: u64,
     /// The events that were written.
     pub events: u64,
     /// The events that were written after one whose place is later.
     pub late: u64,
     /// The lines of which a part was rewritten.
     pub rewrites: u64,
-    /// The lines whose time was raised, with the added ends among them.
+    /// The lines whose time was raised, with the added ends and peers among them.
     pub times_raised: u64,
 }
 
@@ -27,6 +29,7 @@ impl Counts {
     pub fn new() -> Counts {
         Counts {
             added_ends: 0,
+            added_peers: 0,
             events: 0,
             late: 0,
             rewrites: 0,
@@ -74,6 +77,8 @@ pub fn report(alloc: Global, counts: Counts) -> Result<Bytes, NoMemory>
 {
     let mut line = Bytes::from_slice(alloc, b"{\"added_ends\":")?;
     append_number(&mut line, counts.added_ends)?;
+    line.append(b",\"added_peers\":")?;
+    append_number(&mut line, counts.added_peers)?;
     line.append(b",\"events\":")?;
     append_number(&mut line, counts.events)?;
     line.append(b",\"late\":")?;

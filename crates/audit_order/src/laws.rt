@@ -1,9 +1,14 @@
 //! What ordering and undoing promise together. The functions do nothing; their contracts are laws.
-ghost use Rattle.audit_order.specs.Reads.{UndoesOrders, TextHasLines, RewritesByRules};
+ghost use Rattle.audit_order.specs.Reads.{UndoesOrders, TextHasLines, RewritesByRules, AddsPeersByRules};
 
-/// Undoing what orders a log gives the lines of the log and the ends that were added, in some order.
+/// Undoing what orders a log gives the lines of the log and the ends and peers that were added, in some order.
 pub fn ordered_logs_are_undone()
     ensures { UndoesOrders }
+{}
+
+/// If connections aren't apart, no peer is added.
+pub fn no_peer_is_added_without_its_rule()
+    ensures { AddsPeersByRules }
 {}
 
 /// Lines without a line feed that are written, each with a line feed after it, are the lines of what is written.

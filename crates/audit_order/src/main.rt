@@ -13,9 +13,9 @@
 ghost use Rattle.std.specs.Prelude.{◌≡◌, ◌≢◌, ◌⊎◌, None, IfErr, map, string_bytes};
 ghost use Rattle.audit_order.specs.Words.{job_of};
 
+mod added;
 mod bounds;
 mod counts;
-mod end;
 mod halt;
 mod laws;
 mod log;
@@ -34,7 +34,8 @@ mod writer;
 pub use bounds::Bounds;
 pub use counts::{Counts, report};
 pub use laws::{
-    nothing_is_rewritten_without_rules, ordered_logs_are_undone, written_lines_are_lines,
+    no_peer_is_added_without_its_rule, nothing_is_rewritten_without_rules, ordered_logs_are_undone,
+    written_lines_are_lines,
 };
 use outside::put_all;
 use outside_real::{Reading, Writing};

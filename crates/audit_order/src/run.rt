@@ -58,9 +58,10 @@ fn order<L: Source, O: Sink>(
 
 /// Writes the lines of a log in the order of effects.
 ///
-/// At `Done` what was written, with what was changed undone, is the lines of the log and the ends that were added, in some
-/// order: nothing is lost, doubled or made up. The times in it never fall, and lines are rewritten exactly as the rules say
-/// that the switches allow. Raised times, rewritten lines and added ends are counted.
+/// At `Done` what was written, with what was changed undone, is the lines of the log and the ends and peers that were added, in
+/// some order: nothing is lost, doubled or made up. The times in it never fall, lines are rewritten exactly as the rules say
+/// that the switches allow, and each peer was lacking by those rules. Raised times, rewritten lines, and added ends and peers
+/// are counted.
 pub fn order_run<L: Source, O: Sink>(
     alloc: Global,
     bounds: Bounds,

@@ -8,9 +8,9 @@ ghost use Rattle.audit_order.specs.Course.{Gives, Keeps};
 ghost use Rattle.audit_order.specs.Sorted.{Sorts, Moves, Holds, counts_of, is_past, any_is_past};
 ghost use Rattle.audit_order.specs.Tally.{is_of, tally_with};
 
+use crate::added::{end_of_call, is_accept, is_call, peer_of_call};
 use crate::bounds::Bounds;
 use crate::counts::{Counts, Tally};
-use crate::end::{End, is_call};
 use crate::switches::Switches;
 use crate::writer::Writer;
 use audit_lex::UsedLine;
@@ -22,13 +22,15 @@ use order_rules::{Note, note_of};
 use order_text::{Stamp, read_stamp};
 use std::alloc::Global;
 
-/// The event whose lines are written now, and the record of its call, if it is a call's event without an end so far.
+/// The event whose lines are written now, and the record of its call, if it is a call's event without an end so far. `accepts`: that
+/// is an accept, and may lack the address of its peer.
 #[derive(Drop)]
 pub struct Turn {
     pub ms: u64,
     pub serial: u32,
     pub node: Bytes,
     pub call: Option<Noted>,
+    pub accepts: bool,
 }
 
 /// What was seen, what waits, and what is written.
@@ -65,6 +67,7 @@ impl Sorter {
                 serial: 0,
                 node: Bytes::new(alloc),
                 call: None,
+                accepts: false,
             },
             tally: Tally {
                 events: 0,
@@ -82,11 +85,39 @@ impl Sorter {
     {
         Counts {
             added_ends: self.writer.added(),
+            added_peers: self.writer.peers(),
             events: self.tally.events,
             late: self.tally.late,
             rewrites: self.writer.rewritten(),
             times_raised: self.writer.raised(),
         }
+    }
+}
+
+// Writes the record of the peer that the event lacks whose lines are written, before its end.
+fn write_peer(sorter: &mut Sorter) -> Result<(), NoMemory>
+    ensures keeps { OnOk result (Keeps sorter.old.writer sorter.new.writer) }
+    ensures tally { sorter.new.tally ≡ sorter.old.tally }
+    ensures waits { sorter.new.queue ≡ sorter.old.queue }
+    ensures bounds { sorter.new.bounds ≡ sorter.old.bounds }
+{
+    if !sorter.turn.accepts {
+        return Ok(());
+    }
+    sorter.turn.accepts = false;
+    match &sorter.turn.call {
+        None => Ok(()),
+        Some(call) => write_peer_of(sorter.alloc, &mut sorter.writer, call.as_slice()),
+    }
+}
+
+// Writes the record of the peer of an accept, by the call's record, if the log lacks it.
+fn write_peer_of(alloc: Global, writer: &mut Writer, call: &[u8]) -> Result<(), NoMemory>
+    ensures { OnOk result (Keeps writer.old writer.new) }
+{
+    match peer_of_call(alloc, call)? {
+        None => Ok(()),
+        Some(peer) => writer.write_peer(peer.as_slice()),
     }
 }
 
@@ -97,6 +128,7 @@ pub fn write_end(sorter: &mut Sorter) -> Result<(), NoMemory>
     ensures waits { sorter.new.queue ≡ sorter.old.queue }
     ensures bounds { sorter.new.bounds ≡ sorter.old.bounds }
 {
+    write_peer(sorter)?;
     match sorter.turn.call.take() {
         None => Ok(()),
         Some(call) => write_end_of(sorter, call.as_slice()),
@@ -110,13 +142,14 @@ fn write_end_of(sorter: &mut Sorter, call: &[u8]) -> Result<(), NoMemory>
     ensures waits { sorter.new.queue ≡ sorter.old.queue }
     ensures bounds { sorter.new.bounds ≡ sorter.old.bounds }
 {
-    match End::of_call(sorter.alloc, call)? {
+    match end_of_call(sorter.alloc, call)? {
         None => Ok(()),
-        Some(end) => sorter.writer.write_added(end.line()),
+        Some(end) => sorter.writer.write_added(end.as_slice()),
     }
 }
 
-// If the line is of another event than those before it, that one is ended, and the line's own is counted.
+// If the line is of another event than those before it, that one is ended, and the line's own is counted. If it ends the event of
+// those, the peer that this lacks stands before it.
 fn turn_to(sorter: &mut Sorter, item: &Waiting) -> Result<(), NoMemory>
     ensures keeps { OnOk result (Keeps sorter.old.writer sorter.new.writer) }
     ensures counts { OnOk result (sorter.new.tally
@@ -125,6 +158,9 @@ fn turn_to(sorter: &mut Sorter, item: &Waiting) -> Result<(), NoMemory>
     ensures bounds { sorter.new.bounds ≡ sorter.old.bounds }
 {
     if is_of(&sorter.turn, item) {
+        if item.rank > 0 {
+            return write_peer(sorter);
+        }
         return Ok(());
     }
     sorter.tally.note(item.time)?;
@@ -168,6 +204,7 @@ fn write_item(sorter: &mut Sorter, item: Waiting) -> Result<(), NoMemory>
     let stamp = item.line.stamp();
     sorter.writer.write(line, &stamp, item.line.note())?;
     let calls = is_call(&stamp);
+    sorter.turn.accepts = sorter.turn.accepts && !calls || is_accept(&stamp);
     note_end(&mut sorter.turn, item.rank, calls, item.line);
     Ok(())
 }

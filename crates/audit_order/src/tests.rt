@@ -170,7 +170,8 @@ const MET_PEER: &[u8] = b"type=SOCKADDR msg=audit(1.002:4): saddr=02001F907F0000
 \x1dWAS={ audit(1.002:4) 40 : saddr=0200D4317F0000010000000000000000 }\n";
 
 // The accept has a connection of its own, which is named after it since no connect waits: 127.0.0.1:8080#1002:4.
-const MET_APART: &[u8] = b"type=SOCKADDR msg=audit(1.002:4): saddr=01003132372E302E302E313A3830383023313030323A34\
+const MET_APART: &[u8] =
+    b"type=SOCKADDR msg=audit(1.002:4): saddr=01003132372E302E302E313A3830383023313030323A34\
 \x1dWAS={ audit(1.002:4) 54 : saddr=0200D4317F0000010000000000000000 }\n";
 
 // A process connects to a port, and another one accepts the connection.
@@ -195,6 +196,36 @@ type=SOCKADDR msg=audit(1.003:5): saddr=01003132372E302E302E313A3830383023313030
 const CALLED_SHARED: &[u8] =
     b"type=SOCKADDR msg=audit(1.003:5): saddr=02001F907F0000010000000000000000\
 \x1dWAS={ audit(1.003:5) 40 : saddr=0200D4317F0000010000000000000000 }\n";
+
+// The same with accepts that don't ask for the peer's address: one takes the connection, one has a record of its peer all the same,
+// and no connect waits for the last.
+const SILENT: &[u8] =
+    b"type=SYSCALL msg=audit(1.001:3): arch=c000003e syscall=49 success=yes exit=0 a0=5 a1=0 a2=0 a3=0 ppid=1 pid=10\n\
+type=SOCKADDR msg=audit(1.001:3): saddr=02001F90000000000000000000000000\n\
+type=EOE msg=audit(1.001:3): \n\
+type=SYSCALL msg=audit(1.002:4): arch=c000003e syscall=42 success=yes exit=0 a0=3 a1=0 a2=0 a3=0 ppid=1 pid=20\n\
+type=SOCKADDR msg=audit(1.002:4): saddr=02001F907F0000010000000000000000\n\
+type=EOE msg=audit(1.002:4): \n\
+type=SYSCALL msg=audit(1.003:5): arch=c000003e syscall=43 success=yes exit=6 a0=5 a1=0 a2=0 a3=0 ppid=1 pid=10\n\
+type=PROCTITLE msg=audit(1.003:5): proctitle=\"p\"\n\
+type=SYSCALL msg=audit(1.004:6): arch=c000003e syscall=42 success=yes exit=0 a0=3 a1=0 a2=0 a3=0 ppid=1 pid=20\n\
+type=SOCKADDR msg=audit(1.004:6): saddr=02001F907F0000010000000000000000\n\
+type=EOE msg=audit(1.004:6): \n\
+type=SYSCALL msg=audit(1.005:7): arch=c000003e syscall=43 success=yes exit=7 a0=5 a1=0 a2=0 a3=0 ppid=1 pid=10\n\
+type=SOCKADDR msg=audit(1.005:7): saddr=0200D4310A0000090000000000000000\n\
+type=SYSCALL msg=audit(1.006:8): arch=c000003e syscall=288 success=yes exit=8 a0=5 a1=0 a2=0 a3=0 ppid=1 pid=10\n\
+type=SYSCALL msg=audit(1.007:9): arch=c000003e syscall=288 success=yes exit=9 a0=5 a1=0 a2=0 a3=0 ppid=1 pid=10\n";
+
+// The connection is 127.0.0.1:8080#1002:4, and the next one 127.0.0.1:8080#1004:6.
+const SILENT_APART: &[u8] =
+    b"type=SOCKADDR msg=audit(1.002:4): saddr=01003132372E302E302E313A3830383023313030323A34\
+\x1dWAS={ audit(1.002:4) 54 : saddr=02001F907F0000010000000000000000 }\n\
+type=SOCKADDR msg=audit(1.003:5): saddr=01003132372E302E302E313A3830383023313030323A34\x1dADDED=yes\
+\x1dWAS={ audit(1.003:5) 54 : saddr=0100 }\n\
+type=SOCKADDR msg=audit(1.004:6): saddr=01003132372E302E302E313A3830383023313030343A36\
+\x1dWAS={ audit(1.004:6) 54 : saddr=02001F907F0000010000000000000000 }\n\
+type=SOCKADDR msg=audit(1.006:8): saddr=01003132372E302E302E313A3830383023313030343A36\x1dADDED=yes\
+\x1dWAS={ audit(1.006:8) 54 : saddr=0100 }\n";
 
 // The record of a 32-bit fork stands after a later event, and no line may wait.
 const LATE: &[u8] =
@@ -326,7 +357,8 @@ fn lines_that_wait_for_less_are_late(rt: HostRuntime) -> Result<(), Fail> {
     let (_, written, counts) = order(&rt, Bounds::of(20, 0), ON, WAITED)?;
     assert_eq!(rt; written.as_slice(), WAITED_AT_ONCE);
     let line = report(rt.alloc(), counts)?;
-    let text = b"{\"added_ends\":4,\"events\":4,\"late\":1,\"rewrites\":0,\"times_raised\":6}\n";
+    let text =
+        b"{\"added_ends\":4,\"added_peers\":0,\"events\":4,\"late\":1,\"rewrites\":0,\"times_raised\":6}\n";
     assert_eq!(rt; line.as_slice(), text.as_slice());
     Ok(())
 }
@@ -412,6 +444,23 @@ fn both_ends_of_a_connection_are_one_object(rt: HostRuntime) -> Result<(), Fail>
         assert_eq!(rt; counts.rewrites, rewrites);
         let (_, lines) = undo(&rt, written.as_slice())?;
         assert_eq!(rt; lines.as_slice(), CALLED);
+    }
+    Ok(())
+}
+
+#[test]
+fn a_peer_that_was_accepted_silently_is_added(rt: HostRuntime) -> Result<(), Fail> {
+    let rows = [
+        (true, true, SILENT_APART, 2),
+        (true, false, b"".as_slice(), 0),
+        (false, true, b"".as_slice(), 0),
+    ];
+    for (join, apart, text, peers) in rows {
+        let switches = Switches { join, apart, ..ON };
+        let (_, written, counts) = order(&rt, Bounds::of(20, 64), switches, SILENT)?;
+        let found = marked(&rt, written.as_slice())?;
+        assert_eq!(rt; found.as_slice(), text);
+        assert_eq!(rt; counts.added_peers, peers);
     }
     Ok(())
 }

@@ -1,5 +1,5 @@
 //! Lines on their way out, with times that never fall, rewritten by rules.
-ghost use Rattle.std.specs.Prelude.{◌≡◌, ◌+◌, [], ◌++◌, ◌∷◌, Option, option_map, IfOk, IfSome, OnOk, IfErr, None, Some, nat_lt};
+ghost use Rattle.std.specs.Prelude.{◌≡◌, ◌+◌, List, ℕ, [], ◌++◌, ◌∷◌, Option, option_map, IfOk, IfSome, OnOk, IfErr, None, Some, nat_lt};
 ghost use Rattle.std.specs.Io.KnownBytes.{Appends};
 ghost use Rattle.order_text.specs.Seen.{stamp_seen};
 ghost use Rattle.order_text.specs.Stamp.{stamp_of, time_of};
@@ -8,8 +8,9 @@ ghost use Rattle.audit_order.specs.Halts.{HasCauses, GoesUp};
 ghost use Rattle.order_text.specs.declared.rewrite.Rewrite.{Rewrite};
 ghost use Rattle.order_lines.specs.Rules.{or_else};
 ghost use Rattle.order_rules.specs.Notes.{IsNoted};
+ghost use Rattle.order_rules.specs.Rules.{StandsForLines, lacks_stamped};
 ghost use Rattle.audit_order.specs.Shown.{Latest, later_of, change_alone};
-ghost use Rattle.audit_order.specs.Lines.{wrote, Asks, Writes, Adds, IsBlank, more_if};
+ghost use Rattle.audit_order.specs.Lines.{wrote, Asks, Writes, Adds, MayAddPeer, IsBlank, more_if};
 
 use crate::counts::count_one;
 use crate::halt::Halt;
@@ -26,7 +27,7 @@ use std::marker::Model;
 pub const CHUNK: usize = 65_536;
 
 /// Which lines are rewritten, and what is known for that; what waits to be written; the greatest time that was written, as a text and in milliseconds; how
-/// many times were raised, how many lines were rewritten, and how many ends were added.
+/// many times were raised, how many lines were rewritten, and how many ends and peers were added.
 #[derive(Drop)]
 pub struct Writer {
     alloc: Global,
@@ -38,6 +39,7 @@ pub struct Writer {
     raised: u64,
     rewritten: u64,
     added: u64,
+    peers: u64,
 }
 
 impl Model for Writer {
@@ -55,6 +57,7 @@ impl Model for Writer {
       raised = a.raised;
       rewritten = a.rewritten;
       added = a.added;
+      peers = a.peers;
     } };
 
     ghost invariant = { λ a. time_of a.time ≡ Some a.ms };
@@ -76,6 +79,7 @@ impl Writer {
             raised: 0,
             rewritten: 0,
             added: 0,
+            peers: 0,
         })
     }
 
@@ -100,6 +104,13 @@ impl Writer {
         self.added
     }
 
+    /// How many peers were added.
+    pub fn peers(&self) -> u64
+        ensures { result ≡ self.now.peers }
+    {
+        self.peers
+    }
+
     /// How many bytes wait to be written.
     pub fn pending(&self) -> usize {
         self.pending.as_slice().len()
@@ -111,6 +122,29 @@ impl Writer {
     {
         self.write(line, &read_stamp(line), None)?;
         count_one(&mut self.added)
+    }
+
+    /// Writes the record of a peer, if the log lacks it.
+    pub fn write_peer(&mut self, line: &[u8]) -> Result<(), NoMemory>
+        ensures { OnOk result (MayAddPeer self.old self.new line.now) }
+    {
+        let stamp = read_stamp(line);
+        if !self.lacks_peer(&stamp)? {
+            return Ok(());
+        }
+        self.write(line, &stamp, None)?;
+        count_one(&mut self.peers)
+    }
+
+    // Whether the event of a line of this stamp lacks the address of its peer.
+    fn lacks_peer(&self, stamp: &Option<Stamp<'_>>) -> Result<bool, NoMemory>
+        ensures { IfOk result (λ lacks. (before : List (List ℕ)) → StandsForLines self.now.rules before
+            → lacks ≡ lacks_stamped self.now.rules.settings before (option_map stamp_seen stamp.now)) }
+    {
+        match stamp {
+            None => Ok(false),
+            Some(stamp) => self.rules.lacks_peer(stamp),
+        }
     }
 
     /// Writes a line of this stamp, of which something may have been noted. Its time is raised if it would fall, and it is rewritten

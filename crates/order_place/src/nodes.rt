@@ -1,7 +1,7 @@
 //! What is kept of each node, by its name.
 //!
 //! What was kept last stands apart from the map, since most lines are of the node of the line before.
-ghost use Rattle.std.specs.Prelude.{◌≡◌, ◌++◌, ℕ, List, [], Some, false, option_to_list, OnOk};
+ghost use Rattle.std.specs.Prelude.{◌≡◌, ◌++◌, ℕ, List, [], Some, false, option_map, option_to_list, OnOk};
 ghost use Rattle.std.specs.Map.{lookup};
 ghost use Rattle.order_place.specs.Nodes.{is_node, is_of};
 
@@ -33,6 +33,16 @@ impl<T: Drop> Nodes<T> {
         Nodes {
             last: None,
             others: BTreeMap::new(alloc),
+        }
+    }
+
+    /// What is kept of a node.
+    pub fn get(&self, name: &Bytes) -> Option<&T>
+        ensures { option_map (λ item. item.now) result ≡ lookup (is_node name.now) self.now }
+    {
+        match &self.last {
+            Some((kept, item)) if name.cmp(kept).is_eq() => Some(item),
+            _ => self.others.get(name),
         }
     }
 

@@ -6,6 +6,8 @@ use Rattle.order_rules.specs.declared.call.Act.TheVariants as act
 use Rattle.order_rules.specs.declared.call.Asks.{Asks}
 use Rattle.order_rules.specs.declared.call.Asks.TheVariants as asks
 use Rattle.order_rules.specs.declared.call.Args.{Args}
+use Rattle.order_rules.specs.declared.call.SocketKind.{SocketKind}
+use Rattle.order_rules.specs.declared.call.SocketKind.TheVariants as kind
 
 -- one of these calls
 abbrev pub is_among : List ℕ → ℕ → Bool
@@ -84,18 +86,22 @@ abbrev pub opened : Option ℕ → Bool → Act
 opened None stays = act.Nothing
 opened (Some fd) stays = act.Opens fd stays
 
--- whether the type of a new socket is that of a stream: the low four bits are 1
-abbrev pub is_stream_type : Option ℕ → Bool
-is_stream_type None = false
-is_stream_type (Some flags) = flags % 16 == 1
+-- what a socket of this type carries: a stream by the type 1, datagrams by the type 2
+abbrev pub kind_of : ℕ → SocketKind
+kind_of socket_type = if socket_type == 1 then kind.Stream else if socket_type == 2 then kind.Datagrams else kind.Other
 
--- whether a call makes a stream: accepts do, and socket by the type that it has second
-abbrev pub makes_stream : ℕ → Args → Bool
-makes_stream number args = if number == 41 then is_stream_type args.second else true
+-- the type is in the low four bits
+abbrev pub kind_by : Option ℕ → SocketKind
+kind_by None = kind.Other
+kind_by (Some flags) = kind_of (flags % 16)
 
-abbrev pub made : Option ℕ → Bool → Bool → Act
-made None stays stream = act.Nothing
-made (Some fd) stays stream = act.Makes fd stays stream
+-- what a new socket carries: that of an accept a stream, and that of socket by the type that it has second
+abbrev pub makes_kind : ℕ → Args → SocketKind
+makes_kind number args = if number == 41 then kind_by args.second else kind.Stream
+
+abbrev pub made : Option ℕ → Bool → SocketKind → Act
+made None stays kind = act.Nothing
+made (Some fd) stays kind = act.Makes fd stays kind
 
 abbrev pub closed : Option ℕ → Act
 closed None = act.Nothing
@@ -119,7 +125,7 @@ begun (Some child) = act.Begins child
 abbrev pub act_with : ℕ → Option ℕ → Args → Act
 act_with number answer args =
     if opens number then opened answer (open_stays number args)
-    else if makes number then made answer (socket_stays number args) (makes_stream number args)
+    else if makes number then made answer (socket_stays number args) (makes_kind number args)
     else if number == 3 then closed args.first
     else if copies number args.second then copied args.first answer (copy_stays number args)
     else if marks number args.second then marked args.first args.third
@@ -148,9 +154,14 @@ abbrev pub binding : Option ℕ → Asks
 binding None = asks.Nothing
 binding (Some fd) = asks.Binds fd
 
-abbrev pub accepting : Option ℕ → Asks
-accepting None = asks.Nothing
-accepting (Some fd) = asks.Accepts fd
+-- an accept whose second argument is 0 doesn't ask for the peer's address
+abbrev pub accepting : Option ℕ → Option ℕ → Asks
+accepting None place = asks.Nothing
+accepting (Some fd) place = asks.Accepts fd (is_arg 0 place)
+
+abbrev pub connecting : Option ℕ → Asks
+connecting None = asks.Nothing
+connecting (Some fd) = asks.Connects fd
 
 abbrev pub receiving : Option ℕ → Asks
 receiving None = asks.Nothing
@@ -167,8 +178,8 @@ asks_with number done begun args =
     else if number == 266 then relative args.second
     else if is_at_both number then relative_both args.first args.third
     else if done && number == 49 then binding args.first
-    else if done && accepts number then accepting args.first
+    else if done && accepts number then accepting args.first args.second
     else if done && receives number then receiving args.first
     else if done && sends number then sending args.first
-    else if (done || begun) && number == 42 then asks.Connects
+    else if (done || begun) && number == 42 then connecting args.first
     else asks.Nothing

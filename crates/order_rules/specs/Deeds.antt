@@ -10,6 +10,8 @@ use Rattle.order_rules.specs.declared.call.Act.TheVariants as act
 use Rattle.order_rules.specs.declared.call.Asks.{Asks}
 use Rattle.order_rules.specs.declared.call.Asks.TheVariants as asks
 use Rattle.order_rules.specs.declared.call.Call.{Call}
+use Rattle.order_rules.specs.declared.call.SocketKind.{SocketKind}
+use Rattle.order_rules.specs.declared.call.SocketKind.TheVariants as kind
 use Rattle.order_rules.specs.declared.held.Thing.{Thing}
 use Rattle.order_rules.specs.declared.held.Thing.TheVariants as thing
 use Rattle.order_rules.specs.declared.held.Held.{Held}
@@ -53,15 +55,21 @@ abbrev pub clock_in : List Said → ℕ
 clock_in [] = 0
 clock_in ((event, said) ∷ before) = clock_after (clock_in before) event said
 
--- ---- the call whose records are being seen: the newest one, and the working directory that its event's records named
+-- ---- the call whose records are being seen: the newest one, the working directory that its event's records named, and whether one of
+-- them has an address
 
 abbrev pub stood : EventKey → Option (List ℕ) → Under → Under
 stood event cwd under = if is_event event under.key then record under { cwd = cwd } else under
 
+abbrev pub met_at : EventKey → Under → Under
+met_at event under = if is_event event under.key then record under { met = true } else under
+
 abbrev pub under_after : Option Under → EventKey → Deed → Option Under
-under_after under event (Calls call) = Some (record { key = event; call = call; cwd = None })
+under_after under event (Calls call) = Some (record { key = event; call = call; cwd = None; met = false })
 under_after None event (Stands cwd) = None
 under_after (Some under) event (Stands cwd) = Some (stood event cwd under)
+under_after None event (Addresses bytes) = None
+under_after (Some under) event (Addresses bytes) = Some (met_at event under)
 under_after under event _ = under
 
 abbrev pub under_in : List Said → Option Under
@@ -95,15 +103,15 @@ abbrev pub at_exec : Option Held → Option Held
 at_exec None = None
 at_exec (Some held) = if held.stays then Some held else None
 
--- a socket of this place, which may be a stream
-abbrev pub socket : List ℕ → Bool → Bool → Held
-socket place stream stays = record { thing = thing.Socket place stream; stays = stays }
+-- a socket of this place and kind
+abbrev pub socket : List ℕ → SocketKind → Bool → Held
+socket place kind stays = record { thing = thing.Socket place kind; stays = stays }
 
 -- what descriptors hold after a process has done this
 abbrev pub acted : Holding → ℕ → Act → Holding
 acted held pid act.Nothing p n = held p n
 acted held pid (act.Opens fd stays) p n = changed held pid fd None p n
-acted held pid (act.Makes fd stays stream) p n = changed held pid fd (Some (socket [] stream stays)) p n
+acted held pid (act.Makes fd stays kind) p n = changed held pid fd (Some (socket [] kind stays)) p n
 acted held pid (act.Closes fd) p n = changed held pid fd None p n
 acted held pid (act.Copies from to stays) p n = changed held pid to (copy_of stays (held pid from)) p n
 acted held pid (act.Begins child) p n = if is_same child p then held pid n else held p n
@@ -122,7 +130,7 @@ path_in (Some held) = path_of held.thing
 
 -- the place of a socket, if it is known
 abbrev pub place_in : Thing → Option (List ℕ)
-place_in (thing.Socket place stream) = if is_any place then None else Some place
+place_in (thing.Socket place kind) = if is_any place then None else Some place
 place_in _ = None
 
 -- the place of what a descriptor holds, if that is a socket that was bound
@@ -194,18 +202,18 @@ abbrev pub stays_of : Option Held → Bool
 stays_of None = true
 stays_of (Some held) = held.stays
 
--- and it stays a stream
-abbrev pub is_stream : Thing → Bool
-is_stream (thing.Socket place stream) = stream
-is_stream _ = false
+-- and its kind
+abbrev pub kind_in : Thing → SocketKind
+kind_in (thing.Socket place kind) = kind
+kind_in _ = kind.Other
 
-abbrev pub stream_of : Option Held → Bool
-stream_of None = false
-stream_of (Some held) = is_stream held.thing
+abbrev pub kind_at : Option Held → SocketKind
+kind_at None = kind.Other
+kind_at (Some held) = kind_in held.thing
 
 -- a descriptor whose socket is bound to a place
 abbrev pub bound_to : List ℕ → Option Held → Held
-bound_to place held = socket place (stream_of held) (stays_of held)
+bound_to place held = socket place (kind_at held) (stays_of held)
 
 -- what descriptors hold after a record has said which place a socket was bound to
 abbrev pub bound : Holding → Option (ℕ × ℕ) → Option (List ℕ) → Holding
@@ -256,16 +264,25 @@ is_local hosts host = is_loopback host || hosts host
 
 -- the place of the listening socket that a call accepted a connection of
 abbrev pub listening : Holding → ℕ → Asks → Option (List ℕ)
-listening held pid (asks.Accepts fd) = place_at (held pid fd)
+listening held pid (asks.Accepts fd silent) = place_at (held pid fd)
 listening held pid _ = None
 
 abbrev pub listening_in : Holding → Option Under → Option (List ℕ)
 listening_in held None = None
 listening_in held (Some under) = listening held under.call.pid under.call.asks
 
+-- whether sockets of a kind are streams, and whether they carry datagrams
+abbrev pub is_stream : SocketKind → Bool
+is_stream kind.Stream = true
+is_stream _ = false
+
+abbrev pub is_datagrams : SocketKind → Bool
+is_datagrams kind.Datagrams = true
+is_datagrams _ = false
+
 -- the place of a socket that isn't known to be a stream, if it is known
 abbrev pub datagram_place : Option Held → Option (List ℕ)
-datagram_place held = if stream_of held then None else place_at held
+datagram_place held = if is_stream (kind_at held) then None else place_at held
 
 -- the address that a peer of this machine has called: its own host, and the port of that socket
 abbrev pub called : Hosts → Option (List ℕ) → Option Inet → Option (List ℕ)
@@ -301,7 +318,7 @@ is_free places (Some inet) = not (places inet.1)
 -- The place of the socket whose port a record has instead of that of the peer: the socket that has accepted, the one that has received a
 -- datagram, and the one that has sent one to a free port.
 abbrev pub own_place : Holding → Bool → ℕ → Asks → Option (List ℕ)
-own_place held free pid (asks.Accepts fd) = place_at (held pid fd)
+own_place held free pid (asks.Accepts fd silent) = place_at (held pid fd)
 own_place held free pid (asks.Receives fd) = datagram_place (held pid fd)
 own_place held free pid (asks.Sends fd) = if free then datagram_place (held pid fd) else None
 own_place held free pid _ = None
@@ -333,18 +350,19 @@ abbrev pub if_placed : Places → Option Target → Option Target
 if_placed places None = None
 if_placed places (Some target) = if places target.0 then Some target else None
 
-abbrev pub connects : Asks → Bool
-connects asks.Connects = true
-connects _ = false
+-- whether a call asks to be accepted: a connect by a socket that isn't known to carry datagrams
+abbrev pub connects : Holding → ℕ → Asks → Bool
+connects held pid (asks.Connects fd) = not (is_datagrams (kind_at (held pid fd)))
+connects held pid _ = false
 
-abbrev pub is_connect : Option Under → Bool
-is_connect None = false
-is_connect (Some under) = connects under.call.asks
+abbrev pub is_connect : Holding → Option Under → Bool
+is_connect held None = false
+is_connect held (Some under) = connects held under.call.pid under.call.asks
 
 -- what a connect goes to, if it is a place of this machine that some socket was bound to
-abbrev pub knocked : Hosts → Places → Option Under → List ℕ → Option Target
-knocked hosts places under bytes =
-    if is_connect under then if_placed places (target_by (is_unix bytes) hosts bytes) else None
+abbrev pub knocked : Holding → Hosts → Places → Option Under → List ℕ → Option Target
+knocked held hosts places under bytes =
+    if is_connect held under then if_placed places (target_by (is_unix bytes) hosts bytes) else None
 
 abbrev pub is_local_inet : Hosts → Option Inet → Bool
 is_local_inet hosts None = false
@@ -393,7 +411,7 @@ left now waits event bytes (Some at) place =
 
 abbrev pub met : ℕ → Option Under → Holding → Hosts → Places → Waits → EventKey → List ℕ → Waits
 met now under held hosts places waits event bytes place =
-    left now (waited now waits event (knocked hosts places under bytes)) event bytes (answered held hosts under bytes) place
+    left now (waited now waits event (knocked held hosts places under bytes)) event bytes (answered held hosts under bytes) place
 
 abbrev pub waits_after : ℕ → Option Under → Holding → Hosts → Places → Waits → EventKey → Deed → Waits
 waits_after now under held hosts places waits event (Addresses bytes) place =
@@ -415,3 +433,18 @@ knock_name now waits event (Some target) = or_else (found_name now (waits target
 abbrev pub answer_name : Waits → EventKey → List ℕ → Option (List ℕ) → Option (List ℕ)
 answer_name waits event bytes None = None
 answer_name waits event bytes (Some at) = or_else (wait_name (waits at)) (own_name event at bytes)
+
+-- ---- accepts that didn't ask for the peer's address
+
+-- an address of family 1 without a name, as that of a peer that isn't bound
+abbrev pub blank_peer : List ℕ
+blank_peer = 1 ∷ 0 ∷ []
+
+abbrev pub accepts_silently : Asks → Bool
+accepts_silently (asks.Accepts fd silent) = silent
+accepts_silently _ = false
+
+-- whether a call has accepted a peer whose address neither it nor a record of its event has named
+abbrev pub is_silent : Option Under → Bool
+is_silent None = false
+is_silent (Some under) = accepts_silently under.call.asks && not under.met

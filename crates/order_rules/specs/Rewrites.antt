@@ -1,5 +1,5 @@
 -- What is written otherwise, by what lines said before.
-use Rattle.std.specs.Prelude.{ℕ, Bool, List, ◌∷◌, Option, None, Some, codes, if◌then◌else◌}
+use Rattle.std.specs.Prelude.{ℕ, ◌&&◌, Bool, List, ◌∷◌, Option, None, Some, is_some, codes, if◌then◌else◌}
 use Rattle.hex.specs.Hex.{encode_upper}
 use Rattle.audit_lex.specs.LineClass.{Class, Used, class_of}
 use Rattle.audit_lex.specs.declared.header.EventKey.{EventKey}
@@ -9,7 +9,7 @@ use Rattle.order_text.specs.declared.rewrite.Rewrite.{Rewrite}
 use Rattle.order_rules.specs.declared.settings.Settings.{Settings}
 use Rattle.order_rules.specs.declared.under.Under.{Under}
 use Rattle.order_rules.specs.Addresses.{inet_of}
-use Rattle.order_rules.specs.Deeds.{Deed, Holding, Hosts, Places, Waits, Said, directory_in, is_free, own_place_in, called, knocked, answered, knock_name, answer_name, or_else, of_event, clock_in, under_in, held_in, is_host_in, is_place_in, waits_in}
+use Rattle.order_rules.specs.Deeds.{Deed, Holding, Hosts, Places, Waits, Said, directory_in, is_free, own_place_in, called, knocked, answered, knock_name, answer_name, is_silent, blank_peer, or_else, of_event, clock_in, under_in, held_in, is_host_in, is_place_in, waits_in}
 use Rattle.order_rules.specs.Lines.{bytes_in, deed_of_kind}
 use Rattle.order_rules.specs.Texts.{written_text, rewrite_line}
 
@@ -34,7 +34,7 @@ pub record Ends : Type 0 where
 -- the name of the connection that a call of an event begins or has accepted
 abbrev pub name_at : Ends → Option Under → EventKey → List ℕ → Option (List ℕ)
 name_at ends under event bytes = or_else
-    (knock_name ends.clock ends.waits event (knocked ends.hosts ends.places under bytes))
+    (knock_name ends.clock ends.waits event (knocked ends.held ends.hosts ends.places under bytes))
     (answer_name ends.waits event bytes (answered ends.held ends.hosts under bytes))
 
 -- the address that the peer of an accept or a datagram has called, or calls in answer to one
@@ -63,6 +63,10 @@ rewrite_kind settings ends under event line _ = None
 abbrev pub rewrite_class : Settings → Option Under → Ends → List ℕ → Class → Option Rewrite
 rewrite_class settings under ends line (Used key kind) = rewrite_kind settings ends (of_event under key) key line kind
 rewrite_class settings under ends line _ = None
+
+-- whether a call of an event has accepted a peer whose address no record has, by a connection that has a name
+abbrev pub lacks_peer : Ends → Option Under → EventKey → Bool
+lacks_peer ends under event = is_silent under && is_some (name_at ends under event blank_peer)
 
 -- what a line of an event said, before what was said so far
 abbrev pub saying : EventKey → Option Deed → List Said → List Said

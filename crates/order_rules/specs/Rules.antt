@@ -1,5 +1,5 @@
 -- What of a whole log is written otherwise, node by node.
-use Rattle.std.specs.Prelude.{◌≡◌, ℕ, Bool, false, List, [], ◌∷◌, Option, None, Some, unwrap_or, if◌then◌else◌}
+use Rattle.std.specs.Prelude.{◌≡◌, ℕ, ◌&&◌, Bool, false, List, [], ◌∷◌, Option, None, Some, unwrap_or, if◌then◌else◌}
 use Rattle.std.specs.Map.{lookup}
 use Rattle.audit_lex.specs.declared.header.EventKey.{EventKey}
 use Rattle.order_text.specs.Stamp.{Stamp, stamp_of}
@@ -7,9 +7,9 @@ use Rattle.order_place.specs.Places.{node_of, is_boot}
 use Rattle.order_place.specs.Nodes.{is_node}
 use Rattle.order_text.specs.declared.rewrite.Rewrite.{Rewrite}
 use Rattle.order_rules.specs.declared.settings.Settings.{Settings}
-use Rattle.order_rules.specs.Deeds.{Said, Passes}
+use Rattle.order_rules.specs.Deeds.{Said, Passes, of_event, under_in}
 use Rattle.order_rules.specs.Known.{Known, nothing, StandsFor}
-use Rattle.order_rules.specs.Rewrites.{class_in, said_after, rewritten}
+use Rattle.order_rules.specs.Rewrites.{class_in, said_after, rewritten, lacks_peer, ends_in}
 
 -- what a node's lines said before a line of it: nothing that holds, if the line says that the node was started
 abbrev pub since_start : Bool → List Said → List Said
@@ -42,6 +42,19 @@ rewrite_stamped settings lines line (Some s) =
 
 abbrev pub rewrite_of : Settings → List (List ℕ) → List ℕ → Option Rewrite
 rewrite_of settings lines line = rewrite_stamped settings lines line (stamp_of line)
+
+-- Whether the event of a line of this stamp lacks the address of its peer after these lines, newest first: what was accepted has a
+-- name of its own by the rules that hold, and no record that could get it.
+abbrev pub lacks_after : Settings → List Said → EventKey → Bool
+lacks_after settings said event =
+    settings.join && (settings.apart && lacks_peer (ends_in said) (of_event (under_in said) event) event)
+
+abbrev pub lacks_stamped : Settings → List (List ℕ) → Option Stamp → Bool
+lacks_stamped settings lines None = false
+lacks_stamped settings lines (Some s) = lacks_after settings (said_of (node_of s.front) lines) (event_of s)
+
+abbrev pub lacks_of : Settings → List (List ℕ) → List ℕ → Bool
+lacks_of settings lines line = lacks_stamped settings lines (stamp_of line)
 
 -- what is kept of all nodes
 pub record AllKnown : Type 0 where

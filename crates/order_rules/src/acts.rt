@@ -2,7 +2,7 @@
 ghost use Rattle.std.specs.Prelude.{◌≡◌, ◌<◌};
 ghost use Rattle.order_rules.specs.Calls as calls;
 
-use crate::call::{Act, Args, Asks};
+use crate::call::{Act, Args, Asks, SocketKind};
 
 /// The weight of the flag O_CLOEXEC and its like.
 const CLOEXEC: u32 = 0x8_0000;
@@ -12,6 +12,9 @@ const THREAD: u32 = 0x1_0000;
 
 /// The type SOCK_STREAM.
 const STREAM: u32 = 1;
+
+/// The type SOCK_DGRAM.
+const DATAGRAMS: u32 = 2;
 
 /// The descriptor of the working directory.
 const AT_FDCWD: u32 = 0xffff_ff9c;
@@ -24,11 +27,7 @@ pub fn act_with(number: u32, answer: Option<u32>, args: Args) -> Act
         return opened(answer, open_stays(number, args));
     }
     if makes(number) {
-        return made(
-            answer,
-            socket_stays(number, args),
-            makes_stream(number, args),
-        );
+        return made(answer, socket_stays(number, args), makes_kind(number, args));
     }
     if number == 3 {
         return closed(args.first);
@@ -172,33 +171,45 @@ fn opened(fd: Option<u32>, stays: bool) -> Act
     }
 }
 
-fn made(fd: Option<u32>, stays: bool, stream: bool) -> Act
-    ensures { result ≡ calls.made fd stays stream }
+fn made(fd: Option<u32>, stays: bool, kind: SocketKind) -> Act
+    ensures { result ≡ calls.made fd stays kind }
 {
     match fd {
-        Some(fd) => Act::Makes { fd, stays, stream },
+        Some(fd) => Act::Makes { fd, stays, kind },
         None => Act::Nothing,
     }
 }
 
-// Whether a call makes a stream.
-fn makes_stream(number: u32, args: Args) -> bool
-    ensures { result ≡ calls.makes_stream number args }
+// What a new socket carries: that of an accept a stream, and another by its type.
+fn makes_kind(number: u32, args: Args) -> SocketKind
+    ensures { result ≡ calls.makes_kind number args }
 {
     if number == 41 {
-        return is_stream_type(args.second);
+        return kind_by(args.second);
     }
-    true
+    SocketKind::Stream
 }
 
-// Whether the type of a new socket is that of a stream.
-fn is_stream_type(flags: Option<u32>) -> bool
-    ensures { result ≡ calls.is_stream_type flags }
+// What a socket of this type carries.
+fn kind_by(flags: Option<u32>) -> SocketKind
+    ensures { result ≡ calls.kind_by flags }
 {
     match flags {
-        Some(flags) => flags % 16 == STREAM,
-        None => false,
+        Some(flags) => kind_of(flags % 16),
+        None => SocketKind::Other,
     }
+}
+
+fn kind_of(socket_type: u32) -> SocketKind
+    ensures { result ≡ calls.kind_of socket_type }
+{
+    if socket_type == STREAM {
+        return SocketKind::Stream;
+    }
+    if socket_type == DATAGRAMS {
+        return SocketKind::Datagrams;
+    }
+    SocketKind::Other
 }
 
 fn closed(fd: Option<u32>) -> Act
@@ -264,7 +275,7 @@ pub fn asks_with(number: u32, done: bool, begun: bool, args: Args) -> Asks
         return binding(args.first);
     }
     if done && accepts(number) {
-        return accepting(args.first);
+        return accepting(args.first, args.second);
     }
     if done && receives(number) {
         return receiving(args.first);
@@ -273,7 +284,7 @@ pub fn asks_with(number: u32, done: bool, begun: bool, args: Args) -> Asks
         return sending(args.first);
     }
     if (done || begun) && number == 42 {
-        return Asks::Connects;
+        return connecting(args.first);
     }
     Asks::Nothing
 }
@@ -333,11 +344,24 @@ fn binding(fd: Option<u32>) -> Asks
     }
 }
 
-fn accepting(fd: Option<u32>) -> Asks
-    ensures { result ≡ calls.accepting fd }
+// An accept with no place for the peer's address doesn't ask for it.
+fn accepting(fd: Option<u32>, place: Option<u32>) -> Asks
+    ensures { result ≡ calls.accepting fd place }
 {
     match fd {
-        Some(fd) => Asks::Accepts { fd },
+        Some(fd) => Asks::Accepts {
+            fd,
+            silent: matches!(place, Some(0)),
+        },
+        None => Asks::Nothing,
+    }
+}
+
+fn connecting(fd: Option<u32>) -> Asks
+    ensures { result ≡ calls.connecting fd }
+{
+    match fd {
+        Some(fd) => Asks::Connects { fd },
         None => Asks::Nothing,
     }
 }

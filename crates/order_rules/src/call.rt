@@ -6,19 +6,45 @@ pub enum Act {
     /// Nothing, or nothing that is followed.
     Nothing,
     /// It opens a descriptor, of which a PATH record says more. `stays`: an exec leaves it open.
-    Opens { fd: u32, stays: bool },
-    /// It makes a socket that has no port so far. `stream`: it is of the type SOCK_STREAM, or was accepted.
-    Makes { fd: u32, stays: bool, stream: bool },
+    Opens {
+        fd: u32,
+        stays: bool,
+    },
+    /// It makes a socket of this kind, which has no port so far.
+    Makes {
+        fd: u32,
+        stays: bool,
+        kind: SocketKind,
+    },
     /// It closes a descriptor.
-    Closes { fd: u32 },
+    Closes {
+        fd: u32,
+    },
     /// The descriptor `to` holds what `from` holds.
-    Copies { from: u32, to: u32, stays: bool },
+    Copies {
+        from: u32,
+        to: u32,
+        stays: bool,
+    },
     /// It begins a process that holds what its own process holds.
-    Begins { child: u32 },
+    Begins {
+        child: u32,
+    },
     /// The process runs another program.
     Runs,
     /// The process ends.
     Ends,
+}
+
+/// What a socket carries, as far as it is known.
+#[derive(Clone, Copy, Debug, PartialEq, Eq)]
+pub enum SocketKind {
+    /// A stream: it is of the type SOCK_STREAM, or was accepted.
+    Stream,
+    /// Datagrams: it is of the type SOCK_DGRAM.
+    Datagrams,
+    /// It isn't known, or neither.
+    Other,
 }
 
 /// What the records after that of a call say something about.
@@ -30,10 +56,10 @@ pub enum Asks {
     At { fd: u32 },
     /// The address that this descriptor is bound to.
     Binds { fd: u32 },
-    /// The peer that this listening descriptor accepted.
-    Accepts { fd: u32 },
-    /// The address that it connects to.
-    Connects,
+    /// The peer that this listening descriptor accepted. `silent`: the call didn't ask for its address.
+    Accepts { fd: u32, silent: bool },
+    /// The address that this descriptor connects to.
+    Connects { fd: u32 },
     /// The peer from which something was received by this descriptor.
     Receives { fd: u32 },
     /// The peer to which something was sent by this descriptor.

@@ -7,7 +7,7 @@ ghost use Rattle.order_rules.specs.Known.{HearsIt, StandsFor};
 ghost use Rattle.order_rules.specs.Kept.{ends_of};
 ghost use Rattle.order_rules.specs.Lines.{call_in, bytes_in, deed_of_kind};
 ghost use Rattle.order_rules.specs.Notes.{IsNoted};
-ghost use Rattle.order_rules.specs.Rewrites.{class_in, said_after, rewritten, rewrite_kind, at_directory, at_address, at_end, address_at};
+ghost use Rattle.order_rules.specs.Rewrites.{class_in, said_after, rewritten, rewrite_kind, at_directory, at_address, at_end, address_at, lacks_peer};
 
 use crate::note::Note;
 use crate::quiet::{is_path, is_quiet};
@@ -22,6 +22,9 @@ use std::alloc::Global;
 
 /// The longest line that is read.
 const LINE: usize = 65_536;
+
+/// An address of family 1 without a name.
+const BLANK_PEER: [u8; 2] = [1, 0];
 
 impl Table {
     /// What becomes of the next line, of which something may have been noted. After that what it says is known.
@@ -154,6 +157,18 @@ impl Table {
             Some(name) => Ok(Some(name)),
             None => self.called(key, bytes),
         }
+    }
+
+    /// Whether an event's call has accepted a peer whose address no record has, by a connection that has a name.
+    pub fn lacks_peer(&self, key: EventKey) -> Result<bool, NoMemory>
+        ensures { IfOk result (λ lacks. lacks
+            ≡ lacks_peer (ends_of self.now) (of_event self.now.under key) key) }
+    {
+        if !self.is_silent(key) {
+            return Ok(false);
+        }
+        let name = self.name(key, &BLANK_PEER)?;
+        Ok(name.is_some())
     }
 
     // What a used line says is known.

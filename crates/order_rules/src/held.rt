@@ -1,6 +1,7 @@
 //! What a descriptor holds.
 ghost use Rattle.std.specs.Prelude.{◌≡◌, IfOk};
 
+use crate::call::SocketKind;
 use flow_base::{Bytes, NoMemory};
 use std::alloc::AllocError;
 
@@ -9,8 +10,8 @@ use std::alloc::AllocError;
 pub enum Thing {
     /// The directory of this path.
     Directory { path: Bytes },
-    /// A socket that is bound to this place; to none that is known if all of its bytes are 0. `stream`: it is known to be a stream.
-    Socket { place: Bytes, stream: bool },
+    /// A socket of this kind that is bound to this place; to none that is known if all of its bytes are 0.
+    Socket { place: Bytes, kind: SocketKind },
 }
 
 impl Thing {
@@ -23,12 +24,9 @@ impl Thing {
                 let path = path.copy()?;
                 Ok(Thing::Directory { path })
             }
-            Thing::Socket { place, stream } => {
+            Thing::Socket { place, kind } => {
                 let place = place.copy()?;
-                Ok(Thing::Socket {
-                    place,
-                    stream: *stream,
-                })
+                Ok(Thing::Socket { place, kind: *kind })
             }
         }
     }

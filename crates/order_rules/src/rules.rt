@@ -4,7 +4,7 @@ ghost use Rattle.order_text.specs.Seen.{stamp_seen};
 ghost use Rattle.order_text.specs.Stamp.{stamp_of};
 ghost use Rattle.order_place.specs.Nodes.{is_node};
 ghost use Rattle.order_rules.specs.Notes.{IsNoted};
-ghost use Rattle.order_rules.specs.Rules.{event_of, rewrite_of, rewrite_stamped, known_of, begun, KeepsNode, StandsForLines, SeesStamped};
+ghost use Rattle.order_rules.specs.Rules.{event_of, rewrite_of, rewrite_stamped, lacks_stamped, known_of, begun, KeepsNode, StandsForLines, SeesStamped};
 
 use crate::note::Note;
 use crate::settings::Settings;
@@ -75,6 +75,21 @@ impl Rules {
         match stamp {
             Some(stamp) => self.see_stamped(line, stamp, note),
             None => Ok(None),
+        }
+    }
+
+    /// Whether the event of a line of this stamp lacks the address of its peer, after the lines before.
+    pub fn lacks_peer(&self, stamp: &Stamp<'_>) -> Result<bool, NoMemory>
+        ensures { IfOk result (λ lacks. (lines : List (List ℕ)) → StandsForLines self.now lines
+            → lacks ≡ lacks_stamped self.now.settings lines (Some (stamp_seen stamp.now))) }
+    {
+        if !self.settings.join || !self.settings.apart {
+            return Ok(false);
+        }
+        let name = Bytes::from_slice(self.alloc, node_of(stamp.front))?;
+        match self.nodes.get(&name) {
+            Some(table) => table.lacks_peer(event_of(stamp)),
+            None => Ok(false),
         }
     }
 

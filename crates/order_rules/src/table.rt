@@ -1,7 +1,7 @@
 //! What lines said of the processes of a node.
 ghost use Rattle.std.specs.Prelude.{◌≡◌, ◌∷◌, ℕ, [], None, Some, not, is_some, option_map, IfOk, OnOk, if◌then◌else◌};
 ghost use Rattle.order_rules.specs.Deeds as deeds;
-ghost use Rattle.order_rules.specs.Deeds.{Passes, Calls, Stands, Names, Addresses, is_same, is_local, changed, acted, copy_of, at_exec, directory, directory_in, cwd_in, base_in, path_from, path_in, place_at, kept_path, opened_in, bound_in, of_event, listening_in, own_place_in, socket, bound_to, datagram_place, stream_of, knocked, if_placed, is_connect, target_by, inet_target, answered, is_near, name_of, or_else, stem_by, stem_from, own_name, answer_name, waited, left};
+ghost use Rattle.order_rules.specs.Deeds.{Passes, Calls, Stands, Names, Addresses, is_same, is_local, changed, acted, copy_of, at_exec, directory, directory_in, cwd_in, base_in, path_from, path_in, place_at, kept_path, opened_in, bound_in, of_event, listening_in, own_place_in, socket, bound_to, datagram_place, knocked, if_placed, is_connect, connects, is_silent, accepts_silently, kind_in, kind_at, met_at, target_by, inet_target, answered, is_near, name_of, or_else, stem_by, stem_from, own_name, answer_name, waited, left};
 ghost use Rattle.order_rules.specs.Doors.{found_name, wait_name};
 ghost use Rattle.name_text.specs.Addresses.{text_of};
 ghost use Rattle.order_rules.specs.Addresses as addresses;
@@ -11,13 +11,13 @@ ghost use Rattle.order_rules.specs.Kept.{ends_of};
 ghost use Rattle.order_rules.specs.Rewrites.{name_at, called_at};
 
 use crate::address::{address_of, inet_key, inet_of, is_any, is_loopback, is_unix, place_of};
-use crate::call::{Act, Asks, Call};
+use crate::call::{Act, Asks, Call, SocketKind};
 use crate::doors::Doors;
 use crate::fds::Fds;
 use crate::held::{Held, Thing};
 use crate::reading::copied;
 use crate::target::{Target, name_of, unix_target};
-use crate::under::{Opened, Under, is_event, stood};
+use crate::under::{Opened, Under, is_event, met_at, stood};
 use audit_lex::EventKey;
 use flow_base::{Bytes, NoMemory};
 use name_text::{address_key, address_text, join_path};
@@ -92,6 +92,7 @@ impl Table {
             key,
             call,
             cwd: None,
+            met: false,
         });
         Ok(())
     }
@@ -121,7 +122,18 @@ impl Table {
         ensures { OnOk result (Hears self.old self.new key (Addresses bytes.now)) }
     {
         self.meet(key, bytes)?;
-        self.bind_at(key, bytes)
+        self.bind_at(key, bytes)?;
+        self.note_address(key);
+        Ok(())
+    }
+
+    // A record of an event has an address.
+    fn note_address(&mut self, key: EventKey)
+        ensures { self.new ≡ record self.old { under = option_map (met_at key) self.old.under } }
+    {
+        if let Some(under) = self.under.take() {
+            self.under = Some(met_at(key, under));
+        }
     }
 
     // A record has the address of a connection.
@@ -252,7 +264,7 @@ impl Table {
         let under = self.under_of(key)?;
         let pid = under.call.pid;
         match under.call.asks {
-            Asks::Accepts { fd } => self.place_at(pid, fd),
+            Asks::Accepts { fd, silent: _ } => self.place_at(pid, fd),
             Asks::Receives { fd } => self.datagram_place(pid, fd),
             Asks::Sends { fd } if free => self.datagram_place(pid, fd),
             _ => None,
@@ -364,7 +376,7 @@ impl Table {
     // What an event's connect goes to, if a socket is known to be bound there.
     fn knocked(&self, key: EventKey, bytes: &[u8]) -> Result<Option<Target>, NoMemory>
         ensures { IfOk result (λ target. option_map target_seen target
-            ≡ knocked (is_host_at self.now) (is_place_at self.now.doors)
+            ≡ knocked (held_at self.now) (is_host_at self.now) (is_place_at self.now.doors)
             (of_event self.now.under key) bytes.now) }
     {
         if !self.is_connect(key) {
@@ -385,13 +397,33 @@ impl Table {
         }
     }
 
-    // Whether an event's call connects.
-    fn is_connect(&self, key: EventKey) -> bool
-        ensures { result ≡ is_connect (of_event self.now.under key) }
+    /// Whether an event's call has accepted a peer whose address neither it nor a record of the event has named.
+    pub fn is_silent(&self, key: EventKey) -> bool
+        ensures { result ≡ is_silent (of_event self.now.under key) }
     {
         match self.under_of(key) {
-            Some(under) => matches!(under.call.asks, Asks::Connects),
+            Some(under) => accepts_silently(under.call.asks) && !under.met,
             None => false,
+        }
+    }
+
+    // Whether an event's call asks to be accepted.
+    fn is_connect(&self, key: EventKey) -> bool
+        ensures { result ≡ is_connect (held_at self.now) (of_event self.now.under key) }
+    {
+        match self.under_of(key) {
+            Some(under) => self.connects(under.call.pid, under.call.asks),
+            None => false,
+        }
+    }
+
+    // Whether a call asks to be accepted, as one that sends datagrams doesn't.
+    fn connects(&self, pid: u32, asks: Asks) -> bool
+        ensures { result ≡ connects (held_at self.now) pid asks }
+    {
+        match asks {
+            Asks::Connects { fd } => !is_datagrams(self.kind_at(pid, fd)),
+            _ => false,
         }
     }
 
@@ -464,7 +496,7 @@ impl Table {
     {
         let under = self.under_of(key)?;
         match under.call.asks {
-            Asks::Accepts { fd } => self.place_at(under.call.pid, fd),
+            Asks::Accepts { fd, silent: _ } => self.place_at(under.call.pid, fd),
             _ => None,
         }
     }
@@ -474,7 +506,7 @@ impl Table {
         ensures { option_map (λ place. place.now) result ≡ place_at (held_at self.now pid fd) }
     {
         match self.get(pid, fd)? {
-            (Thing::Socket { place, stream: _ }, _) if !is_any(place.as_slice()) => Some(
+            (Thing::Socket { place, kind: _ }, _) if !is_any(place.as_slice()) => Some(
                 place.as_slice(),
             ),
             _ => None,
@@ -486,19 +518,19 @@ impl Table {
         ensures { option_map (λ place. place.now) result
             ≡ datagram_place (held_at self.now pid fd) }
     {
-        if self.is_stream_at(pid, fd) {
+        if is_stream(self.kind_at(pid, fd)) {
             return None;
         }
         self.place_at(pid, fd)
     }
 
-    // Whether a descriptor holds what is known to be a stream.
-    fn is_stream_at(&self, pid: u32, fd: u32) -> bool
-        ensures { result ≡ stream_of (held_at self.now pid fd) }
+    // What the socket of a descriptor carries.
+    fn kind_at(&self, pid: u32, fd: u32) -> SocketKind
+        ensures { result ≡ kind_at (held_at self.now pid fd) }
     {
         match self.get(pid, fd) {
-            Some((thing, _)) => is_stream(thing),
-            None => false,
+            Some((thing, _)) => kind_in(thing),
+            None => SocketKind::Other,
         }
     }
 
@@ -611,8 +643,8 @@ impl Table {
         match act {
             Act::Nothing => Ok(()),
             Act::Opens { fd, stays: _ } => self.set(pid, fd, None),
-            Act::Makes { fd, stays, stream } => {
-                let made = socket(Bytes::new(self.alloc), stream, stays);
+            Act::Makes { fd, stays, kind } => {
+                let made = socket(Bytes::new(self.alloc), kind, stays);
                 self.set(pid, fd, Some(made))
             }
             Act::Closes { fd } => self.set(pid, fd, None),
@@ -690,8 +722,8 @@ impl Table {
         ensures { result ≡ bound_to place (held_at self.now pid fd) }
     {
         match self.get(pid, fd) {
-            Some((thing, stays)) => socket(place, is_stream(thing), stays),
-            None => socket(place, false, true),
+            Some((thing, stays)) => socket(place, kind_in(thing), stays),
+            None => socket(place, SocketKind::Other, true),
         }
     }
 
@@ -740,23 +772,45 @@ impl Table {
     }
 }
 
-// A socket of this place, which may be a stream.
-fn socket(place: Bytes, stream: bool, stays: bool) -> Held
-    ensures { result ≡ socket place stream stays }
+// A socket of this place and kind.
+fn socket(place: Bytes, kind: SocketKind, stays: bool) -> Held
+    ensures { result ≡ socket place kind stays }
 {
     Held {
-        thing: Thing::Socket { place, stream },
+        thing: Thing::Socket { place, kind },
         stays,
     }
 }
 
-// Whether a socket is known to be a stream.
-fn is_stream(thing: &Thing) -> bool
-    ensures { result ≡ deeds.is_stream thing.now }
+// What a socket carries.
+fn kind_in(thing: &Thing) -> SocketKind
+    ensures { result ≡ kind_in thing.now }
 {
     match thing {
-        Thing::Socket { place: _, stream } => *stream,
-        Thing::Directory { path: _ } => false,
+        Thing::Socket { place: _, kind } => *kind,
+        Thing::Directory { path: _ } => SocketKind::Other,
+    }
+}
+
+fn is_stream(kind: SocketKind) -> bool
+    ensures { result ≡ deeds.is_stream kind }
+{
+    matches!(kind, SocketKind::Stream)
+}
+
+fn is_datagrams(kind: SocketKind) -> bool
+    ensures { result ≡ deeds.is_datagrams kind }
+{
+    matches!(kind, SocketKind::Datagrams)
+}
+
+// Whether a call accepts a peer for whose address it doesn't ask.
+fn accepts_silently(asks: Asks) -> bool
+    ensures { result ≡ accepts_silently asks }
+{
+    match asks {
+        Asks::Accepts { fd: _, silent } => silent,
+        _ => false,
     }
 }
 

@@ -230,7 +230,7 @@ const MET: &[u8] = b": saddr=01003132372E302E302E313A3830383023313030303A32\n\
 
 // A server bound to port 53 and a client that isn't bound, both ways, with a peer from elsewhere and a call that fails. A client that is
 // bound, also to a port that nobody has, a copy of the server's descriptor, a stream, a host of 16 bytes, a peer of family 1, and a socket
-// that isn't bound.
+// that isn't bound, which connects to the server too: that is no connection.
 const DATAGRAMS: &[u8] =
     b"type=SYSCALL msg=audit(1.000:1): arch=c000003e syscall=41 success=yes exit=3 a0=2 a1=80002 a2=0 a3=0 ppid=1 pid=10\n\
 type=SYSCALL msg=audit(1.000:2): arch=c000003e syscall=49 success=yes exit=0 a0=3 a1=0 a2=0 a3=0 ppid=1 pid=10\n\
@@ -279,7 +279,9 @@ type=SYSCALL msg=audit(1.000:24): arch=c000003e syscall=45 success=yes exit=1 a0
 type=SOCKADDR msg=audit(1.000:24): saddr=01002F72756E2F73\n\
 type=SYSCALL msg=audit(1.000:25): arch=c000003e syscall=41 success=yes exit=3 a0=2 a1=2 a2=0 a3=0 ppid=1 pid=50\n\
 type=SYSCALL msg=audit(1.000:26): arch=c000003e syscall=45 success=yes exit=1 a0=3 a1=0 a2=0 a3=0 ppid=1 pid=50\n\
-type=SOCKADDR msg=audit(1.000:26): saddr=02009C407F0000010000000000000000\n";
+type=SOCKADDR msg=audit(1.000:26): saddr=02009C407F0000010000000000000000\n\
+type=SYSCALL msg=audit(1.000:27): arch=c000003e syscall=42 success=yes exit=0 a0=3 a1=0 a2=0 a3=0 ppid=1 pid=50\n\
+type=SOCKADDR msg=audit(1.000:27): saddr=020000357F0000010000000000000000\n";
 
 // What was received has the port of its socket, and so has what was sent to a port that nobody has.
 const OWN: &[u8] = b": saddr=020000357F0000010000000000000000\n\

@@ -1,17 +1,18 @@
 //! The call whose records are being seen.
 ghost use Rattle.std.specs.Prelude.{◌≡◌};
-ghost use Rattle.order_rules.specs.Deeds.{is_event, stood};
+ghost use Rattle.order_rules.specs.Deeds.{is_event, stood, met_at};
 
 use crate::call::Call;
 use audit_lex::EventKey;
 use flow_base::Bytes;
 
-/// The newest call, its event, and the working directory that its event's records named.
+/// The newest call, its event, the working directory that its event's records named, and whether one of them has an address.
 #[derive(Drop)]
 pub struct Under {
     pub key: EventKey,
     pub call: Call,
     pub cwd: Option<Bytes>,
+    pub met: bool,
 }
 
 /// A descriptor that a call opened.
@@ -35,6 +36,16 @@ pub fn stood(key: EventKey, cwd: Option<Bytes>, mut under: Under) -> Under
 {
     if is_event(key, under.key) {
         under.cwd = cwd;
+    }
+    under
+}
+
+/// A record has an address.
+pub fn met_at(key: EventKey, mut under: Under) -> Under
+    ensures { result ≡ met_at key under }
+{
+    if is_event(key, under.key) {
+        under.met = true;
     }
     under
 }
