@@ -1,0 +1,3 @@
+pub mod SpelledLemmas
+pub mod RunLemmas
+pub mod RowLemmas
