@@ -345,7 +345,7 @@ class Trees(Scratch):
         self.assertIn('8 objects of the answer left out, since 3 paths were asked for; --paths N asks for more', lines)
 
     def test_a_tree_out_of_many_objects_is_made_of_fewer_paths(self) -> None:
-        self.assertEqual([trees.most_paths(it) for it in (1, 3000, 3001, 100000)], [300, 300, 100, 100])
+        self.assertEqual([trees.most_paths(it) for it in (1, 3000, 3001, 100000)], [300, 300, 50, 50])
         # Without --paths, and with a number that is more than that.
         for objects, words, want in ((300, '', 301), (302, '', 301), (302, '--paths 400', 303)):
             text = ''.join(opened_and(0, f'"/tmp/f{it}"', 50 + it, 10 * it) for it in range(1, objects + 1)) + opened_and(1, '"/tmp/out"', 9, 9000, 'CREATE')

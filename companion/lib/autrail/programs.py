@@ -170,7 +170,7 @@ class Program:
         lines = [self.process.stdout.readline() for _ in questions]
         if not all(it.endswith(b'\n') for it in lines):
             self.ended()
-        replies = json.loads(b'[' + b','.join(lines) + b']')
+        replies = json.loads((b'[' + b','.join(lines) + b']').decode())
         for question, reply in zip(questions, replies):
             if reply.get('error') == 'BadQuestion':
                 bad_words(f'this program doesn\'t answer {question.split()[0]!r}; autrail {VERSION} needs a later one')

@@ -74,7 +74,7 @@ class Session:
         return self.counts['known']
 
     def thing(self, number: int) -> Thing:
-        return self.of([number])[0]
+        return self.things.get(number) or self.of([number])[0]
 
     def numbered(self, number: int) -> Thing:
         """The object of a number that was typed."""

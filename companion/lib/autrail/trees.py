@@ -13,7 +13,7 @@ from .times import clock
 
 # The most paths that a tree is made of. For each path the program walks over everything from which the path's end can have come, so a tree out of many
 # objects is made of fewer.
-MOST_PATHS, MOST_OF_MANY, MANY = 300, 100, 3000
+MOST_PATHS, MOST_OF_MANY, MANY = 300, 50, 3000
 SOME_PATHS = 10
 
 

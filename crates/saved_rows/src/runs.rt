@@ -14,7 +14,8 @@ pub struct Run {
 pub fn run_of(runs: &[Run], index: u64) -> Run
     requires some { 0 < length runs.now }
     requires begun { (d : ARun) → (slice_index_or runs.now 0 d).first ≤ index }
-    ensures { (k : ℕ) × IsRunOf runs.now index k × ((d : ARun) → result ≡ slice_index_or runs.now k d) }
+    ensures { (k : ℕ) × IsRunOf runs.now index k
+        × ((d : ARun) → result ≡ slice_index_or runs.now k d) }
 {
     let mut low = 0;
     let mut high = runs.len();
