@@ -138,8 +138,8 @@ impl Writer {
 
     // Whether the event of a line of this stamp lacks the address of its peer.
     fn lacks_peer(&self, stamp: &Option<Stamp<'_>>) -> Result<bool, NoMemory>
-        ensures { IfOk result (λ lacks. (before : List (List ℕ)) → StandsForLines self.now.rules before
-            → lacks ≡ lacks_stamped self.now.rules.settings before (option_map stamp_seen stamp.now)) }
+        ensures { IfOk result (λ lacks. (before : List (List ℕ))
+            → StandsForLines self.now.rules before → lacks ≡ lacks_stamped self.now.rules.settings before (option_map stamp_seen stamp.now)) }
     {
         match stamp {
             None => Ok(false),
