@@ -74,6 +74,8 @@ SeesLine old new (Some s) line p = SeesOf old new s line p
 pub record ForgetsOf (old new : AllSeen) (name : List ℕ) (event : ℕ × ℕ) : Type 0 where
   pub forgets : Forgets (node_at old name) (node_at new name) event
   pub compat : new.compat ≡ old.compat
+  pub clock : new.clock ≡ old.clock
+  pub last : new.last ≡ old.last
   pub others : (other : List ℕ) → is_node name other ≡ false → node_at new other ≡ node_at old other
 
 -- what was seen of one node, of what was seen of all, newest first
