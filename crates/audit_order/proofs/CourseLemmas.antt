@@ -3,12 +3,12 @@ use Rattle.std.proofs.Common.{◌≡◌, ◌≤◌, ◌+◌, ◌-◌, ◌∙◌,
 use Rattle.std.specs.Prelude.{option_to_list}
 use Rattle.std.specs.List.{All, filter}
 use Rattle.std.proofs.lemmas.Bool.Decides.{nat_tests}
-use Rattle.std.specs.List.Sorted.{IsPermutation, IsNonDecreasing}
+use Rattle.std.specs.List.Sorted.{IsNonDecreasing}
 use Rattle.std.specs.Io.KnownBytes.{Appends}
 use Rattle.std.proofs.lemmas.Grind.{flat_map-append}
 use Rattle.std.proofs.lemmas.List.{map-append}
-use Rattle.std.proofs.lemmas.List.Elements.{All-push, All-weaker, All-cons, All-nil, filter-append}
-use Rattle.std.proofs.lemmas.List.Sorted.{IsPermutation-refl, IsPermutation-sym, IsPermutation-trans, IsPermutation-cons, IsPermutation-to_front, IsPermutation-middle, IsPermutation-append_left, IsNonDecreasingBy-push, IsNonDecreasingBy-short}
+use Rattle.std.proofs.lemmas.List.Elements.{All-push, All-weaker, All-nil, filter-append}
+use Rattle.std.proofs.lemmas.List.Sorted.{IsNonDecreasingBy-push, IsNonDecreasingBy-short}
 use Rattle.order_text.specs.Stamp.{time_of, stamp_of}
 use Rattle.order_text.specs.Laws.{time_in, is_one_line, IsOneLine}
 use Rattle.order_text.specs.Undo.{undone, written_after, is_rewritten, takes_rewrite}
@@ -22,7 +22,9 @@ use Rattle.order_text.proofs.LineLemmas.{written_one}
 use Rattle.audit_order.specs.Start.{Start}
 use Rattle.audit_order.specs.Shown.{Latest, no_time, latest, rules_of, change_alone, WasLacking}
 use Rattle.audit_order.specs.Lines.{text_of, times_of, IsEnd, IsPeer, AddsNoFeed, is_less, is_raised, raised_in, risen, more_if, Written, wrote, Writes, Adds, AddsPeer, MayAddPeer, IsBlank}
+use Rattle.audit_order.specs.Woven.{IsWoven}
 use Rattle.audit_order.specs.Course.{Course, Keeps, Gives}
+use Rattle.audit_order.proofs.WovenLemmas.{woven_none, woven_given, woven_end, woven_peer}
 use Rattle.audit_order.proofs.ShownLemmas.{latest_timed, later_ms, stands_more, counted_more, exact_more, greatest_more}
 
 pub text_more : (outs : List (List ℕ)) (out : List ℕ) → text_of (outs ++ out ∷ []) ≡ text_of outs ++ (out ++ 10 ∷ [])
@@ -49,13 +51,6 @@ rising_more ms times (Some time) before = record {
 
 undone_more : (outs : List (List ℕ)) (out line : List ℕ) → undone out ≡ line → map undone (outs ++ out ∷ []) ≡ map undone outs ++ line ∷ []
 undone_more outs out line is = map-append undone outs (out ∷ []) ∙ ap (λ (l : List ℕ). map undone outs ++ l ∷ []) is
-
--- a line moves from those that wait to those that are written
-moved : (all waits outs : List (List ℕ)) (line : List ℕ) → IsPermutation all ((line ∷ waits) ++ outs) → IsPermutation all (waits ++ (outs ++ line ∷ []))
-moved all waits outs line same =
-    IsPermutation-trans all (line ∷ (waits ++ outs)) (waits ++ (outs ++ line ∷ [])) same
-    (subst (λ (to : List (List ℕ)). IsPermutation (line ∷ (waits ++ outs)) to) (append_assoc waits outs (line ∷ []))
-    (IsPermutation-sym ((waits ++ outs) ++ line ∷ []) (line ∷ (waits ++ outs)) (IsPermutation-to_front (waits ++ outs) line)))
 
 -- ---- counts of raised times
 
@@ -105,13 +100,15 @@ lacked_more switches lines all line peers are lacked =
     })
     peers lacked
 
--- one more line is written with a rewrite
-puts : (old : Written) (line : List ℕ) (change : Option Rewrite) (rules : AllKnown) (before : Start) (now : Option (List ℕ)) (waits lines : List (List ℕ))
-    (c : Course before now old (line ∷ waits) lines)
+-- one more line is written with a rewrite, and is one of the ends, of the peers or of the lines that were given
+puts : (old : Written) (line : List ℕ) (change : Option Rewrite) (rules : AllKnown) (before : Start) (now : Option (List ℕ)) (given : List (List ℕ))
+    (c : Course before now old given) (ends peers gives : List (List ℕ)) (e p : ℕ)
     → rules.settings ≡ old.rules.settings → StandsForLines rules (line ∷ reverse (map undone c.outs))
     → change ≡ or_else (change_alone old.switches (stamp_of line)) (rewrite_of old.rules.settings (reverse (map undone c.outs)) line)
-    → Course before now (wrote (record old { rules = rules }) line (stamp_of line) change) waits lines
-puts old line change rules before now waits lines c settings stands by =
+    → IsWoven ends peers gives (map undone c.outs ++ line ∷ []) → All IsEnd ends → All IsPeer peers
+    → All (WasLacking before.switches (map undone c.outs ++ line ∷ [])) peers → e ≡ length ends → p ≡ length peers
+    → Course before now (record (wrote (record old { rules = rules }) line (stamp_of line) change) { added = e; peers = p }) gives
+puts old line change rules before now given c ends peers gives e p settings stands by woven are blank lacked es ps =
     let out = written_after old.latest.time old.latest.ms line change in
     let new = wrote (record old { rules = rules }) line (stamp_of line) change in
     let w = is_shown old.latest line change (reverse (map undone c.outs)) c.greatest in
@@ -124,23 +121,23 @@ puts old line change rules before now waits lines c settings stands by =
     let there : Rising new.latest.ms (times_of (c.outs ++ out ∷ [])) = rw (times, risen_to) rising in
     record {
       outs = c.outs ++ out ∷ [];
-      added = c.added;
-      peers = c.peers;
+      added = ends;
+      peers = peers;
       done = c.done;
       appends = c.appends;
       text = sym (append_assoc c.done old.pending (out ++ 10 ∷ []))
           ∙ ap (λ (t : List ℕ). t ++ (out ++ 10 ∷ [])) c.text ∙ sym (text_more c.outs out);
-      same = rw undid (moved (c.added ++ (c.peers ++ lines)) waits (map undone c.outs) line c.same);
+      woven = subst (λ (l : List (List ℕ)). IsWoven ends peers gives l) (sym undid) woven;
       rises = there.rises;
       below = there.below;
-      ends = c.ends;
-      blank = c.blank;
-      lacked = lacked_more before.switches (map undone c.outs) (map undone (c.outs ++ out ∷ [])) line c.peers undid c.lacked;
+      ends = are;
+      blank = blank;
+      lacked = subst (λ (l : List (List ℕ)). All (WasLacking before.switches l) peers) (sym undid) lacked;
       own = All-push AddsNoFeed c.outs out c.own (λ one. w.one (ap is_one_line (sym w.undone) ∙ one));
       counts_raised = ap (more_if (is_less (time_in line) (Some ms))) c.counts_raised
           ∙ ap (λ (b : Bool). more_if b (raised_in c.outs)) (sym (raised_by ms out line w.undone w.time)) ∙ sym (counted_more is_raised c.outs out);
-      counts_added = c.counts_added;
-      counts_peers = c.counts_peers;
+      counts_added = es;
+      counts_peers = ps;
       counts_rewritten = ap (λ (b : Bool). more_if b old.rewritten) (sym w.told) ∙ ap (more_if (is_rewritten out)) c.counts_rewritten ∙ sym (counted_more is_rewritten c.outs out);
       switches = c.switches;
       settings = settings ∙ c.settings;
@@ -150,197 +147,62 @@ puts old line change rules before now waits lines c settings stands by =
           c.exact c.switches c.settings c.greatest by undid;
     }
 
+-- what is written of the rules' answer
+wrote_by : (old mid : Written) (line : List ℕ) (w : Writes old mid line) → mid ≡ wrote (record old { rules = w.mid.rules }) line (stamp_of line) w.change
+wrote_by old mid line w = w.is ∙ ap (λ (m : Written). wrote m line (stamp_of line) w.change) w.asks.same
+
 pub gives : (old new : Written) (line : List ℕ) → Writes old new line → Gives old new line
-gives old new line w before now waits lines c =
-    let rules = w.mid.rules in
+gives old new line w before now given c =
     let back = reverse (map undone c.outs) in
-    let is : new ≡ wrote (record old { rules = rules }) line (stamp_of line) w.change =
-    w.is ∙ ap (λ (m : Written). wrote m line (stamp_of line) w.change) w.asks.same in
-    subst (λ (n : Written). Course before now n waits lines) (sym is)
-    (puts old line w.change rules before now waits lines c w.asks.settings (w.asks.stands back c.rules) (w.asks.by back c.rules))
+    let all = map undone c.outs in
+    subst (λ (n : Written). Course before now n (given ++ line ∷ [])) (sym (wrote_by old new line w))
+    (puts old line w.change w.mid.rules before now given c c.added c.peers (given ++ line ∷ []) old.added old.peers
+    w.asks.settings (w.asks.stands back c.rules) (w.asks.by back c.rules)
+    (woven_given c.added c.peers given all line c.woven) c.ends c.blank
+    (lacked_more before.switches all (all ++ line ∷ []) line c.peers refl c.lacked) c.counts_added c.counts_peers)
 
--- an end that is added waits for no time, and is counted
-pub adds : (before : Start) (now : Option (List ℕ)) (w : Written) (waits lines : List (List ℕ)) (line : List ℕ) → IsEnd line
-    → Course before now w waits lines → Course before now (record w { added = w.added + 1 }) (line ∷ waits) lines
-adds before now w waits lines line is c = record {
-  outs = c.outs;
-  added = line ∷ c.added;
-  peers = c.peers;
-  done = c.done;
-  appends = c.appends;
-  text = c.text;
-  same = IsPermutation-cons line (c.added ++ (c.peers ++ lines)) (waits ++ map undone c.outs) c.same;
-  rises = c.rises;
-  below = c.below;
-  ends = All-cons IsEnd line c.added is c.ends;
-  blank = c.blank;
-  lacked = c.lacked;
-  own = c.own;
-  counts_raised = c.counts_raised;
-  counts_added = ap (λ (n : ℕ). n + 1) c.counts_added ∙ add-one (length c.added);
-  counts_peers = c.counts_peers;
-  counts_rewritten = c.counts_rewritten;
-  switches = c.switches;
-  settings = c.settings;
-  rules = c.rules;
-  greatest = c.greatest;
-  exact = c.exact;
-}
-
--- a line that is written is so whatever is added besides
-writes_added : (old new : Written) (line : List ℕ) → Writes old new line → Writes (record old { added = old.added + 1 }) (record new { added = new.added + 1 }) line
-writes_added old new line w = record {
-  mid = record w.mid { added = w.mid.added + 1 };
-  change = w.change;
-  asks = record {
-    same = ap (λ (m : Written). record m { added = m.added + 1 }) w.asks.same;
-    settings = w.asks.settings;
-    by = w.asks.by;
-    stands = w.asks.stands;
-  };
-  is = ap (λ (m : Written). record m { added = m.added + 1 }) w.is;
-}
+-- one more of those that were counted
+one_longer : (n : ℕ) (lines : List (List ℕ)) (line : List ℕ) → n ≡ length lines → n + 1 ≡ length (lines ++ line ∷ [])
+one_longer n lines line is = ap (λ (k : ℕ). k + 1) is ∙ sym (length-append lines (line ∷ []))
 
 pub keeps_end : (old new : Written) (line : List ℕ) → Adds old new line → IsEnd line → Keeps old new
-keeps_end old new line a is before now waits lines c =
-    let more : Written = record a.mid { added = a.mid.added + 1 } in
-    subst (λ (w : Written). Course before now w waits lines) (sym a.is)
-    (gives (record old { added = old.added + 1 }) more line (writes_added old a.mid line a.writes) before now waits lines
-    (adds before now old waits lines line is c))
-
--- one more line of the log waits
-pub joins : (before : Start) (now : Option (List ℕ)) (w : Written) (waits lines : List (List ℕ)) (line : List ℕ)
-    → Course before now w waits lines → Course before now w (line ∷ waits) (lines ++ line ∷ [])
-joins before now w waits lines line c = record {
-  outs = c.outs;
-  added = c.added;
-  peers = c.peers;
-  done = c.done;
-  appends = c.appends;
-  text = c.text;
-  same =
-      let all = c.added ++ (c.peers ++ lines) in
-      let front : IsPermutation (all ++ line ∷ []) (line ∷ all) = IsPermutation-to_front all line in
-      let more : IsPermutation (line ∷ all) (line ∷ (waits ++ map undone c.outs)) = IsPermutation-cons line all (waits ++ map undone c.outs) c.same in
-      subst (λ (from : List (List ℕ)). IsPermutation from (line ∷ (waits ++ map undone c.outs)))
-      (append_assoc c.added (c.peers ++ lines) (line ∷ []) ∙ ap (λ (l : List (List ℕ)). c.added ++ l) (append_assoc c.peers lines (line ∷ [])))
-      (IsPermutation-trans (all ++ line ∷ []) (line ∷ all) (line ∷ (waits ++ map undone c.outs)) front more);
-  rises = c.rises;
-  below = c.below;
-  ends = c.ends;
-  blank = c.blank;
-  lacked = c.lacked;
-  own = c.own;
-  counts_raised = c.counts_raised;
-  counts_added = c.counts_added;
-  counts_peers = c.counts_peers;
-  counts_rewritten = c.counts_rewritten;
-  switches = c.switches;
-  settings = c.settings;
-  rules = c.rules;
-  greatest = c.greatest;
-  exact = c.exact;
-}
-
--- a line of the log becomes a peer that was added
-swapped : (added peers lines all : List (List ℕ)) (line : List ℕ)
-    → IsPermutation (added ++ (peers ++ (lines ++ line ∷ []))) all → IsPermutation (added ++ ((line ∷ peers) ++ lines)) all
-swapped added peers lines all line same =
-    let rest = peers ++ lines in
-    let last : IsPermutation ((added ++ rest) ++ line ∷ []) (line ∷ (added ++ rest)) = IsPermutation-to_front (added ++ rest) line in
-    let middle : IsPermutation (added ++ line ∷ rest) (line ∷ (added ++ rest)) = IsPermutation-middle added line rest in
-    let here : (added ++ rest) ++ line ∷ [] ≡ added ++ (peers ++ (lines ++ line ∷ [])) =
-    append_assoc added rest (line ∷ []) ∙ ap (λ (l : List (List ℕ)). added ++ l) (append_assoc peers lines (line ∷ [])) in
-    IsPermutation-trans (added ++ line ∷ rest) ((added ++ rest) ++ line ∷ []) all
-    (IsPermutation-trans (added ++ line ∷ rest) (line ∷ (added ++ rest)) ((added ++ rest) ++ line ∷ []) middle
-    (IsPermutation-sym ((added ++ rest) ++ line ∷ []) (line ∷ (added ++ rest)) last))
-    (subst (λ (from : List (List ℕ)). IsPermutation from all) (sym here) same)
-
--- a peer that was lacking is written, and counted
-puts_peer : (old : Written) (line : List ℕ) (change : Option Rewrite) (rules : AllKnown) (before : Start) (now : Option (List ℕ)) (waits lines : List (List ℕ))
-    (c : Course before now old waits lines)
-    → rules.settings ≡ old.rules.settings → StandsForLines rules (line ∷ reverse (map undone c.outs))
-    → change ≡ or_else (change_alone old.switches (stamp_of line)) (rewrite_of old.rules.settings (reverse (map undone c.outs)) line)
-    → IsPeer line → true ≡ lacks_of old.rules.settings (reverse (map undone c.outs)) line
-    → Course before now (record (wrote (record old { rules = rules }) line (stamp_of line) change) { peers = old.peers + 1 }) waits lines
-unfolding joins puts
-puts_peer old line change rules before now waits lines c settings stands by is lacks =
-    let out = written_after old.latest.time old.latest.ms line change in
-    let d = puts old line change rules before now waits (lines ++ line ∷ []) (joins before now old waits lines line c) settings stands by in
-    let undid = undone_more c.outs out line (is_shown old.latest line change (reverse (map undone c.outs)) c.greatest).undone in
-    record {
-      outs = d.outs;
-      added = d.added;
-      peers = line ∷ d.peers;
-      done = d.done;
-      appends = d.appends;
-      text = d.text;
-      same = swapped d.added d.peers lines (waits ++ map undone d.outs) line d.same;
-      rises = d.rises;
-      below = d.below;
-      ends = d.ends;
-      blank = All-cons IsPeer line c.peers is c.blank;
-      lacked = All-cons (WasLacking before.switches (map undone d.outs)) line d.peers
-          (record {
-            before = map undone c.outs;
-            after = [];
-            is = undid;
-            lacks = lacks ∙ ap (λ (s : of_rules.Settings). lacks_of s (reverse (map undone c.outs)) line) c.settings;
-          })
-          d.lacked;
-      own = d.own;
-      counts_raised = d.counts_raised;
-      counts_added = d.counts_added;
-      counts_peers = ap (λ (n : ℕ). n + 1) c.counts_peers ∙ add-one (length c.peers);
-      counts_rewritten = d.counts_rewritten;
-      switches = d.switches;
-      settings = d.settings;
-      rules = d.rules;
-      greatest = d.greatest;
-      exact = d.exact;
-    }
-
-adds_peer : (old new : Written) (line : List ℕ) → AddsPeer old new line → IsPeer line → Keeps old new
-adds_peer old new line a is before now waits lines c =
+keeps_end old new line a is before now given c =
     let w = a.writes in
     let back = reverse (map undone c.outs) in
+    let all = map undone c.outs in
+    let same : new ≡ record (wrote (record old { rules = w.mid.rules }) line (stamp_of line) w.change) { added = old.added + 1 } =
+    a.is ∙ ap (λ (m : Written). record m { added = m.added + 1 }) (wrote_by old a.mid line w) in
+    subst (λ (n : Written). Course before now n given) (sym same)
+    (puts old line w.change w.mid.rules before now given c (c.added ++ line ∷ []) c.peers given (old.added + 1) old.peers
+    w.asks.settings (w.asks.stands back c.rules) (w.asks.by back c.rules)
+    (woven_end c.added c.peers given all line c.woven) (All-push IsEnd c.added line c.ends is) c.blank
+    (lacked_more before.switches all (all ++ line ∷ []) line c.peers refl c.lacked)
+    (one_longer old.added c.added line c.counts_added) c.counts_peers)
+
+adds_peer : (old new : Written) (line : List ℕ) → AddsPeer old new line → IsPeer line → Keeps old new
+adds_peer old new line a is before now given c =
+    let w = a.writes in
+    let back = reverse (map undone c.outs) in
+    let all = map undone c.outs in
     let same : new ≡ record (wrote (record old { rules = w.mid.rules }) line (stamp_of line) w.change) { peers = old.peers + 1 } =
-    a.is ∙ ap (λ (m : Written). record m { peers = m.peers + 1 }) (w.is ∙ ap (λ (m : Written). wrote m line (stamp_of line) w.change) w.asks.same) in
-    subst (λ (n : Written). Course before now n waits lines) (sym same)
-    (puts_peer old line w.change w.mid.rules before now waits lines c w.asks.settings (w.asks.stands back c.rules) (w.asks.by back c.rules) is (a.lacks back c.rules))
+    a.is ∙ ap (λ (m : Written). record m { peers = m.peers + 1 }) (wrote_by old a.mid line w) in
+    let was : WasLacking before.switches (all ++ line ∷ []) line = record {
+      before = all;
+      after = [];
+      is = refl;
+      lacks = a.lacks back c.rules ∙ ap (λ (s : of_rules.Settings). lacks_of s back line) c.settings;
+    } in
+    subst (λ (n : Written). Course before now n given) (sym same)
+    (puts old line w.change w.mid.rules before now given c c.added (c.peers ++ line ∷ []) given old.added (old.peers + 1)
+    w.asks.settings (w.asks.stands back c.rules) (w.asks.by back c.rules)
+    (woven_peer c.added c.peers given all line c.woven) c.ends (All-push IsPeer c.peers line c.blank is)
+    (All-push (WasLacking before.switches (all ++ line ∷ [])) c.peers line
+    (lacked_more before.switches all (all ++ line ∷ []) line c.peers refl c.lacked) was)
+    c.counts_added (one_longer old.peers c.peers line c.counts_peers))
 
 pub keeps_peer : (old new : Written) (line : List ℕ) → MayAddPeer old new line → IsPeer line → Keeps old new
-keeps_peer old new line (inl same) is before now waits lines c = subst (λ (w : Written). Course before now w waits lines) (sym same) c
-keeps_peer old new line (inr a) is before now waits lines c = adds_peer old new line a is before now waits lines c
-
--- those that wait may stand in another order
-pub shuffled : (before : Start) (now : Option (List ℕ)) (w : Written) (waits other lines : List (List ℕ)) → IsPermutation waits other
-    → Course before now w waits lines → Course before now w other lines
-shuffled before now w waits other lines same c = record {
-  outs = c.outs;
-  added = c.added;
-  peers = c.peers;
-  done = c.done;
-  appends = c.appends;
-  text = c.text;
-  same = IsPermutation-trans (c.added ++ (c.peers ++ lines)) (waits ++ map undone c.outs) (other ++ map undone c.outs) c.same
-      (IsPermutation-append_left (map undone c.outs) waits other same);
-  rises = c.rises;
-  below = c.below;
-  ends = c.ends;
-  blank = c.blank;
-  lacked = c.lacked;
-  own = c.own;
-  counts_raised = c.counts_raised;
-  counts_added = c.counts_added;
-  counts_peers = c.counts_peers;
-  counts_rewritten = c.counts_rewritten;
-  switches = c.switches;
-  settings = c.settings;
-  rules = c.rules;
-  greatest = c.greatest;
-  exact = c.exact;
-}
+keeps_peer old new line (inl same) is before now given c = subst (λ (w : Written). Course before now w given) (sym same) c
+keeps_peer old new line (inr a) is before now given c = adds_peer old new line a is before now given c
 
 pub appends_both : (before now later : Option (List ℕ)) (done pending : List ℕ) → Appends before now done → Appends now later pending → Appends before later (done ++ pending)
 appends_both None now later done pending first second = tt
@@ -349,16 +211,16 @@ appends_both (Some xs) (Some ys) None done pending first second = absurd second
 appends_both (Some xs) (Some ys) (Some zs) done pending first second = second ∙ ap (λ (t : List ℕ). t ++ pending) first ∙ append_assoc xs done pending
 
 -- what waited to be handed on was handed on
-pub flushed : (before : Start) (now later : Option (List ℕ)) (w : Written) (waits lines : List (List ℕ)) → Appends now later w.pending
-    → Course before now w waits lines → Course before later (record w { pending = [] }) waits lines
-flushed before now later w waits lines handed c = record {
+pub flushed : (before : Start) (now later : Option (List ℕ)) (w : Written) (given : List (List ℕ)) → Appends now later w.pending
+    → Course before now w given → Course before later (record w { pending = [] }) given
+flushed before now later w given handed c = record {
   outs = c.outs;
   added = c.added;
   peers = c.peers;
   done = c.done ++ w.pending;
   appends = appends_both before.written now later c.done w.pending c.appends handed;
   text = append-nil (c.done ++ w.pending) ∙ c.text;
-  same = c.same;
+  woven = c.woven;
   rises = c.rises;
   below = c.below;
   ends = c.ends;
@@ -381,7 +243,7 @@ appends_none None = tt
 appends_none (Some xs) = sym (append-nil xs)
 
 blank : (before : Start) (rules : AllKnown) → rules.settings ≡ rules_of before.switches → StandsForLines rules []
-    → Course before before.written (record { switches = before.switches; rules = rules; pending = []; latest = no_time; raised = 0; rewritten = 0; added = 0; peers = 0 }) [] []
+    → Course before before.written (record { switches = before.switches; rules = rules; pending = []; latest = no_time; raised = 0; rewritten = 0; added = 0; peers = 0 }) []
 blank before rules settings stands = record {
   outs = [];
   added = [];
@@ -389,7 +251,7 @@ blank before rules settings stands = record {
   done = [];
   appends = appends_none before.written;
   text = refl;
-  same = IsPermutation-refl [];
+  woven = woven_none;
   rises = IsNonDecreasingBy-short (λ (t : ℕ). t) [] (omega arith);
   below = All-nil (λ (t : ℕ). t ≤ 0);
   ends = All-nil IsEnd;
@@ -407,8 +269,8 @@ blank before rules settings stands = record {
   exact = refl;
 }
 
-pub starts : (before : Start) (w : Written) → IsBlank before.switches w → Course before before.written w [] []
-starts before w b = subst (λ (v : Written). Course before before.written v [] []) (sym b.is) (blank before w.rules b.settings b.rules)
+pub starts : (before : Start) (w : Written) → IsBlank before.switches w → Course before before.written w []
+starts before w b = subst (λ (v : Written). Course before before.written v []) (sym b.is) (blank before w.rules b.settings b.rules)
 
 -- ---- lines
 

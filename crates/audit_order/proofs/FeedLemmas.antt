@@ -12,6 +12,7 @@ use Rattle.std.proofs.lemmas.List.Sorted.{All-permutation}
 use Rattle.audit_lex.specs.History.{Step, Byte, Settle, History, Cuts, ended, settled, one_more, nothing_cut, lines_of}
 use Rattle.order_text.specs.Undo.{undone}
 use Rattle.order_text.specs.Laws.{is_one_line, IsOneLine}
+use Rattle.audit_order.specs.declared.bounds.Bounds.{Bounds}
 use Rattle.audit_order.specs.declared.switches.Switches.{Switches}
 use Rattle.audit_order.specs.declared.counts.Counts.{Counts}
 use Rattle.audit_order.specs.Lines.{text_of, IsEnd, IsPeer, AddsNoFeed}
@@ -110,9 +111,9 @@ text_lines outs one =
     ap (λ (cuts : Cuts). cuts.lines) (fold-append one_more nothing_cut (map Byte (text_of outs)) (Settle ∷ []))
     ∙ ap (λ (cuts : Cuts). (fold one_more cuts (Settle ∷ [])).lines) (cut_text [] outs one)
 
-pub undone_orders : (switches : Switches) (bytes ordered : List ℕ) (before now : Option (List ℕ)) (counts : Counts)
-    → Orders switches bytes (Some []) (Some ordered) counts → Undoes ordered before now → GivesBack bytes before now
-undone_orders switches bytes ordered before now counts o undoes =
+pub undone_orders : (bounds : Bounds) (switches : Switches) (bytes ordered : List ℕ) (before now : Option (List ℕ)) (counts : Counts)
+    → Orders bounds switches bytes (Some []) (Some ordered) counts → Undoes ordered before now → GivesBack bytes before now
+undone_orders bounds switches bytes ordered before now counts o undoes =
     let lines : log_lines ordered ≡ o.outs = ap log_lines o.written ∙ text_lines o.outs o.one in
     record {
       lines = map undone o.outs;

@@ -1,7 +1,11 @@
 pub mod ShownLemmas
+pub mod WovenLemmas
 pub mod CourseLemmas
 pub mod FeedLemmas
 pub mod ReadLemmas
 pub mod UndoneLemmas
 pub mod RipeLemmas
+pub mod TurnLemmas
+pub mod SortLemmas
+pub mod LesserLemmas
 pub mod CauseLemmas

@@ -14,8 +14,15 @@ use Rattle.audit_lex.specs.declared.line_cut.Line.{Line}
 use Rattle.order_text.specs.Undo.{undone}
 use Rattle.audit_order.specs.declared.counts.Counts.{Counts}
 use Rattle.audit_order.specs.Start.{Start}
-use Rattle.audit_order.specs.Lines.{Written}
-use Rattle.audit_order.specs.Course.{Course}
+use Rattle.order_queue.specs.declared.waiting.Waiting.{Waiting}
+use Rattle.order_queue.specs.Queue.{text_of, texts_of}
+use Rattle.std.proofs.lemmas.List.Sorted.{IsPermutation-map, IsPermutation-trans, IsPermutation-append_right}
+use Rattle.audit_order.specs.declared.bounds.Bounds.{Bounds}
+use Rattle.audit_order.specs.declared.sorter.Sorter.{Sorter}
+use Rattle.audit_order.specs.Woven.{IsWoven}
+use Rattle.audit_order.specs.Turns.{AtEnd, InTurn, came, went}
+use Rattle.audit_order.specs.Sorted.{SortsAt}
+use Rattle.audit_order.proofs.WovenLemmas.{woven_same}
 use Rattle.audit_order.proofs.FeedLemmas.{one_each, given_back_one}
 use Rattle.audit_order.specs.Reads.{Took, TakesAlso, TakesNext, log_lines, Orders}
 use Rattle.audit_order.specs.Taken.{Standing}
@@ -101,13 +108,21 @@ ends_log stands bytes left later was now cut cut2 s s2 piece empty log read ende
     }
 
 -- what was written at the end orders the log
-pub orders : (bytes : List ℕ) (before : Start) (now : Option (List ℕ)) (w : Written) (waits lines : List (List ℕ)) (counts : Counts) → w.pending ≡ [] → waits ≡ []
-    → lines ≡ log_lines bytes → counts.times_raised ≡ w.raised → counts.added_ends ≡ w.added → counts.added_peers ≡ w.peers → counts.rewrites ≡ w.rewritten
-    → Course before now w waits lines → Orders before.switches bytes before.written now counts
-orders bytes before now w waits lines counts flushed none are raised added peers rewritten c =
+pub orders : (bytes : List ℕ) (before : Start) (now : Option (List ℕ)) (s : Sorter) (lines : List (List ℕ)) (counts : Counts) → s.writer.pending ≡ [] → s.queue.waits ≡ []
+    → lines ≡ log_lines bytes → counts.times_raised ≡ s.writer.raised → counts.added_ends ≡ s.writer.added → counts.added_peers ≡ s.writer.peers → counts.rewrites ≡ s.writer.rewritten
+    → SortsAt AtEnd before now s lines → Orders before.bounds before.switches bytes before.written now counts
+orders bytes before now sorter lines counts flushed none are raised added peers rewritten s =
+    let c = s.course in
+    let t = s.turns in
+    let all : IsPermutation (came t.motions) (went t.motions) =
+    subst (λ (l : List Waiting). IsPermutation (came t.motions) l) (ap (λ (l : List Waiting). went t.motions ++ l) none ∙ append-nil (went t.motions)) t.rest in
+    let given : IsPermutation (log_lines bytes) s.given =
+    subst (λ (l : List (List ℕ)). IsPermutation l s.given) (t.lines_are ∙ are)
+    (subst (λ (l : List (List ℕ)). IsPermutation (texts_of (came t.motions)) l) t.given_are (IsPermutation-map text_of (came t.motions) (went t.motions) all)) in
     let same : IsPermutation (c.added ++ (c.peers ++ log_lines bytes)) (map undone c.outs) =
-    subst (λ (l : List (List ℕ)). IsPermutation (c.added ++ (c.peers ++ l)) (map undone c.outs)) are
-    (subst (λ (v : List (List ℕ)). IsPermutation (c.added ++ (c.peers ++ lines)) (v ++ map undone c.outs)) none c.same) in
+    IsPermutation-trans (c.added ++ (c.peers ++ log_lines bytes)) (c.added ++ (c.peers ++ s.given)) (map undone c.outs)
+    (IsPermutation-append_right c.added (c.peers ++ log_lines bytes) (c.peers ++ s.given) (IsPermutation-append_right c.peers (log_lines bytes) s.given given))
+    (woven_same c.added c.peers s.given (map undone c.outs) c.woven) in
     record {
       outs = c.outs;
       added = c.added;
@@ -124,6 +139,12 @@ orders bytes before now w waits lines counts flushed none are raised added peers
       counts_peers = peers ∙ c.counts_peers;
       counts_rewritten = rewritten ∙ c.counts_rewritten;
       exact = c.exact;
+      seen = sorter.places;
+      motions = t.motions;
+      read = t.lines_are ∙ are;
+      all_went = all;
+      in_turn = subst (λ (b : Bounds). InTurn before.switches.compat b sorter.places t.motions) s.bounds_are t.turns;
+      order = subst (λ (g : List (List ℕ)). IsWoven c.added c.peers g (map undone c.outs)) (sym t.given_are) c.woven;
     }
 
 -- ---- slices, and results

@@ -27,7 +27,7 @@ any_past window time clock (w ∷ waits) past e =
     any_step (nat_eq time w.time) (list_any (λ item. nat_eq time item.time) waits) (nat_lt (w.time + window) clock) (any_is_past window clock waits)
     (λ same. same_past window time w.time clock past same) (λ more. any_past window time clock waits past more) e
 
-none_past : (window time clock : ℕ) (waits : List Waiting) → nat_lt (time + window) clock ≡ false → All (λ item. time ≤ item.time) waits → any_is_past window clock waits ≡ false
+pub none_past : (window time clock : ℕ) (waits : List Waiting) → nat_lt (time + window) clock ≡ false → All (λ item. time ≤ item.time) waits → any_is_past window clock waits ≡ false
 none_past window time clock [] past all = refl
 none_past window time clock (w ∷ waits) past all =
     none_step (nat_lt (w.time + window) clock) (any_is_past window clock waits)

@@ -9,6 +9,7 @@ use Rattle.order_text.specs.Undo.{undone, written_after, is_rewritten, takes_rew
 use Rattle.order_text.specs.declared.rewrite.Rewrite.{Rewrite}
 use Rattle.order_text.proofs.CutLemmas.{by_test}
 use Rattle.order_text.proofs.UndoLemmas.{has_parts, written_told}
+use Rattle.audit_order.specs.declared.bounds.Bounds.{Bounds}
 use Rattle.audit_order.specs.declared.switches.Switches.{Switches}
 use Rattle.order_lines.specs.Rules.{or_else}
 use Rattle.order_rules.specs.Rules.{AllKnown, StandsForLines, rewrite_of, event_of, said_of, lacks_stamped}
@@ -128,9 +129,9 @@ plain_lines switches before (line ∷ lines) join names compat =
     (written_told t.time t.ms line (change_after switches before line) (latest_timed before) ∙ no_change switches before line join names compat)
     (plain_lines switches (line ∷ before) lines join names compat)
 
-pub rewrites_by_rules : (switches : Switches) (bytes : List ℕ) (before now : Option (List ℕ)) (counts : Counts)
-    → switches.join ≡ false → switches.names ≡ false → switches.compat ≡ false → Orders switches bytes before now counts → counts.rewrites ≡ 0
-rewrites_by_rules switches bytes before now counts join names compat o =
+pub rewrites_by_rules : (bounds : Bounds) (switches : Switches) (bytes : List ℕ) (before now : Option (List ℕ)) (counts : Counts)
+    → switches.join ≡ false → switches.names ≡ false → switches.compat ≡ false → Orders bounds switches bytes before now counts → counts.rewrites ≡ 0
+rewrites_by_rules bounds switches bytes before now counts join names compat o =
     o.counts_rewritten ∙ ap rewritten_in o.exact ∙ plain_lines switches [] (map undone o.outs) join names compat
 
 -- ---- without connections that are apart
@@ -154,6 +155,6 @@ none_lacked switches lines (peer ∷ peers) off lacked =
     let was = All-head (WasLacking switches lines) peer peers lacked in
     absurd (cc (was.lacks ∙ lacks_none (rules_of switches) (reverse was.before) (stamp_of peer) off))
 
-pub peers_by_rules : (switches : Switches) (bytes : List ℕ) (before now : Option (List ℕ)) (counts : Counts)
-    → switches.join && switches.apart ≡ false → Orders switches bytes before now counts → counts.added_peers ≡ 0
-peers_by_rules switches bytes before now counts off o = o.counts_peers ∙ none_lacked switches (map undone o.outs) o.peers off o.lacked
+pub peers_by_rules : (bounds : Bounds) (switches : Switches) (bytes : List ℕ) (before now : Option (List ℕ)) (counts : Counts)
+    → switches.join && switches.apart ≡ false → Orders bounds switches bytes before now counts → counts.added_peers ≡ 0
+peers_by_rules bounds switches bytes before now counts off o = o.counts_peers ∙ none_lacked switches (map undone o.outs) o.peers off o.lacked

@@ -1,25 +1,26 @@
 -- How far the ordering of a log has come.
-use Rattle.std.specs.Prelude.{◌≡◌, ℕ, ◌≤◌, List, [], ◌∷◌, ◌++◌, Option, map, length, reverse, IsPermutation}
+use Rattle.std.specs.Prelude.{◌≡◌, ℕ, ◌≤◌, List, [], ◌∷◌, ◌++◌, Option, map, length, reverse}
 use Rattle.std.specs.List.{All}
 use Rattle.std.specs.List.Sorted.{IsNonDecreasing}
 use Rattle.std.specs.Io.KnownBytes.{Appends}
 use Rattle.order_text.specs.Undo.{undone}
 use Rattle.order_rules.specs.Rules.{StandsForLines}
 use Rattle.audit_order.specs.Start.{Start}
+use Rattle.audit_order.specs.Woven.{IsWoven}
 use Rattle.audit_order.specs.Shown.{latest, rules_of, WasLacking, shown_after}
 use Rattle.audit_order.specs.Lines.{text_of, times_of, raised_in, rewritten_in, IsEnd, IsPeer, AddsNoFeed, Written}
 
--- Of the lines of the log so far, each is written or waits, and none is lost, doubled or made up: what was written is undone
--- to them, to the ends that were added, and to the peers that were because they were lacking. Times don't fall in what is written.
+-- Of the lines that were given to be written none is lost, doubled, made up or moved: what was written is undone to them, in their
+-- order, to the ends that were added, and to the peers that were because they were lacking. Times don't fall in what is written.
 -- Each line is rewritten by the rules. Raised times, rewritten lines, and added ends and peers are counted.
-pub record Course (before : Start) (now : Option (List ℕ)) (w : Written) (waits lines : List (List ℕ)) : Type 0 where
+pub record Course (before : Start) (now : Option (List ℕ)) (w : Written) (given : List (List ℕ)) : Type 0 where
   pub outs : List (List ℕ)
   pub added : List (List ℕ)
   pub peers : List (List ℕ)
   pub done : List ℕ
   pub appends : Appends before.written now done
   pub text : done ++ w.pending ≡ text_of outs
-  pub same : IsPermutation (added ++ (peers ++ lines)) (waits ++ map undone outs)
+  pub woven : IsWoven added peers given (map undone outs)
   pub rises : IsNonDecreasing (times_of outs)
   pub below : All (λ time. time ≤ w.latest.ms) (times_of outs)
   pub ends : All IsEnd added
@@ -36,14 +37,12 @@ pub record Course (before : Start) (now : Option (List ℕ)) (w : Written) (wait
   pub greatest : w.latest ≡ latest (reverse (map undone outs))
   pub exact : outs ≡ shown_after before.switches [] (map undone outs)
 
--- whatever waits, what is written besides loses nothing
+-- whatever lines were given, what is written besides loses nothing
 abbrev pub Keeps : Written → Written → Type 0
 Keeps old new =
-    (before : Start) (now : Option (List ℕ)) (waits lines : List (List ℕ))
-    → Course before now old waits lines → Course before now new waits lines
+    (before : Start) (now : Option (List ℕ)) (given : List (List ℕ)) → Course before now old given → Course before now new given
 
--- a line that waited is written
+-- one more line is given, and written
 abbrev pub Gives : Written → Written → List ℕ → Type 0
 Gives old new line =
-    (before : Start) (now : Option (List ℕ)) (waits lines : List (List ℕ))
-    → Course before now old (line ∷ waits) lines → Course before now new waits lines
+    (before : Start) (now : Option (List ℕ)) (given : List (List ℕ)) → Course before now old given → Course before now new (given ++ line ∷ [])

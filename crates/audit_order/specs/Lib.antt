@@ -2,7 +2,9 @@ pub mod Halts
 pub mod Start
 pub mod Shown
 pub mod Lines
+pub mod Woven
 pub mod Course
+pub mod Turns
 pub mod Tally
 pub mod Taken
 pub mod Sorted

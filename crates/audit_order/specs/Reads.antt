@@ -10,7 +10,12 @@ use Rattle.order_text.specs.Undo.{undone}
 use Rattle.order_text.specs.Laws.{IsOneLine}
 use Rattle.audit_order.specs.declared.counts.Counts.{Counts}
 use Rattle.audit_order.specs.declared.switches.Switches.{Switches}
+use Rattle.order_place.specs.Nodes.{AllSeen}
+use Rattle.order_queue.specs.Queue.{texts_of}
+use Rattle.audit_order.specs.declared.bounds.Bounds.{Bounds}
 use Rattle.audit_order.specs.Start.{Start}
+use Rattle.audit_order.specs.Woven.{IsWoven}
+use Rattle.audit_order.specs.Turns.{Motion, came, went, InTurn}
 use Rattle.audit_order.specs.Shown.{WasLacking, shown_after}
 use Rattle.audit_order.specs.Lines.{text_of, times_of, raised_in, rewritten_in, IsEnd, IsPeer}
 use Rattle.audit_order.specs.Taken.{Standing, Stays, Takes}
@@ -37,8 +42,8 @@ log_lines bytes = lines_of (with_bytes [] bytes ++ Settle ∷ [])
 -- What was written orders a log: with what was changed undone it is the lines of the log and the ends and peers that were added, in
 -- some order, none of them lost, doubled or made up, and each peer was lacking; the times in it don't fall; and each of its lines is
 -- one line. The lines are changed exactly as the greatest time before each and the rules say. Raised times, rewritten lines, and
--- added ends and peers are counted.
-pub record Orders (switches : Switches) (bytes : List ℕ) (before now : Option (List ℕ)) (counts : Counts) : Type 0 where
+-- added ends and peers are counted. The lines of the log came in their order and went in turn, and in that order they are written.
+pub record Orders (bounds : Bounds) (switches : Switches) (bytes : List ℕ) (before now : Option (List ℕ)) (counts : Counts) : Type 0 where
   pub outs : List (List ℕ)
   pub added : List (List ℕ)
   pub peers : List (List ℕ)
@@ -54,6 +59,12 @@ pub record Orders (switches : Switches) (bytes : List ℕ) (before now : Option 
   pub counts_peers : counts.added_peers ≡ length peers
   pub counts_rewritten : counts.rewrites ≡ rewritten_in outs
   pub exact : outs ≡ shown_after switches [] (map undone outs)
+  pub seen : AllSeen
+  pub motions : List Motion
+  pub read : texts_of (came motions) ≡ log_lines bytes
+  pub all_went : IsPermutation (came motions) (went motions)
+  pub in_turn : InTurn switches.compat bounds seen motions
+  pub order : IsWoven added peers (texts_of (went motions)) (map undone outs)
 
 -- What was written is the lines of the log, each as it was before it was changed, in their order.
 abbrev pub Undoes : List ℕ → (before now : Option (List ℕ)) → Type 0
@@ -74,8 +85,8 @@ pub record GivesBack (bytes : List ℕ) (before now : Option (List ℕ)) : Type 
 -- undoing what orders a log gives the lines of the log and the ends and peers that were added
 abbrev pub UndoesOrders : Type 0
 UndoesOrders =
-    (switches : Switches) (bytes ordered : List ℕ) (before now : Option (List ℕ)) (counts : Counts)
-    → Orders switches bytes (Some []) (Some ordered) counts → Undoes ordered before now → GivesBack bytes before now
+    (bounds : Bounds) (switches : Switches) (bytes ordered : List ℕ) (before now : Option (List ℕ)) (counts : Counts)
+    → Orders bounds switches bytes (Some []) (Some ordered) counts → Undoes ordered before now → GivesBack bytes before now
 
 -- a text of such lines has these lines
 abbrev pub TextHasLines : Type 0
@@ -84,11 +95,11 @@ TextHasLines = (lines : List (List ℕ)) → All IsOneLine lines → log_lines (
 -- without the rules no line is rewritten
 abbrev pub RewritesByRules : Type 0
 RewritesByRules =
-    (switches : Switches) (bytes : List ℕ) (before now : Option (List ℕ)) (counts : Counts)
-    → switches.join ≡ false → switches.names ≡ false → switches.compat ≡ false → Orders switches bytes before now counts → counts.rewrites ≡ 0
+    (bounds : Bounds) (switches : Switches) (bytes : List ℕ) (before now : Option (List ℕ)) (counts : Counts)
+    → switches.join ≡ false → switches.names ≡ false → switches.compat ≡ false → Orders bounds switches bytes before now counts → counts.rewrites ≡ 0
 
 -- without connections that are apart no peer is added
 abbrev pub AddsPeersByRules : Type 0
 AddsPeersByRules =
-    (switches : Switches) (bytes : List ℕ) (before now : Option (List ℕ)) (counts : Counts)
-    → switches.join && switches.apart ≡ false → Orders switches bytes before now counts → counts.added_peers ≡ 0
+    (bounds : Bounds) (switches : Switches) (bytes : List ℕ) (before now : Option (List ℕ)) (counts : Counts)
+    → switches.join && switches.apart ≡ false → Orders bounds switches bytes before now counts → counts.added_peers ≡ 0

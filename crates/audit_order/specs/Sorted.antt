@@ -1,30 +1,63 @@
 -- What a sorter stands for.
-use Rattle.std.specs.Prelude.{ℕ, ◌+◌, Bool, false, List, [], ◌∷◌, ◌++◌, Option, None, Some, nat_lt}
+use Rattle.std.specs.Prelude.{◌≡◌, ◌⊎◌, ℕ, ◌+◌, Bool, false, List, [], ◌∷◌, ◌++◌, Option, None, Some, nat_lt}
 use Rattle.std.specs.List.{list_any}
 use Rattle.order_queue.specs.declared.waiting.Waiting.{Waiting}
-use Rattle.order_queue.specs.Queue.{texts_of}
+use Rattle.order_place.specs.declared.places.Place.{Place}
 use Rattle.audit_order.specs.Start.{Start}
-use Rattle.audit_order.specs.Course.{Course}
+use Rattle.audit_order.specs.Course.{Course, Gives}
+use Rattle.audit_order.specs.Turns.{State, Turns, Phase, Between, AtEnd, Comes, GoesLeast, waiting_of}
 use Rattle.audit_order.specs.Taken.{Stays}
 use Rattle.audit_order.specs.declared.counts.Counts.{Counts}
 use Rattle.audit_order.specs.declared.sorter.Sorter.{Sorter}
 
--- the sorter holds the lines that wait, after these lines of the log
+-- what a sorter has of the turns of lines
+abbrev pub state_of : Sorter → State
+state_of s = record {
+  bounds = s.bounds;
+  places = s.places;
+  event = record { node = s.turn.node; ms = s.turn.ms; serial = s.turn.serial };
+  number = s.number;
+  waits = s.queue.waits;
+}
+
+-- of these lines of the log, some were given to be written when it was their turn, and the sorter holds the others
+pub record SortsAt (at : Phase) (before : Start) (now : Option (List ℕ)) (s : Sorter) (lines : List (List ℕ)) : Type 0 where
+  pub given : List (List ℕ)
+  pub course : Course before now s.writer given
+  pub turns : Turns before.switches.compat at (state_of s) given lines
+  pub bounds_are : s.bounds ≡ before.bounds
+
+-- the same between two lines of the log
 abbrev pub Sorts : (before : Start) (now : Option (List ℕ)) → Sorter → List (List ℕ) → Type 0
-Sorts before now s lines = Course before now s.writer (texts_of s.queue.waits) lines
+Sorts before now s lines = SortsAt Between before now s lines
 
--- a step of the sorter alone loses nothing
+-- the line of the least place is written
+pub record GivesLeast (old new : Sorter) : Type 0 where
+  pub item : Waiting
+  pub goes : GoesLeast (state_of old) (state_of new) item
+  pub gives : Gives old.writer new.writer item.line
+
+-- the line of the least place is written, if one waits
 abbrev pub Moves : Sorter → Sorter → Type 0
-Moves old new = (before : Start) (now : Option (List ℕ)) (lines : List (List ℕ)) → Sorts before now old lines → Sorts before now new lines
+Moves old new = (new ≡ old) ⊎ GivesLeast old new
 
--- one more line of the log waits
-abbrev pub Holds : Sorter → Sorter → List ℕ → Type 0
-Holds old new line =
-    (before : Start) (now : Option (List ℕ)) (lines : List (List ℕ)) → Sorts before now old lines → Sorts before now new (lines ++ line ∷ [])
+-- the line that was read waits with its place
+pub record Holds (old new : Sorter) (place : Place) (line : List ℕ) : Type 0 where
+  pub comes : Comes (state_of old) (state_of new) (waiting_of place old.number line)
+  pub writer : new.writer ≡ old.writer
 
--- steps that also write lose nothing
-abbrev pub Goes : (was : Option (List ℕ)) → Sorter → (now : Option (List ℕ)) → Sorter → Type 0
-Goes was old now new = Stays Sorts was old now new
+-- what also writes loses nothing and keeps to the turns, in such a phase
+abbrev pub Goes : Phase → (was : Option (List ℕ)) → Sorter → (now : Option (List ℕ)) → Sorter → Type 0
+Goes at was old now new = Stays (SortsAt at) was old now new
+
+-- the same in each phase of which this holds
+abbrev pub GoesIf : (Phase → Type 0) → (was : Option (List ℕ)) → Sorter → (now : Option (List ℕ)) → Sorter → Type 0
+GoesIf may was old now new = (at : Phase) → may at → Goes at was old now new
+
+-- the same up to the end of the log
+abbrev pub Finishes : (was : Option (List ℕ)) → Sorter → (now : Option (List ℕ)) → Sorter → Type 0
+Finishes was old now new =
+    (before : Start) (lines : List (List ℕ)) → SortsAt Between before was old lines → SortsAt AtEnd before now new lines
 
 -- what a sorter has done
 abbrev pub counts_of : Sorter → Counts

@@ -1,4 +1,5 @@
 //! What ordering and undoing promise together. The functions do nothing; their contracts are laws.
+ghost use Rattle.audit_order.specs.Turns.{LesserGoFirst};
 ghost use Rattle.audit_order.specs.Reads.{UndoesOrders, TextHasLines, RewritesByRules, AddsPeersByRules};
 
 /// Undoing what orders a log gives the lines of the log and the ends and peers that were added, in some order.
@@ -19,4 +20,9 @@ pub fn written_lines_are_lines()
 /// If no rule is on, no line is rewritten.
 pub fn nothing_is_rewritten_without_rules()
     ensures { RewritesByRules }
+{}
+
+/// Whenever a line of an ordered log was written, each line that had come and has a lesser place had been written before.
+pub fn lesser_places_go_first()
+    ensures { LesserGoFirst }
 {}

@@ -2,7 +2,8 @@
 ghost use Rattle.std.specs.Prelude.{◌≡◌, ◌+◌, ◌-◌, ◌<◌, ◌≤◌, ◌^◌, ◌∷◌, [], false, length, OnOk, IfErr};
 ghost use Rattle.outside.specs.Cause.{Rose};
 ghost use Rattle.audit_order.specs.Halts.{HasCauses, GoesUp};
-ghost use Rattle.audit_order.specs.Sorted.{Sorts, Goes, any_is_past};
+ghost use Rattle.audit_order.specs.Turns.{Between, MayGo, IsAny, IsFree, IsOfBytes, StartsIf};
+ghost use Rattle.audit_order.specs.Sorted.{Sorts, Goes, GoesIf, Finishes, state_of, any_is_past};
 
 use crate::halt::Halt;
 use crate::sorter::{Sorter, hold, is_over, is_ripe, read_line, write_end, write_least};
@@ -14,8 +15,9 @@ use outside::Sink;
 
 // Hands on what was written, if it is much.
 fn flush_much<O: Sink>(sorter: &mut Sorter, sink: &mut O) -> Result<(), Halt>
-    ensures goes { OnOk result
-        (Goes (O.written sink.old) sorter.old (O.written sink.new) sorter.new) }
+    ensures goes { OnOk result (GoesIf IsAny
+        (O.written sink.old) sorter.old (O.written sink.new) sorter.new) }
+    ensures state { state_of sorter.new ≡ state_of sorter.old }
     ensures waits { sorter.new.queue ≡ sorter.old.queue }
     ensures bounds { sorter.new.bounds ≡ sorter.old.bounds }
     ensures causes { IfErr result (HasCauses ⊥
@@ -31,8 +33,8 @@ fn flush_much<O: Sink>(sorter: &mut Sorter, sink: &mut O) -> Result<(), Halt>
 
 // Writes the line of the least place, and hands on what was written if it is much.
 fn release_least<O: Sink>(sorter: &mut Sorter, sink: &mut O) -> Result<(), Halt>
-    ensures goes { OnOk result
-        (Goes (O.written sink.old) sorter.old (O.written sink.new) sorter.new) }
+    ensures goes { OnOk result (GoesIf (MayGo (state_of sorter.old))
+        (O.written sink.old) sorter.old (O.written sink.new) sorter.new) }
     ensures fewer { OnOk result
         (length sorter.new.queue.waits ≡ length sorter.old.queue.waits - 1) }
     ensures bounds { sorter.new.bounds ≡ sorter.old.bounds }
@@ -47,8 +49,8 @@ fn release_least<O: Sink>(sorter: &mut Sorter, sink: &mut O) -> Result<(), Halt>
 
 // Makes room for this many bytes: the least places are written first.
 fn make_room<O: Sink>(sorter: &mut Sorter, sink: &mut O, more: u64) -> Result<(), Halt>
-    ensures goes { OnOk result
-        (Goes (O.written sink.old) sorter.old (O.written sink.new) sorter.new) }
+    ensures goes { OnOk result (GoesIf (IsOfBytes more)
+        (O.written sink.old) sorter.old (O.written sink.new) sorter.new) }
     ensures room { OnOk result (sorter.new.queue.bytes ≤ sorter.old.bounds.memory) }
     ensures fits { OnOk result (sorter.new.queue.bytes + more < 2 ^ 64) }
     ensures bounds { sorter.new.bounds ≡ sorter.old.bounds }
@@ -67,7 +69,7 @@ fn make_room<O: Sink>(sorter: &mut Sorter, sink: &mut O, more: u64) -> Result<()
 // Writes the lines whose places are past.
 fn release_past<O: Sink>(sorter: &mut Sorter, sink: &mut O) -> Result<(), Halt>
     ensures goes { OnOk result
-        (Goes (O.written sink.old) sorter.old (O.written sink.new) sorter.new) }
+        (Goes Between (O.written sink.old) sorter.old (O.written sink.new) sorter.new) }
     ensures past { OnOk result
         (any_is_past sorter.old.bounds.window
         sorter.new.places.clock sorter.new.queue.waits ≡ false) }
@@ -100,8 +102,8 @@ impl Taker for Sorter {
 
 // Writes all lines that wait.
 fn release_all<O: Sink>(sorter: &mut Sorter, sink: &mut O) -> Result<(), Halt>
-    ensures goes { OnOk result
-        (Goes (O.written sink.old) sorter.old (O.written sink.new) sorter.new) }
+    ensures goes { OnOk result (GoesIf IsFree
+        (O.written sink.old) sorter.old (O.written sink.new) sorter.new) }
     ensures none { OnOk result (sorter.new.queue.waits ≡ []) }
     ensures bounds { sorter.new.bounds ≡ sorter.old.bounds }
     ensures causes { IfErr result (HasCauses ⊥
@@ -117,8 +119,8 @@ fn release_all<O: Sink>(sorter: &mut Sorter, sink: &mut O) -> Result<(), Halt>
 
 // Writes all lines that wait, if a node was started: what comes then may have lesser times, and is to stand after them.
 fn release_before<O: Sink>(sorter: &mut Sorter, sink: &mut O, starts: bool) -> Result<(), Halt>
-    ensures goes { OnOk result
-        (Goes (O.written sink.old) sorter.old (O.written sink.new) sorter.new) }
+    ensures goes { OnOk result (GoesIf (StartsIf starts)
+        (O.written sink.old) sorter.old (O.written sink.new) sorter.new) }
     ensures bounds { sorter.new.bounds ≡ sorter.old.bounds }
     ensures causes { IfErr result (HasCauses ⊥
         (Rose (O.faults sink.old) (O.faults sink.new) (O.spent sink.new))) }
@@ -134,7 +136,7 @@ fn release_before<O: Sink>(sorter: &mut Sorter, sink: &mut O, starts: bool) -> R
 /// Writes all that waits, at the end of the log.
 pub fn finish<O: Sink>(sorter: &mut Sorter, sink: &mut O) -> Result<(), Halt>
     ensures goes { OnOk result
-        (Goes (O.written sink.old) sorter.old (O.written sink.new) sorter.new) }
+        (Finishes (O.written sink.old) sorter.old (O.written sink.new) sorter.new) }
     ensures none { OnOk result (sorter.new.queue.waits ≡ []) }
     ensures written { OnOk result (sorter.new.writer.pending ≡ []) }
     ensures bounds { sorter.new.bounds ≡ sorter.old.bounds }

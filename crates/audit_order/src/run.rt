@@ -39,7 +39,8 @@ fn order<L: Source, O: Sink>(
     counts: &mut Counts,
 ) -> Result<(), Halt>
     ensures ordered { (bytes : List ℕ) → L.left log.old ≡ Some bytes
-        → OnOk result (Orders switches bytes (O.written out.old) (O.written out.new) counts.new) }
+        → OnOk result (Orders bounds switches bytes
+        (O.written out.old) (O.written out.new) counts.new) }
     ensures whole { (bytes : List ℕ) → L.left log.old ≡ Some bytes
         → OnOk result (L.left log.new ≡ Some []) }
     ensures causes { IfErr result (HasCauses
@@ -71,7 +72,8 @@ pub fn order_run<L: Source, O: Sink>(
     counts: &mut Counts,
 ) -> Status
     ensures ordered { (bytes : List ℕ) → L.left log.old ≡ Some bytes
-        → AtDone result (Orders switches bytes (O.written out.old) (O.written out.new) counts.new) }
+        → AtDone result (Orders bounds switches bytes
+        (O.written out.old) (O.written out.new) counts.new) }
     ensures whole { (bytes : List ℕ) → L.left log.old ≡ Some bytes
         → AtDone result (L.left log.new ≡ Some []) }
     ensures causes { StatusCause

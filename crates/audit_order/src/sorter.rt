@@ -1,11 +1,15 @@
 //! The sorter: lines that wait for their turn, and what is written of them.
 ghost use Rattle.std.specs.Prelude.{◌≡◌, ◌+◌, ◌-◌, ◌<◌, ◌≤◌, ◌^◌, [], List, ℕ, Option, true, false, length, IfOk, OnOk};
 ghost use Rattle.order_calls.specs.Reads.{IsRead};
+ghost use Rattle.order_text.specs.Stamp.{stamp_of};
+ghost use Rattle.order_place.specs.Nodes.{HasPlace, SeesLine};
 ghost use Rattle.order_rules.specs.Notes.{IsNoted};
 ghost use Rattle.order_queue.specs.Marks.{AreMarks};
 ghost use Rattle.audit_order.specs.Start.{Start};
 ghost use Rattle.audit_order.specs.Course.{Gives, Keeps};
-ghost use Rattle.audit_order.specs.Sorted.{Sorts, Moves, Holds, counts_of, is_past, any_is_past};
+ghost use Rattle.order_queue.specs.Queue.{bytes_of};
+ghost use Rattle.audit_order.specs.Turns.{Turned};
+ghost use Rattle.audit_order.specs.Sorted.{Sorts, Moves, Holds, state_of, counts_of, is_past, any_is_past};
 ghost use Rattle.audit_order.specs.Tally.{is_of, tally_with};
 
 use crate::added::{end_of_call, is_accept, is_call, peer_of_call};
@@ -51,7 +55,8 @@ impl Sorter {
     pub fn new(alloc: Global, bounds: Bounds, switches: Switches) -> Result<Sorter, NoMemory>
         ensures nothing { IfOk result (λ made.
             (written : Option (List ℕ)) → Sorts
-            (record { written = written; switches = switches }) written made []) }
+            (record { written = written; bounds = bounds; switches = switches })
+            written made []) }
         ensures bounds { IfOk result (λ made. made.bounds ≡ bounds) }
         ensures tally { IfOk result (λ made.
             made.tally ≡ record { events = 0; late = 0; latest = 0 }) }
@@ -99,6 +104,7 @@ fn write_peer(sorter: &mut Sorter) -> Result<(), NoMemory>
     ensures keeps { OnOk result (Keeps sorter.old.writer sorter.new.writer) }
     ensures tally { sorter.new.tally ≡ sorter.old.tally }
     ensures waits { sorter.new.queue ≡ sorter.old.queue }
+    ensures state { state_of sorter.new ≡ state_of sorter.old }
     ensures bounds { sorter.new.bounds ≡ sorter.old.bounds }
 {
     if !sorter.turn.accepts {
@@ -126,6 +132,7 @@ pub fn write_end(sorter: &mut Sorter) -> Result<(), NoMemory>
     ensures keeps { OnOk result (Keeps sorter.old.writer sorter.new.writer) }
     ensures tally { sorter.new.tally ≡ sorter.old.tally }
     ensures waits { sorter.new.queue ≡ sorter.old.queue }
+    ensures state { state_of sorter.new ≡ state_of sorter.old }
     ensures bounds { sorter.new.bounds ≡ sorter.old.bounds }
 {
     write_peer(sorter)?;
@@ -140,6 +147,7 @@ fn write_end_of(sorter: &mut Sorter, call: &[u8]) -> Result<(), NoMemory>
     ensures keeps { OnOk result (Keeps sorter.old.writer sorter.new.writer) }
     ensures tally { sorter.new.tally ≡ sorter.old.tally }
     ensures waits { sorter.new.queue ≡ sorter.old.queue }
+    ensures state { state_of sorter.new ≡ state_of sorter.old }
     ensures bounds { sorter.new.bounds ≡ sorter.old.bounds }
 {
     match end_of_call(sorter.alloc, call)? {
@@ -155,6 +163,7 @@ fn turn_to(sorter: &mut Sorter, item: &Waiting) -> Result<(), NoMemory>
     ensures counts { OnOk result (sorter.new.tally
         ≡ tally_with sorter.old.turn sorter.old.tally item.now) }
     ensures waits { sorter.new.queue ≡ sorter.old.queue }
+    ensures turned { OnOk result (Turned (state_of sorter.old) (state_of sorter.new) item.now) }
     ensures bounds { sorter.new.bounds ≡ sorter.old.bounds }
 {
     if is_of(&sorter.turn, item) {
@@ -183,7 +192,9 @@ fn is_of(turn: &Turn, item: &Waiting) -> bool
 }
 
 // The record of a call is held until its event has an end, and a line that ends the event is one.
-fn note_end(turn: &mut Turn, rank: u8, calls: bool, line: Noted) {
+fn note_end(turn: &mut Turn, rank: u8, calls: bool, line: Noted)
+    ensures { turn.new ≡ record turn.old { call = turn.new.call } }
+{
     if rank > 0 {
         turn.call = None;
     } else if calls {
@@ -197,6 +208,7 @@ fn write_item(sorter: &mut Sorter, item: Waiting) -> Result<(), NoMemory>
     ensures counts { OnOk result (sorter.new.tally
         ≡ tally_with sorter.old.turn sorter.old.tally item) }
     ensures waits { sorter.new.queue ≡ sorter.old.queue }
+    ensures turned { OnOk result (Turned (state_of sorter.old) (state_of sorter.new) item) }
     ensures bounds { sorter.new.bounds ≡ sorter.old.bounds }
 {
     turn_to(sorter, &item)?;
@@ -234,6 +246,10 @@ pub struct Read {
 pub fn read_line(places: &mut Places, line: &[u8]) -> Result<Read, NoMemory>
     ensures marks { IfOk result (λ read. AreMarks read.marks line.now) }
     ensures note { IfOk result (λ read. IsNoted read.note line.now) }
+    ensures place { IfOk result (λ read. HasPlace places.old (stamp_of line.now) read.place) }
+    ensures last { IfOk result (λ read. places.new.last ≡ read.place) }
+    ensures sees { IfOk result (λ read.
+        SeesLine places.old places.new (stamp_of line.now) line.now read.place) }
 {
     let stamp = read_stamp(line);
     let used = read_if(line, &stamp);
@@ -258,7 +274,7 @@ fn read_if<'a>(line: &'a [u8], stamp: &Option<Stamp<'a>>) -> Option<UsedLine<'a>
 /// Holds a line of this place.
 pub fn hold(sorter: &mut Sorter, place: Place, line: Noted) -> Result<(), NoMemory>
     requires fits { sorter.old.queue.bytes + length line < 2 ^ 64 }
-    ensures holds { OnOk result (Holds sorter.old sorter.new line) }
+    ensures holds { OnOk result (Holds sorter.old sorter.new place line) }
     ensures bounds { sorter.new.bounds ≡ sorter.old.bounds }
 {
     let number = sorter.number;
@@ -277,6 +293,7 @@ pub fn hold(sorter: &mut Sorter, place: Place, line: Noted) -> Result<(), NoMemo
 /// Whether too many bytes wait with this many more.
 pub fn is_over(queue: &Queue, memory: u64, more: u64) -> bool
     ensures some { result ≡ true → 0 < length queue.now.waits }
+    ensures over { result ≡ true → memory < bytes_of queue.now.waits + more }
     ensures room { result ≡ false → queue.now.bytes ≤ memory }
     ensures fits { result ≡ false → queue.now.bytes + more < 2 ^ 64 }
 {

@@ -1,11 +1,12 @@
 use Rattle.std.proofs.Common.{◌∙◌, ap, length}
 use Rattle.std.proofs.lemmas.Result.{on_ok_weaker}
 use Rattle.order_queue.specs.Queue.{Held}
+use Rattle.audit_order.proofs.SortLemmas.{moves}
 use Rattle.audit_order.proofs.release.release_least.Goals as goal
 
 pub returns-clause-goes : goal.returns-clause-goes
 returns-clause-goes g c = on_ok_weaker c.flush_much.result
-    (λ goes before lines s. goes before lines (c.in_ok-write_least.ensures.moves before _ lines s))
+    (λ goes at may before lines s. goes at tt before lines (moves at before _ _ _ lines may c.in_ok-write_least.ensures.moves s))
     c.flush_much.ensures.goes
 
 pub returns-clause-fewer : goal.returns-clause-fewer

@@ -1,7 +1,6 @@
 use Rattle.std.proofs.Common.{[], refl, ap, map, le_trans}
 use Rattle.std.proofs.lemmas.Result.{err_from_is_err_and}
 use Rattle.audit_lex.specs.History.{Byte}
-use Rattle.order_queue.specs.Queue.{texts_of}
 use Rattle.audit_order.specs.declared.counts.Counts.{Counts}
 use Rattle.audit_order.specs.Start.{Start}
 use Rattle.audit_order.specs.Sorted.{Sorts}
@@ -13,12 +12,12 @@ use Rattle.audit_order.proofs.run.order.Goals as goal
 pub returns-clause-ordered : goal.returns-clause-ordered
 returns-clause-ordered g c = λ bytes told.
     let written = g.O.Sink.written c.args.out.now in
-    let before : Start = record { written = written; switches = c.args.switches } in
+    let before : Start = record { written = written; bounds = c.args.bounds; switches = c.args.switches } in
     let start : Took Sorts before written c.new-cut.result c.in_ok-sorter.sorter [] =
     record { cuts = c.new-cut.ensures.nothing; takes = c.in_ok-sorter.ensures.nothing written } in
     let log = c.in_ok-take_log.ensures.takes bytes told before [] start in
     let all = c.in_ok-take_tail.ensures.takes before (map Byte bytes) log in
-    orders bytes before (g.O.Sink.written c.finish.new.sink) _ _ (log_lines bytes) c.counts.result c.in_ok-finish.ensures.written (ap texts_of c.in_ok-finish.ensures.none) refl
+    orders bytes before (g.O.Sink.written c.finish.new.sink) _ (log_lines bytes) c.counts.result c.in_ok-finish.ensures.written c.in_ok-finish.ensures.none refl
     (ap (λ (k : Counts). k.times_raised) c.counts.ensures) (ap (λ (k : Counts). k.added_ends) c.counts.ensures) (ap (λ (k : Counts). k.added_peers) c.counts.ensures) (ap (λ (k : Counts). k.rewrites) c.counts.ensures)
     (c.in_ok-finish.ensures.goes before (log_lines bytes) all.takes)
 

@@ -1,15 +1,27 @@
-use Rattle.std.proofs.Common.{ap, arith, length}
+use Rattle.std.proofs.Common.{◌∷◌, inl, inr, sym, ap, subst, arith, length}
+use Rattle.std.specs.List.Sorted.{IsPermutation}
 use Rattle.std.proofs.lemmas.Result.{on_ok_weaker}
-use Rattle.std.proofs.lemmas.List.Sorted.{IsPermutation-map, length_permutation}
-use Rattle.order_queue.specs.Queue.{Held, text_of}
-use Rattle.audit_order.proofs.CourseLemmas.{shuffled}
+use Rattle.std.proofs.lemmas.List.Sorted.{length_permutation}
+use Rattle.order_queue.specs.Queue.{Held}
+use Rattle.order_queue.specs.Order.{IsLeast}
+use Rattle.audit_order.specs.Turns.{Turned}
+use Rattle.audit_order.specs.Sorted.{state_of}
+use Rattle.audit_order.proofs.ReadLemmas.{on_ok_two}
 use Rattle.audit_order.proofs.sorter.write_least.Goals as goal
 
 pub returns-in-Some-clause-moves : goal.returns-in-Some-clause-moves
-returns-in-Some-clause-moves c = on_ok_weaker c.write_item.result
-    (λ g before now lines s. rw c.write_item.ensures.waits
-    (g before now _ lines (shuffled before now _ _ _ lines (IsPermutation-map text_of _ _ c.in-Some.ensures.some) s)))
-    c.write_item.ensures.gives
+returns-in-Some-clause-moves c =
+    let waits = sym c.write_item.ensures.waits in
+    on_ok_two c.write_item.result c.write_item.ensures.gives c.write_item.ensures.turned
+    (λ gives turned. inr (record {
+      item = c.in-Some.item;
+      goes = record {
+        were = subst (λ (q : Held). IsPermutation c.args.sorter.now.queue.waits (c.in-Some.item ∷ q.waits)) waits c.in-Some.ensures.some;
+        least = subst (λ (q : Held). IsLeast c.in-Some.item q.waits) waits c.in-Some.ensures.least;
+        turned = subst (λ (q : Held). Turned (record (state_of c.args.sorter.now) { waits = q.waits }) (state_of c.write_item.new.sorter) c.in-Some.item) waits turned;
+      };
+      gives = gives;
+    }))
 
 pub returns-in-Some-clause-fewer : goal.returns-in-Some-clause-fewer
 returns-in-Some-clause-fewer c =
