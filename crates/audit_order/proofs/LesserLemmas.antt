@@ -1,5 +1,5 @@
 -- Lines of lesser places go first.
-use Rattle.std.proofs.Common.{◌≡◌, ◌⊎◌, inl, inr, sym, refl, ap, ℕ, Bool, false, List, [], ◌∷◌, ◌++◌, nat_cmp}
+use Rattle.std.proofs.Common.{◌≡◌, ◌⊎◌, inl, inr, sym, refl, ℕ, Bool, false, List, [], ◌∷◌, ◌++◌, nat_cmp}
 use Rattle.std.specs.List.{All, Contains}
 use Rattle.std.specs.declared.cmp.Ordering.TheVariants.{Equal}
 use Rattle.std.specs.Ordering.{is_lt}

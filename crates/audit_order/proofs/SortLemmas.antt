@@ -1,5 +1,5 @@
 -- How a sorter goes on.
-use Rattle.std.proofs.Common.{◌≡◌, ◌⊎◌, ◌<◌, ◌+◌, ◌∙◌, inl, inr, sym, refl, ap, subst, arith, ℕ, Bool, true, List, [], ◌∷◌, ◌++◌, Option, length}
+use Rattle.std.proofs.Common.{◌≡◌, ◌<◌, ◌+◌, ◌∙◌, inl, inr, sym, ap, subst, arith, ℕ, true, List, [], ◌∷◌, ◌++◌, Option}
 use Rattle.std.specs.Io.KnownBytes.{Appends}
 use Rattle.order_place.specs.declared.places.Place.{Place}
 use Rattle.order_queue.specs.Queue.{bytes_of}

@@ -1,6 +1,6 @@
 -- How lines come and go in turn.
-use Rattle.std.proofs.Common.{◌≡◌, ◌≤◌, ◌<◌, ◌+◌, ◌%◌, ◌^◌, ◌∙◌, inl, inr, sym, refl, ap, subst, arith, ℕ, Bool, true, false, List, [], ◌∷◌, ◌++◌, length, map, append_assoc, nat_lt, nat_cmp}
-use Rattle.std.specs.List.{All, list_any}
+use Rattle.std.proofs.Common.{◌≡◌, ◌≤◌, ◌<◌, ◌+◌, ◌%◌, ◌^◌, ◌∙◌, inl, inr, sym, refl, ap, subst, arith, ℕ, Bool, true, false, List, [], ◌∷◌, ◌++◌, length, append_assoc, nat_lt, nat_cmp}
+use Rattle.std.specs.List.{All}
 use Rattle.std.specs.declared.cmp.Ordering.{Ordering}
 use Rattle.std.specs.declared.cmp.Ordering.TheVariants.{Less, Equal, Greater}
 use Rattle.std.specs.Ordering.{ordering_then, is_lt}
@@ -11,10 +11,10 @@ use Rattle.std.proofs.lemmas.List.Elements.{All-cons, All-head, All-weaker}
 use Rattle.std.proofs.lemmas.List.Sorted.{IsPermutation-refl, IsPermutation-sym, IsPermutation-trans, IsPermutation-cons, IsPermutation-to_front, IsPermutation-middle, IsPermutation-append_right, le_from_greatest, list_any-IsPermutation, sum_by-IsPermutation}
 use Rattle.order_place.specs.declared.places.Place.{Place}
 use Rattle.order_queue.specs.declared.waiting.Waiting.{Waiting}
-use Rattle.order_queue.specs.Queue.{text_of, texts_of, bytes_of}
+use Rattle.order_queue.specs.Queue.{text_of, bytes_of}
 use Rattle.order_queue.specs.Order.{place_cmp, IsLeast}
-use Rattle.audit_order.specs.Turns.{Motion, Read, Came, Went, Ended, Phase, Between, Next, AtEnd, Event, no_event, State, Turns, IsFresh, IsRead, IsComing, IsNext, IsDue, Passes, Comes, GoesLeast, MayGo, IsFree, InTurn, phase, came, went, event_in, next_event, number_in, waiting_of}
-use Rattle.audit_order.specs.Sorted.{is_past, any_is_past}
+use Rattle.audit_order.specs.Turns.{Motion, Read, Came, Went, Ended, Phase, Between, Next, AtEnd, Event, no_event, State, Turns, IsFresh, IsRead, IsComing, IsNext, IsDue, Passes, Comes, GoesLeast, MayGo, IsFree, phase, came, went, next_event, number_in, waiting_of}
+use Rattle.audit_order.specs.Sorted.{any_is_past}
 use Rattle.audit_order.proofs.RipeLemmas.{none_past}
 
 pub turns_none : (compat : Bool) (s : State) → s.event ≡ no_event → s.number ≡ 0 → s.waits ≡ [] → IsFresh compat s.places → Turns compat Between s [] []

@@ -1,4 +1,4 @@
-use Rattle.std.proofs.Common.{◌∷◌, inl, inr, sym, ap, subst, arith, length}
+use Rattle.std.proofs.Common.{◌∷◌, inr, sym, ap, subst, arith, length}
 use Rattle.std.specs.List.Sorted.{IsPermutation}
 use Rattle.std.proofs.lemmas.Result.{on_ok_weaker}
 use Rattle.std.proofs.lemmas.List.Sorted.{length_permutation}
