@@ -47,7 +47,7 @@ impl BlockCache {
     }
 
     /// Fills the buffer with the bytes from a place on, or says that the disk ends before it is full.
-    /// Of bytes whose blocks are held the disk isn't asked.
+    /// If all blocks of the range are held, the disk isn't asked.
     pub fn read<D: Disk>(&mut self, disk: &mut D, at: u64, buf: &mut [u8]) -> Result<bool, Failed>
         requires fits { at + length buf.old < 2 ^ 64 }
         requires cache { (D.state disk.old).told → IsCacheOf (D.state disk.old).reads self.old }

@@ -26,7 +26,7 @@ CountsTogether =
     (old new : Seen) (s : Stamp) (line : List ℕ) (time : ℕ) (sights : List Sight) (before : ℕ)
     → StandsFor old sights → SeesNext old new s line time → event_in sights (s.ms, s.number) ≡ Some before → time ≡ before
 
--- a call counts no earlier than the newest call of its process
+-- a call counts no earlier than the newest call of its process, as far as the clock had come with that
 abbrev pub KeepsOrder : Type 0
 KeepsOrder =
     (old new : Seen) (s : Stamp) (line : List ℕ) (call : Call) (time : ℕ) (sights : List Sight) (before : ℕ)

@@ -12,7 +12,7 @@ pub fn lines_of_an_event_count_together()
     ensures { CountsTogether }
 {}
 
-/// A call counts no earlier than the call of its process before it.
+/// A call counts no earlier than the call of its process before it, as far as the clock had come with that.
 pub fn calls_of_a_process_keep_their_order()
     ensures { KeepsOrder }
 {}

@@ -1,4 +1,4 @@
-//! What keeps rows where they stand, and that the rows of a payload stand one after the other.
+//! Laws: a commit leaves saved rows where they are, and the rows of a payload follow one another.
 ghost use Rattle.std.specs.Prelude.{◌≡◌, ◌≤◌, ◌+◌, ℕ, List, length, take};
 ghost use Rattle.std.specs.List.{All, flat_map};
 ghost use Rattle.block_cache.specs.Cached.{range};
