@@ -1,5 +1,5 @@
 -- What all processes hold, by the numbers of objects.
-use Rattle.std.specs.Prelude.{◌≡◌, ◌⊎◌, if◌then◌else◌, ◌+◌, ◌*◌, ◌^◌, ◌<◌, ◌≤◌, ℕ, List, Vec, vec_len, vec_capacity, unwrap_or, nat_eq}
+use Rattle.std.specs.Prelude.{◌≡◌, if◌then◌else◌, ◌+◌, ◌*◌, ◌≤◌, ℕ, List, Vec, vec_len, vec_capacity, unwrap_or, nat_eq}
 use Rattle.std.specs.Map.{lookup}
 use Rattle.indexmap.specs.IndexMap.{IndexMap, spare}
 use Rattle.fd_table.specs.declared.node.Node.{Node}
@@ -22,14 +22,8 @@ pub record AreHoldings (processes : List (ℕ × Holding)) (nodes : List Node) (
 -- this many changes: 16 nodes, one object and one process for each of them
 pub record HasRoom (changes nodes node_room objects object_room spare : ℕ) : Type 0 where
   pub nodes_fit : nodes + 16 * changes ≤ node_room
-  pub few_nodes : nodes + 16 * changes < 2 ^ 32
   pub objects_fit : objects + changes ≤ object_room
-  pub few_objects : objects + changes < 2 ^ 32
   pub processes_fit : changes ≤ spare
-
--- by this many changes, of 16 nodes and one object each, there could be 2^32 nodes or objects
-abbrev pub AreTooMany : (changes nodes objects : ℕ) → Type 0
-AreTooMany changes nodes objects = (2 ^ 32 ≤ nodes + 16 * changes) ⊎ (2 ^ 32 ≤ objects + changes)
 
 -- the holding of p is what `change p` makes of what it was
 abbrev pub AreChanged : List (ℕ × Holding) → List (ℕ × Holding) → (ℕ → Holding → Holding) → Type 0

@@ -75,8 +75,8 @@ pub fn entries_of(
 fn walk(
     course: &Course<'_>,
     height: u8,
-    kept: u32,
-    marked: u32,
+    kept: usize,
+    marked: usize,
     first: u32,
     found: &mut List<FdEntry>,
 ) -> Result<(), NoMemory>
@@ -109,8 +109,8 @@ fn walk(
 /// Appends what two numbers say of a descriptor.
 fn push_leaf(
     course: &Course<'_>,
-    kept: u32,
-    marked: u32,
+    kept: usize,
+    marked: usize,
     fd: u32,
     found: &mut List<FdEntry>,
 ) -> Result<(), NoMemory>
@@ -126,7 +126,7 @@ fn push_leaf(
 }
 
 /// What two numbers say. The second is in the tree of the descriptors that an exec closes.
-fn copy_held(course: &Course<'_>, kept: u32, marked: u32) -> Result<Option<Held>, NoMemory>
+fn copy_held(course: &Course<'_>, kept: usize, marked: usize) -> Result<Option<Held>, NoMemory>
     ensures { IfOk result (λ held.
         held ≡ chosen course.now.closed_alone (held_by course.now.objects.now kept marked)) }
 {

@@ -1,5 +1,5 @@
 //! What a process holds, by the numbers of objects.
-ghost use Rattle.std.specs.Prelude.{◌≡◌, ◌==◌, ◌+◌, ◌<◌, ◌≤◌, ◌^◌, ℕ, Option, Some, None, option_copied, is_some, if◌then◌else◌};
+ghost use Rattle.std.specs.Prelude.{◌≡◌, ◌==◌, ◌+◌, ◌<◌, ◌≤◌, ℕ, Option, Some, None, option_copied, is_some, if◌then◌else◌};
 ghost use Rattle.std.specs.Vec.{vec_len, vec_capacity};
 ghost use Rattle.acts.specs.declared.held.Object.{Object as AnObject};
 ghost use Rattle.fd_table.specs.Numbers.{IsLonger};
@@ -22,13 +22,13 @@ pub fn nothing() -> Holding
 }
 
 /// The object with a number; 0 is the number of none.
-pub fn object_at(objects: &[Object], number: u32) -> Option<&Object>
+pub fn object_at(objects: &[Object], number: usize) -> Option<&Object>
     ensures { option_copied result ≡ object_at objects.now number }
 {
     if number == 0 {
         return None;
     }
-    objects.get(number as usize - 1)
+    objects.get(number - 1)
 }
 
 /// What a process holds, with other numbers at a descriptor. It takes no memory.
@@ -36,11 +36,10 @@ pub fn with_numbers(
     nodes: &mut Vec<Node>,
     holding: Holding,
     fd: u32,
-    kept: u32,
-    marked: u32,
+    kept: usize,
+    marked: usize,
 ) -> Holding
     requires room { vec_len nodes.old + 16 ≤ vec_capacity nodes.old }
-    requires few { vec_len nodes.old + 16 < 2 ^ 32 }
     ensures longer { IsLonger 16 nodes.old.items nodes.new.items }
     ensures capacity { vec_capacity nodes.new ≡ vec_capacity nodes.old }
     ensures holding { StaysHolding nodes.old.items nodes.new.items holding result kept marked }

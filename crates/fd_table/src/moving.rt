@@ -16,16 +16,13 @@ use indexmap::IndexMap;
 use std::alloc::Global;
 use std::marker::Model;
 
-/// Ids and numbers are below this.
-const NUMBERS: usize = 1 << 32;
-
 /// The nodes and objects that have moved, and the new id of each tree by its height and its old id.
 /// The height is needed, since on the last level ids are numbers of objects.
 #[derive(Drop)]
 pub struct Moving {
     pub nodes: Vec<Node>,
     pub objects: Vec<Object>,
-    pub moves: IndexMap<(u8, u32), u32>,
+    pub moves: IndexMap<(u8, usize), usize>,
 }
 
 impl Moving {
@@ -41,14 +38,14 @@ impl Moving {
     }
 
     /// The new id of a tree that has moved.
-    fn moved(&self, height: u8, id: u32) -> Option<u32>
+    fn moved(&self, height: u8, id: usize) -> Option<usize>
         ensures { IfSome result (λ moved. MovedFrom self.now height id moved) }
     {
         self.moves.get(&(height, id)).copied()
     }
 
     /// Notes the new id of a tree. It fails if memory does.
-    fn note(&mut self, height: u8, id: u32, moved: u32) -> Result<(), NoMemory>
+    fn note(&mut self, height: u8, id: usize, moved: usize) -> Result<(), NoMemory>
         ensures nodes { self.new.nodes ≡ self.old.nodes }
         ensures objects { self.new.objects ≡ self.old.objects }
         ensures moved { OnOk result (Notes self.old self.new height id moved) }
@@ -57,8 +54,8 @@ impl Moving {
         Ok(())
     }
 
-    /// Copies an object, and gives its new number. It fails if memory does, or at 2^32 objects.
-    fn move_object(&mut self, objects: &[Object], number: u32) -> Result<u32, NoMemory>
+    /// Copies an object, and gives its new number. It fails if memory does.
+    fn move_object(&mut self, objects: &[Object], number: usize) -> Result<usize, NoMemory>
         ensures means { IfOk result (λ moved.
             (nodes : List Node) →
             Means (shelf_of nodes objects.now) (shelf self.new) 0 number moved) }
@@ -69,26 +66,19 @@ impl Moving {
             Some(object) => object.copy()?,
             None => return Ok(0),
         };
-        if self.objects.len() >= NUMBERS - 1 {
-            return Err(NoMemory);
-        }
         self.objects.push(object)?;
-        Ok(self.objects.len() as u32)
+        Ok(self.objects.len())
     }
 
-    /// Appends a node whose children have moved, and gives its id. It fails if memory does, or at
-    /// 2^32 nodes.
-    fn move_node(&mut self, node: Node) -> Result<u32, NoMemory>
+    /// Appends a node whose children have moved, and gives its id. It fails if memory does.
+    fn move_node(&mut self, node: Node) -> Result<usize, NoMemory>
         ensures means { IfOk result (λ moved. (old : Shelf) →
             TakesOver node.ids old (shelf self.old) (shelf self.new) moved) }
         ensures still { (old : Shelf) → StillMeans old (shelf self.old) (shelf self.new) }
         ensures moves { self.new.moves ≡ self.old.moves }
     {
-        if self.nodes.len() >= NUMBERS - 1 {
-            return Err(NoMemory);
-        }
         self.nodes.push(node)?;
-        Ok(self.nodes.len() as u32)
+        Ok(self.nodes.len())
     }
 }
 
@@ -98,8 +88,8 @@ pub fn carry(
     objects: &[Object],
     moving: &mut Moving,
     height: u8,
-    id: u32,
-) -> Result<u32, NoMemory>
+    id: usize,
+) -> Result<usize, NoMemory>
     requires { HasMoved (shelf_of nodes.now objects.now) moving.old }
     ensures moved { OnOk result (HasMoved (shelf_of nodes.now objects.now) moving.new) }
     ensures means { IfOk result (λ moved.

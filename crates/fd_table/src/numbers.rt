@@ -3,7 +3,7 @@
 //! The path of a descriptor is its number in digits of four bits, most significant first, so that
 //! descriptors near each other share nodes. Those below 4,096 have a tree of their own with paths
 //! of three digits; paths in the other tree have eight.
-ghost use Rattle.std.specs.Prelude.{◌≡◌, ◌==◌, ◌+◌, ◌<◌, ◌≤◌, ◌^◌, ℕ, if◌then◌else◌};
+ghost use Rattle.std.specs.Prelude.{◌≡◌, ◌==◌, ◌+◌, ◌<◌, ◌≤◌, ℕ, if◌then◌else◌};
 ghost use Rattle.std.specs.List.{All};
 ghost use Rattle.std.specs.Vec.{vec_len, vec_capacity};
 ghost use Rattle.fd_table.specs.Trees.{IsDigit};
@@ -43,7 +43,7 @@ fn long_path(fd: u32) -> [u8; 8]
 }
 
 /// The number of a descriptor. 0 stands for none.
-pub fn number_of(nodes: &[Node], tree: Tree, fd: u32) -> u32
+pub fn number_of(nodes: &[Node], tree: Tree, fd: u32) -> usize
     ensures { result ≡ number_at nodes.now tree fd }
 {
     if fd < FEW {
@@ -54,10 +54,9 @@ pub fn number_of(nodes: &[Node], tree: Tree, fd: u32) -> u32
 }
 
 /// The tree with a number for a descriptor below 4,096.
-fn with_low(nodes: &mut Vec<Node>, tree: Tree, fd: u32, number: u32) -> Tree
+fn with_low(nodes: &mut Vec<Node>, tree: Tree, fd: u32, number: usize) -> Tree
     requires low { fd < 4096 }
     requires room { vec_len nodes.old + 8 ≤ vec_capacity nodes.old }
-    requires few { vec_len nodes.old + 8 < 2 ^ 32 }
     ensures longer { IsLonger 8 nodes.old.items nodes.new.items }
     ensures capacity { vec_capacity nodes.new ≡ vec_capacity nodes.old }
     ensures tree { StaysTree nodes.old.items nodes.new.items tree result number }
@@ -71,10 +70,9 @@ fn with_low(nodes: &mut Vec<Node>, tree: Tree, fd: u32, number: u32) -> Tree
 }
 
 /// The tree with a number for a descriptor from 4,096 on.
-fn with_high(nodes: &mut Vec<Node>, tree: Tree, fd: u32, number: u32) -> Tree
+fn with_high(nodes: &mut Vec<Node>, tree: Tree, fd: u32, number: usize) -> Tree
     requires high { 4096 ≤ fd }
     requires room { vec_len nodes.old + 8 ≤ vec_capacity nodes.old }
-    requires few { vec_len nodes.old + 8 < 2 ^ 32 }
     ensures longer { IsLonger 8 nodes.old.items nodes.new.items }
     ensures capacity { vec_capacity nodes.new ≡ vec_capacity nodes.old }
     ensures tree { StaysTree nodes.old.items nodes.new.items tree result number }
@@ -88,9 +86,8 @@ fn with_high(nodes: &mut Vec<Node>, tree: Tree, fd: u32, number: u32) -> Tree
 }
 
 /// The tree with a number for a descriptor. It takes no memory.
-pub fn with_number(nodes: &mut Vec<Node>, tree: Tree, fd: u32, number: u32) -> Tree
+pub fn with_number(nodes: &mut Vec<Node>, tree: Tree, fd: u32, number: usize) -> Tree
     requires room { vec_len nodes.old + 8 ≤ vec_capacity nodes.old }
-    requires few { vec_len nodes.old + 8 < 2 ^ 32 }
     ensures longer { IsLonger 8 nodes.old.items nodes.new.items }
     ensures capacity { vec_capacity nodes.new ≡ vec_capacity nodes.old }
     ensures tree { StaysTree nodes.old.items nodes.new.items tree result number }
@@ -104,9 +101,8 @@ pub fn with_number(nodes: &mut Vec<Node>, tree: Tree, fd: u32, number: u32) -> T
 }
 
 /// The same, but a tree that has the number already stays as it is. It takes no memory.
-pub fn set_number(nodes: &mut Vec<Node>, tree: Tree, fd: u32, number: u32) -> Tree
+pub fn set_number(nodes: &mut Vec<Node>, tree: Tree, fd: u32, number: usize) -> Tree
     requires room { vec_len nodes.old + 8 ≤ vec_capacity nodes.old }
-    requires few { vec_len nodes.old + 8 < 2 ^ 32 }
     ensures longer { IsLonger 8 nodes.old.items nodes.new.items }
     ensures capacity { vec_capacity nodes.new ≡ vec_capacity nodes.old }
     ensures tree { StaysTree nodes.old.items nodes.new.items tree result number }

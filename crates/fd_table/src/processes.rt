@@ -1,18 +1,17 @@
 //! What each process holds, by the numbers of objects. A process that isn't in the map holds
 //! nothing.
-ghost use Rattle.std.specs.Prelude.{◌≡◌, ◌==◌, ◌↔◌, ◌+◌, ◌<◌, ◌≤◌, ◌^◌, ℕ, if◌then◌else◌, Err, OnOk};
+ghost use Rattle.std.specs.Prelude.{◌≡◌, ◌==◌, ◌+◌, ◌≤◌, ℕ, if◌then◌else◌, OnOk};
 ghost use Rattle.std.specs.Vec.{vec_len, vec_capacity};
 ghost use Rattle.indexmap.specs.IndexMap.{spare};
 ghost use Rattle.fd_table.specs.Numbers.{IsLonger};
 ghost use Rattle.fd_table.specs.Holdings.{bare, nothing};
-ghost use Rattle.fd_table.specs.Processes.{holding_of, holders, AreChanged, AreTooMany, StaySound, GetNumber, HasRoom, Fits};
-ghost use Rattle.fd_table.specs.declared.room.RoomFault.TheVariants as fault;
+ghost use Rattle.fd_table.specs.Processes.{holding_of, holders, AreChanged, StaySound, GetNumber, HasRoom, Fits};
 
 use crate::holdings::{nothing, with_numbers};
 use crate::node::Node;
-use crate::room::{NODES, RoomFault, are_too_many};
 use crate::tree::{Holding, Tree};
 use acts::Object;
+use flow_base::NoMemory;
 use indexmap::IndexMap;
 
 /// What a process holds.
@@ -64,12 +63,11 @@ pub fn change(
     nodes: &mut Vec<Node>,
     pid: u32,
     fd: u32,
-    kept: u32,
-    marked: u32,
+    kept: usize,
+    marked: usize,
 )
     requires spare { 1 ≤ spare processes.old }
     requires room { vec_len nodes.old + 16 ≤ vec_capacity nodes.old }
-    requires few { vec_len nodes.old + 16 < 2 ^ 32 }
     ensures longer { IsLonger 16 nodes.old.items nodes.new.items }
     ensures count { vec_len nodes.new ≤ vec_len nodes.old + 16 }
     ensures capacity { vec_capacity nodes.new ≡ vec_capacity nodes.old }
@@ -86,26 +84,24 @@ pub fn change(
     put(processes, pid, holding);
 }
 
-/// Makes room for this many changes.
+/// How many nodes one change may add: at most eight in each of the two trees.
+const NODES: usize = 16;
+
+/// Makes room for this many changes. It fails if memory does.
 pub fn make_room(
     processes: &mut IndexMap<u32, Holding>,
     nodes: &mut Vec<Node>,
     objects: &mut Vec<Object>,
     changes: usize,
-) -> Result<(), RoomFault>
+) -> Result<(), NoMemory>
     ensures ok { OnOk result (Fits changes processes.new nodes.new objects.new) }
-    ensures many { (result ≡ Err fault.TooMany)
-        ↔ AreTooMany changes (vec_len nodes.old) (vec_len objects.old) }
     ensures keeps { (room : ℕ) → Fits room processes.old nodes.old objects.old
         → Fits room processes.new nodes.new objects.new }
     ensures processes { processes.new.entries ≡ processes.old.entries }
     ensures nodes { nodes.new.items ≡ nodes.old.items }
     ensures objects { objects.new.items ≡ objects.old.items }
 {
-    if are_too_many(changes, nodes.len(), objects.len()) {
-        return Err(RoomFault::TooMany);
-    }
-    nodes.reserve(changes * NODES)?;
+    nodes.reserve(changes.saturating_mul(NODES))?;
     objects.reserve(changes)?;
     processes.reserve(changes)?;
     Ok(())

@@ -4,8 +4,8 @@
 /// and of one for the others.
 #[derive(Clone, Copy)]
 pub struct Tree {
-    pub low: u32,
-    pub high: u32,
+    pub low: usize,
+    pub high: usize,
 }
 
 /// What one process holds: by descriptor the numbers of the objects, in one tree for the

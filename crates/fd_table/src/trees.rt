@@ -3,7 +3,7 @@
 //! A tree is named by the id of its first node: the node at place k of the list has the id k + 1,
 //! and the id 0 stands for the empty tree. A change appends new nodes for one path and shares all
 //! others with the old tree, which stays as it was. So to copy a tree is to copy its id.
-ghost use Rattle.std.specs.Prelude.{◌≡◌, ◌≢◌, ◌+◌, ◌<◌, ◌≤◌, ◌^◌, ◌++◌, ◌∷◌, [], ℕ, List, length, get_or};
+ghost use Rattle.std.specs.Prelude.{◌≡◌, ◌≢◌, ◌+◌, ◌<◌, ◌≤◌, ◌++◌, ◌∷◌, [], ℕ, List, length, get_or};
 ghost use Rattle.std.specs.List.{All};
 ghost use Rattle.std.specs.Vec.{vec_len, vec_capacity};
 ghost use Rattle.fd_table.specs.Trees.{at, child, IsDigit, IsGrown, StaysKnown, StandsAt, OthersStay};
@@ -12,25 +12,24 @@ use crate::node::Node;
 
 /// The node with an id, or else one without children.
 #[tactic(auto, using(crate::proofs::TreeLemmas::children_there, crate::proofs::TreeLemmas::children_past))]
-pub fn node_at(nodes: &[Node], id: u32) -> Node
+pub fn node_at(nodes: &[Node], id: usize) -> Node
     ensures { (d : ℕ) → get_or result.ids d 0 ≡ child nodes.now id d }
 {
-    let place = id as usize;
-    if place == 0 || place > nodes.len() {
+    if id == 0 || id > nodes.len() {
         return Node::empty();
     }
-    nodes[place - 1]
+    nodes[id - 1]
 }
 
 /// The id of a child.
-fn child(nodes: &[Node], id: u32, digit: u8) -> u32
+fn child(nodes: &[Node], id: usize, digit: u8) -> usize
     ensures { result ≡ child nodes.now id digit }
 {
     node_at(nodes, id).child(digit)
 }
 
 /// The number at a path, or 0.
-pub fn find(nodes: &[Node], id: u32, path: &[u8]) -> u32
+pub fn find(nodes: &[Node], id: usize, path: &[u8]) -> usize
     ensures { result ≡ at nodes.now id path.now }
 {
     match path {
@@ -40,10 +39,9 @@ pub fn find(nodes: &[Node], id: u32, path: &[u8]) -> u32
 }
 
 /// The tree with this number at the path. It appends a node for each digit, and takes no memory.
-pub fn put(nodes: &mut Vec<Node>, id: u32, path: &[u8], number: u32) -> u32
+pub fn put(nodes: &mut Vec<Node>, id: usize, path: &[u8], number: usize) -> usize
     requires digits { All IsDigit path.now }
     requires room { vec_len nodes.old + length path.now ≤ vec_capacity nodes.old }
-    requires few { vec_len nodes.old + length path.now < 2 ^ 32 }
     ensures grown { IsGrown (length path.now) nodes.old.items nodes.new.items }
     ensures capacity { vec_capacity nodes.new ≡ vec_capacity nodes.old }
     ensures known { StaysKnown nodes.old.items nodes.new.items id result path.now number }
@@ -60,13 +58,12 @@ pub fn put(nodes: &mut Vec<Node>, id: u32, path: &[u8], number: u32) -> u32
 }
 
 /// Appends a node, and gives its id.
-fn add(nodes: &mut Vec<Node>, node: Node) -> u32
+fn add(nodes: &mut Vec<Node>, node: Node) -> usize
     requires room { vec_len nodes.old < vec_capacity nodes.old }
-    requires few { vec_len nodes.old + 1 < 2 ^ 32 }
     ensures added { nodes.new.items ≡ nodes.old.items ++ node ∷ [] }
     ensures id { result ≡ length nodes.new.items }
     ensures capacity { vec_capacity nodes.new ≡ vec_capacity nodes.old }
 {
     nodes.push_reserved(node);
-    nodes.len() as u32
+    nodes.len()
 }

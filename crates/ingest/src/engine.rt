@@ -1,5 +1,5 @@
 //! The engine.
-ghost use Rattle.std.specs.Prelude.{◌≡◌, ◌≤◌, ◌<◌, ◌+◌, ◌^◌, ◌++◌, ◌⊎◌, ◌∷◌, [], ℕ, List, Some, Err};
+ghost use Rattle.std.specs.Prelude.{◌≡◌, ◌≤◌, ◌<◌, ◌+◌, ◌^◌, ◌++◌, ◌⊎◌, ◌∷◌, [], ℕ, List, None, Some, Err};
 ghost use Rattle.std.specs.Prelude.{false, length, take, is_some, OnOk, OnErr, IfOk, IfErr, IsErrOf};
 ghost use Rattle.std.specs.List.{position_or_len};
 ghost use Rattle.memchr.specs.Find.{is_byte};
@@ -102,6 +102,7 @@ impl<R: Reducer, K: Keep> Ingest<R, K> {
         ensures stands { StandsFor limits.now result [] }
         ensures part { result.part ≡ 0 }
         ensures keep { result.joined.keep ≡ keep }
+        ensures unmarked { result.joined.tables.marked ≡ None }
     {
         Ingest {
             alloc,

@@ -104,6 +104,7 @@ impl<R: Reducer, K: Keep> EventFlows<R, K> {
         ensures stands { JoinedStandsFor limits.now result start [] }
         ensures few { IsFew 0 result }
         ensures keep { result.keep ≡ keep }
+        ensures unmarked { result.tables.marked ≡ None }
     {
         EventFlows {
             alloc,

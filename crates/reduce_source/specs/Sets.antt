@@ -59,11 +59,6 @@ pub record HasRoom (s : SourceSets) (flows : List Flow) : Type 0 where
   pub numbers : s.count + length flows ≤ 1024 * s.shared.width
   pub counted : s.count + length flows < 2 ^ 64
   pub blocks : vec_len s.shared.blocks + length flows * (s.shared.width + 1) ≤ vec_capacity s.shared.blocks
-  pub few : vec_len s.shared.blocks + length flows * (s.shared.width + 1) < 2 ^ 32
-
--- by these flows, with a block for each place of a set and one more for each of them, there could be 2^32 blocks
-abbrev pub AreTooMany : SourceSets → List Flow → Type 0
-AreTooMany s flows = 2 ^ 32 ≤ vec_len s.shared.blocks + length flows * (s.shared.width + 1)
 
 -- f goes from u to v
 abbrev pub IsBetween : Flow → ℕ → ℕ → Type 0

@@ -1,6 +1,6 @@
 //! The blocks of all sets, in one list. The id of a block is its place in it, from 1 on; the id 0
 //! is that of no bits. A block is never changed.
-ghost use Rattle.std.specs.Prelude.{◌≡◌, ◌↔◌, ◌⊎◌, ◌-◌, ◌<◌, ◌≤◌, ◌^◌, ℕ, [], IfSome, None, false, true, length, IsTrue};
+ghost use Rattle.std.specs.Prelude.{◌≡◌, ◌↔◌, ◌⊎◌, ◌<◌, ◌≤◌, ℕ, [], IfSome, None, false, true, length, IsTrue};
 ghost use Rattle.std.specs.Vec.{vec_len, vec_capacity};
 ghost use Rattle.reduce_source.specs.BitsOf.{HasBit};
 ghost use Rattle.reduce_source.specs.Blocks.{AddsBlocks, words_of};
@@ -8,7 +8,7 @@ ghost use Rattle.reduce_source.specs.Blocks.{AddsBlocks, words_of};
 use crate::block::Block;
 
 /// Whether the block with an id has a bit.
-pub fn has_bit(blocks: &[Block], id: u32, bit: usize) -> bool
+pub fn has_bit(blocks: &[Block], id: usize, bit: usize) -> bool
     requires { bit < 1024 }
     ensures { IsTrue result ↔ HasBit (words_of blocks.now id) bit }
 {
@@ -19,7 +19,7 @@ pub fn has_bit(blocks: &[Block], id: u32, bit: usize) -> bool
 }
 
 /// Whether each bit of one block is a bit of another.
-pub fn is_within(blocks: &[Block], small: u32, large: u32) -> bool
+pub fn is_within(blocks: &[Block], small: usize, large: usize) -> bool
     ensures yes { result ≡ true → (j : ℕ) → HasBit (words_of blocks.now small) j
         → HasBit (words_of blocks.now large) j }
     ensures no { result ≡ false
@@ -39,11 +39,10 @@ pub fn is_within(blocks: &[Block], small: u32, large: u32) -> bool
 }
 
 /// The id of a block with the bits of two. A block is made only if neither has the bits of both.
-pub fn join(blocks: &mut Vec<Block>, mine: u32, other: u32) -> u32
+pub fn join(blocks: &mut Vec<Block>, mine: usize, other: usize) -> usize
     requires mine { mine ≤ length blocks.old.items }
     requires other { other ≤ length blocks.old.items }
     requires room { vec_len blocks.old < vec_capacity blocks.old }
-    requires few { vec_len blocks.old < 2 ^ 32 - 1 }
     ensures bits { (j : ℕ) → HasBit (words_of blocks.new.items result) j
         ↔ (HasBit (words_of blocks.old.items mine) j ⊎ HasBit (words_of blocks.old.items other) j) }
     ensures id { result ≤ length blocks.new.items }
@@ -71,10 +70,9 @@ pub fn join(blocks: &mut Vec<Block>, mine: u32, other: u32) -> u32
 }
 
 /// The id of a new block with the bits of a block and one more.
-pub fn mark(blocks: &mut Vec<Block>, id: u32, bit: usize) -> u32
+pub fn mark(blocks: &mut Vec<Block>, id: usize, bit: usize) -> usize
     requires bit { bit < 1024 }
     requires room { vec_len blocks.old < vec_capacity blocks.old }
-    requires few { vec_len blocks.old < 2 ^ 32 - 1 }
     ensures bits { (j : ℕ) → HasBit (words_of blocks.new.items result) j
         ↔ (HasBit (words_of blocks.old.items id) j ⊎ (j ≡ bit)) }
     ensures id { result ≤ length blocks.new.items }
@@ -88,24 +86,23 @@ pub fn mark(blocks: &mut Vec<Block>, id: u32, bit: usize) -> u32
 }
 
 /// The block with an id, if there is one.
-fn block_of(blocks: &[Block], id: u32) -> Option<&Block>
+fn block_of(blocks: &[Block], id: usize) -> Option<&Block>
     ensures none { result ≡ None → words_of blocks.now id ≡ [] }
     ensures some { IfSome result (λ block. words_of blocks.now id ≡ block.now.words) }
 {
     if id == 0 {
         return None;
     }
-    blocks.get((id - 1) as usize)
+    blocks.get(id - 1)
 }
 
 /// Adds a block in the room that was made for it, and gives its id.
-fn add(blocks: &mut Vec<Block>, block: Block) -> u32
+fn add(blocks: &mut Vec<Block>, block: Block) -> usize
     requires room { vec_len blocks.old < vec_capacity blocks.old }
-    requires few { vec_len blocks.old < 2 ^ 32 - 1 }
     ensures block { words_of blocks.new.items result ≡ block.words }
     ensures id { result ≤ length blocks.new.items }
     ensures adds { AddsBlocks 1 blocks.old blocks.new }
 {
     blocks.push_reserved(block);
-    blocks.len() as u32
+    blocks.len()
 }

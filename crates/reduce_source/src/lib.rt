@@ -8,7 +8,6 @@
 
 mod block;
 mod blocks;
-mod fault;
 mod ids;
 mod laws;
 mod sets;
@@ -16,7 +15,6 @@ mod shared;
 mod sources;
 mod standing;
 
-pub use fault::RoomFault;
 pub use laws::source_mode_loses_other_starts;
 pub use sets::SourceSets;
 pub use sources::Sources;

@@ -1,5 +1,5 @@
 //! The sets of sources over a list of kept flows.
-ghost use Rattle.std.specs.Prelude.{◌≡◌, ◌≢◌, ◌↔◌, ◌⊎◌, ◌==◌, ◌+◌, ◌-◌, ◌/◌, ◌^◌, ◌<◌, ◌≤◌, ◌∷◌, ◌++◌, [], ℕ, List, false, true, cond, length, slice_index_or, Err, IfOk, IsTrue, None, OnOk};
+ghost use Rattle.std.specs.Prelude.{◌≡◌, ◌≢◌, ◌↔◌, ◌⊎◌, ◌==◌, ◌+◌, ◌/◌, ◌^◌, ◌<◌, ◌≤◌, ◌∷◌, ◌++◌, [], ℕ, List, false, true, cond, length, slice_index_or, IfOk, IsTrue, None, OnOk};
 ghost use Rattle.std.specs.List.{Contains};
 ghost use Rattle.flow_base.specs.declared.types.Flow.{Flow as AFlow};
 ghost use Rattle.reach_model.specs.Ids.{IsAscending, numbers};
@@ -9,10 +9,8 @@ ghost use Rattle.reach_model.specs.Sources.{first_at};
 ghost use Rattle.std.specs.Vec.{vec_len, vec_capacity};
 ghost use Rattle.reduce_source.specs.Shelves.{HasNumber, IsAsWide};
 ghost use Rattle.reduce_source.specs.Counts.{count_sources};
-ghost use Rattle.reduce_source.specs.declared.fault.RoomFault.TheVariants as fault;
 ghost use Rattle.reduce_source.specs.declared.standing.Standing.TheVariants as variant;
 
-use crate::fault::RoomFault;
 use crate::shared::Shared;
 use crate::standing::{self, Standing};
 use flow_base::{EntityId, Flow, List, NoMemory};
@@ -31,7 +29,7 @@ pub struct SourceSets {
 }
 
 impl SourceSets {
-    ghost use Rattle.reduce_source.specs.Sets.{AreTooMany, HasRoom, IsBetween, StandsFor, count_after, first_given, standing_of};
+    ghost use Rattle.reduce_source.specs.Sets.{HasRoom, IsBetween, StandsFor, count_after, first_given, standing_of};
 
     /// The sets of no flows.
     pub fn new(alloc: Global) -> SourceSets
@@ -98,9 +96,8 @@ impl SourceSets {
     }
 
     /// Makes room for the unions that these flows can ask for.
-    pub fn reserve(&mut self, flows: &[Flow]) -> Result<(), RoomFault>
+    pub fn reserve(&mut self, flows: &[Flow]) -> Result<(), NoMemory>
         ensures room { OnOk result (HasRoom self.new flows.now) }
-        ensures many { result ≡ Err fault.TooMany → AreTooMany self.new flows.now }
         ensures same { (K : List AFlow) → StandsFor self.old K → StandsFor self.new K }
         ensures standings { (x : ℕ) → standing_of self.new x ≡ standing_of self.old x }
     {
@@ -139,7 +136,6 @@ impl SourceSets {
         requires number { self.old.count / 1024
             < length (slice_index_or self.old.shared.sets.items object []) }
         requires room { vec_len self.old.shared.blocks < vec_capacity self.old.shared.blocks }
-        requires few { vec_len self.old.shared.blocks < 2 ^ 32 - 1 }
         requires counted { self.old.count + 1 < 2 ^ 64 }
         ensures standings { (x : ℕ)
             → standing_of self.new x ≡
