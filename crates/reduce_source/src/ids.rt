@@ -81,6 +81,9 @@ impl Ids {
         ensures longer { length self.old ≤ length self.new }
         ensures same { (place : ℕ) → slice_index self.new place ≡ slice_index self.old place }
     {
+        // Exactly, since each union goes over all places: to copy them once more costs no more than that.
+        self.ids
+            .reserve_exact(places.saturating_sub(self.ids.len()))?;
         while self.ids.len() < places {
             self.ids.push(0)?;
         }
