@@ -15,6 +15,7 @@ use flow_base::NoMemory;
 use indexmap::IndexMap;
 use std::alloc::Global;
 use std::marker::Model;
+use table_salt::Salt;
 
 /// Ids and numbers are below this.
 const NUMBERS: usize = 1 << 32;
@@ -25,18 +26,18 @@ const NUMBERS: usize = 1 << 32;
 pub struct Moving {
     pub nodes: Vec<Node>,
     pub objects: Vec<Object>,
-    pub moves: IndexMap<(u8, u32), u32>,
+    pub moves: IndexMap<(u8, u32), u32, Salt>,
 }
 
 impl Moving {
     /// Nothing has moved.
-    pub fn new(alloc: Global) -> Moving
+    pub fn new(alloc: Global, salt: Salt) -> Moving
         ensures { (old : Shelf) → HasMoved old result }
     {
         Moving {
             nodes: Vec::new(alloc),
             objects: Vec::new(alloc),
-            moves: IndexMap::new(alloc),
+            moves: IndexMap::with_hasher(alloc, salt),
         }
     }
 
