@@ -7,7 +7,7 @@
     chain      100,000 forks in a chain, each of the youngest process, over 1,000 descriptors; each child opens one
     ends       the same, but each parent ends after its fork
     files      100,000 changes of files with random file numbers
-    files_met  the same with file numbers whose objects have one hash, if the hash has the kit's fixed seed
+    files_met  the same with file numbers whose objects have one hash, if hashes begin with the kit's fixed seed
     births     100,000 files made, with random file numbers
     births_met the same with file numbers that have one hash
     again      100,000 calls by 50,000 random pids

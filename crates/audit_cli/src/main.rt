@@ -41,6 +41,7 @@ use std::fs::File;
 use std::process::ExitCode;
 use std::{env, io, str};
 use store_runs::{Status, status_line, status_number};
+use table_salt::Salt;
 pub use words::{Job, WordsFault, read_words};
 
 fn main(rt: HostRuntime) -> ExitCode {
@@ -63,28 +64,65 @@ fn audited(rt: &HostRuntime, words: &[String]) -> Status
     ensures short { ShortCause result (job_of (map string_bytes words.now)) }
 {
     let alloc = rt.alloc();
+    let salt = drawn_salt(rt);
     let mut out = Writing::new(rt.stdout());
     match read_words(alloc, words) {
         Err(WordsFault::NoMemory) => Status::NoMemory,
         Err(WordsFault::BadWords) => {
             let mut log: Reading<File> = Reading::unopened();
             let mut questions: Reading<File> = Reading::unopened();
-            audit_main(alloc, words, &mut log, &mut questions, &mut out, unopened()).status
+            audit_main(
+                alloc,
+                salt,
+                words,
+                &mut log,
+                &mut questions,
+                &mut out,
+                unopened(),
+            )
+            .status
         }
         Ok(Job::Back(_)) => {
             let mut log = Reading::new(rt.stdin());
             let mut questions: Reading<File> = Reading::unopened();
-            audit_main(alloc, words, &mut log, &mut questions, &mut out, unopened()).status
+            audit_main(
+                alloc,
+                salt,
+                words,
+                &mut log,
+                &mut questions,
+                &mut out,
+                unopened(),
+            )
+            .status
         }
         Ok(Job::Trial { seed: _, events: _ }) => {
             let mut log: Reading<File> = Reading::unopened();
             let mut questions: Reading<File> = Reading::unopened();
-            audit_main(alloc, words, &mut log, &mut questions, &mut out, unopened()).status
+            audit_main(
+                alloc,
+                salt,
+                words,
+                &mut log,
+                &mut questions,
+                &mut out,
+                unopened(),
+            )
+            .status
         }
         Ok(Job::Watch { mode: _, log: name }) => {
             let mut log = log_named(rt, &name);
             let mut questions = Reading::new(rt.stdin());
-            audit_main(alloc, words, &mut log, &mut questions, &mut out, unopened()).status
+            audit_main(
+                alloc,
+                salt,
+                words,
+                &mut log,
+                &mut questions,
+                &mut out,
+                unopened(),
+            )
+            .status
         }
         Ok(
             Job::Reduce {
@@ -97,7 +135,7 @@ fn audited(rt: &HostRuntime, words: &[String]) -> Status
             let mut log = log_named(rt, &name);
             let mut questions: Reading<File> = Reading::unopened();
             let disk = store_made(rt, &store);
-            audit_main(alloc, words, &mut log, &mut questions, &mut out, disk).status
+            audit_main(alloc, salt, words, &mut log, &mut questions, &mut out, disk).status
         }
         Ok(
             Job::WatchStore {
@@ -109,14 +147,23 @@ fn audited(rt: &HostRuntime, words: &[String]) -> Status
             let mut log = log_named(rt, &name);
             let mut questions = Reading::new(rt.stdin());
             let disk = store_made(rt, &store);
-            audit_main(alloc, words, &mut log, &mut questions, &mut out, disk).status
+            audit_main(alloc, salt, words, &mut log, &mut questions, &mut out, disk).status
         }
         Ok(Job::Query { store }) => {
             let mut log: Reading<File> = Reading::unopened();
             let mut questions = Reading::new(rt.stdin());
             let disk = store_named(rt, &store);
-            audit_main(alloc, words, &mut log, &mut questions, &mut out, disk).status
+            audit_main(alloc, salt, words, &mut log, &mut questions, &mut out, disk).status
         }
+    }
+}
+
+// What the tables' hashes begin with. If the system gives no random bytes it is the same in every run, which changes no
+// reply: only the time that chosen keys can cost.
+fn drawn_salt(rt: &HostRuntime) -> Salt {
+    match Salt::drawn(rt) {
+        Ok(salt) => salt,
+        Err(_) => Salt::fixed(),
     }
 }
 

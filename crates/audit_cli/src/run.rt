@@ -35,6 +35,7 @@ use reduce_source::Sources;
 use reduced_store::what_is_found_was_stored;
 use std::alloc::Global;
 use store_runs::{Ran, Status, Taking, extend, query, status_of, status_over_store};
+use table_salt::Salt;
 
 /// How a run ended, and the disk of its store. A job that keeps its rows in memory hands the disk
 /// back as it came.
@@ -47,6 +48,7 @@ pub struct Ended<D> {
 // Does a job that keeps its rows in memory.
 fn run<L: Source, Q: Source, O: Sink>(
     alloc: Global,
+    salt: Salt,
     limits: &Limits,
     job: &Job,
     log: &mut L,
@@ -75,9 +77,11 @@ fn run<L: Source, Q: Source, O: Sink>(
         → (log.new ≡ log.old) × (questions.new ≡ questions.old) }
 {
     match job {
-        Job::Back(_) => run_in_mode(alloc, limits, Mode::Plain, job, log, questions, out),
-        Job::Watch { mode, log: _ } => run_in_mode(alloc, limits, *mode, job, log, questions, out),
-        Job::Trial { seed, events } => trial(alloc, limits, *seed, *events, out),
+        Job::Back(_) => run_in_mode(alloc, salt, limits, Mode::Plain, job, log, questions, out),
+        Job::Watch { mode, log: _ } => run_in_mode(
+            alloc, salt, limits, *mode, job, log, questions, out,
+        ),
+        Job::Trial { seed, events } => trial(alloc, salt, limits, *seed, *events, out),
         Job::WatchStore {
             mode: _,
             log: _,
@@ -96,6 +100,7 @@ fn run<L: Source, Q: Source, O: Sink>(
 // Does a job of one mode with a new engine of this mode.
 fn run_in_mode<L: Source, Q: Source, O: Sink>(
     alloc: Global,
+    salt: Salt,
     limits: &Limits,
     mode: Mode,
     job: &Job,
@@ -123,11 +128,12 @@ fn run_in_mode<L: Source, Q: Source, O: Sink>(
     ensures other { (of : ℕ) → job.now ≡ Job.Back of → questions.new ≡ questions.old }
 {
     match mode {
-        Mode::Plain => run_with(alloc, limits, Plain::new(), job, log, questions, out),
+        Mode::Plain => run_with(alloc, salt, limits, Plain::new(), job, log, questions, out),
         Mode::Continuous => run_with(
             alloc,
+            salt,
             limits,
-            Continuous::new(alloc),
+            Continuous::new(alloc, salt),
             job,
             log,
             questions,
@@ -135,20 +141,31 @@ fn run_in_mode<L: Source, Q: Source, O: Sink>(
         ),
         Mode::Full => run_with(
             alloc,
+            salt,
             limits,
-            reduce_full::Full::new(alloc),
+            reduce_full::Full::new(alloc, salt),
             job,
             log,
             questions,
             out,
         ),
-        Mode::Source => run_with(alloc, limits, Sources::new(alloc), job, log, questions, out),
+        Mode::Source => run_with(
+            alloc,
+            salt,
+            limits,
+            Sources::new(alloc),
+            job,
+            log,
+            questions,
+            out,
+        ),
     }
 }
 
 // Does a job with a new engine, which decides by these tables.
 fn run_with<R: Reducer + Drop, L: Source, Q: Source, O: Sink>(
     alloc: Global,
+    salt: Salt,
     limits: &Limits,
     reducer: R,
     job: &Job,
@@ -178,7 +195,7 @@ fn run_with<R: Reducer + Drop, L: Source, Q: Source, O: Sink>(
     ensures other { (of : ℕ) → job.now ≡ Job.Back of → questions.new ≡ questions.old }
 {
     let piece = room_for_a_read(alloc)?;
-    let engine = Ingest::new(alloc, limits, reducer, VecRows::new(alloc));
+    let engine = Ingest::new(alloc, salt, limits, reducer, VecRows::new(alloc));
     let mut session = Session {
         alloc,
         engine,
@@ -208,6 +225,7 @@ fn run_with<R: Reducer + Drop, L: Source, Q: Source, O: Sink>(
 /// Does what the words say, within these limits.
 pub fn audit_run<L: Source, Q: Source, O: Sink, D: Disk>(
     alloc: Global,
+    salt: Salt,
     limits: &Limits,
     words: &[String],
     log: &mut L,
@@ -408,7 +426,7 @@ pub fn audit_run<L: Source, Q: Source, O: Sink, D: Disk>(
             },
         ) => {
             let taking = Taking::Whole { resume };
-            told_of(extend(alloc, limits, mode, taking, log, questions, out, disk))
+            told_of(extend(alloc, salt, limits, mode, taking, log, questions, out, disk))
         }
         Ok(
             Job::WatchStore {
@@ -418,6 +436,7 @@ pub fn audit_run<L: Source, Q: Source, O: Sink, D: Disk>(
             },
         ) => told_of(extend(
             alloc,
+            salt,
             limits,
             mode,
             Taking::Asked,
@@ -426,9 +445,9 @@ pub fn audit_run<L: Source, Q: Source, O: Sink, D: Disk>(
             out,
             disk,
         )),
-        Ok(Job::Query { store: _ }) => told_of(query(alloc, limits, questions, out, disk)),
+        Ok(Job::Query { store: _ }) => told_of(query(alloc, salt, limits, questions, out, disk)),
         Ok(job) => Ended {
-            status: status_of(run(alloc, limits, &job, log, questions, out)),
+            status: status_of(run(alloc, salt, limits, &job, log, questions, out)),
             disk,
         },
     }
@@ -449,6 +468,7 @@ fn told_of<D>(ran: Ran<D>) -> Ended<D>
 /// Does what the words say, within the program's limits.
 pub fn audit_main<L: Source, Q: Source, O: Sink, D: Disk>(
     alloc: Global,
+    salt: Salt,
     words: &[String],
     log: &mut L,
     questions: &mut Q,
@@ -612,7 +632,7 @@ pub fn audit_main<L: Source, Q: Source, O: Sink, D: Disk>(
         → job_of (map string_bytes words.now) ≡ Some (Job.Query store) → log.new ≡ log.old }
 {
     let limits = standard_limits();
-    audit_run(alloc, &limits, words, log, questions, out, disk)
+    audit_run(alloc, salt, &limits, words, log, questions, out, disk)
 }
 
 fn standard_limits() -> Limits

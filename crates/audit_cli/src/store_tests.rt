@@ -6,6 +6,7 @@ use flow_base::{Bytes, Limits};
 use outside::{MemDisk, MemSink, MemSource};
 use reach_model::Mode;
 use std::test::Fail;
+use table_salt::Salt;
 
 // One run over a disk that begins with these bytes, some of whose calls fail: how it ends, what it writes, and the disk's bytes.
 fn run_over(
@@ -24,6 +25,7 @@ fn run_over(
     let disk = MemDisk::new(alloc, disk, calls(rt, fails)?);
     let ended = audit_run(
         alloc,
+        Salt::fixed(),
         &Limits::standard(),
         words.as_slice(),
         &mut log,

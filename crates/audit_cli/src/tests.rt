@@ -4,6 +4,7 @@ use flow_base::{Bytes, Full, Limit, Limits, List};
 use outside::{MemDisk, MemSink, MemSource};
 use reach_model::Mode;
 use std::test::Fail;
+use table_salt::Salt;
 
 // Process 100 forks 101, which writes to its descriptor 1: lines of 139 and 138 bytes, the second without its line feed.
 pub const FORK: &[u8] =
@@ -144,6 +145,7 @@ pub fn run_with(
     let disk = MemDisk::new(rt.alloc(), Bytes::new(rt.alloc()), calls(rt, &[0])?);
     let ended = audit_run(
         rt.alloc(),
+        Salt::fixed(),
         limits,
         words.as_slice(),
         &mut log,

@@ -25,10 +25,12 @@ use reduce_continuous::Continuous;
 use reduce_source::Sources;
 use report_json::Ask;
 use std::alloc::Global;
+use table_salt::Salt;
 
 /// Tries every mode on the log of this seed and number of events, and writes their lines.
 pub fn trial<O: Sink>(
     alloc: Global,
+    salt: Salt,
     limits: &Limits,
     seed: u64,
     events: u32,
@@ -40,26 +42,40 @@ pub fn trial<O: Sink>(
         (HasCauses ⊥ (Rose (O.faults out.old) (O.faults out.new) (O.spent out.new)) ⊥ ⊥ ⊥) }
 {
     let log = generate(alloc, seed, events)?;
-    try_modes(alloc, limits, log.as_slice(), out)
+    try_modes(alloc, salt, limits, log.as_slice(), out)
 }
 
 // Tries every mode on a log.
-fn try_modes<O: Sink>(alloc: Global, limits: &Limits, log: &[u8], out: &mut O) -> Result<(), Halt>
+fn try_modes<O: Sink>(
+    alloc: Global,
+    salt: Salt,
+    limits: &Limits,
+    log: &[u8],
+    out: &mut O,
+) -> Result<(), Halt>
     ensures tried { Tried limits.now (settled log.now) all_modes
         (O.written out.old) (O.written out.new) result }
     ensures causes { IfErr result
         (HasCauses ⊥ (Rose (O.faults out.old) (O.faults out.new) (O.spent out.new)) ⊥ ⊥ ⊥) }
 {
     what_fits_never_stops();
-    let _plain = try_mode(alloc, limits, Plain::new(), log, out)?;
-    let _continuous = try_mode(alloc, limits, Continuous::new(alloc), log, out)?;
-    let _full = try_mode(alloc, limits, reduce_full::Full::new(alloc), log, out)?;
-    try_mode(alloc, limits, Sources::new(alloc), log, out)
+    let _plain = try_mode(alloc, salt, limits, Plain::new(), log, out)?;
+    let _continuous = try_mode(alloc, salt, limits, Continuous::new(alloc, salt), log, out)?;
+    let _full = try_mode(
+        alloc,
+        salt,
+        limits,
+        reduce_full::Full::new(alloc, salt),
+        log,
+        out,
+    )?;
+    try_mode(alloc, salt, limits, Sources::new(alloc), log, out)
 }
 
 // Tries the mode of these new tables on a log, and writes its line.
 fn try_mode<R: Reducer + Drop, O: Sink>(
     alloc: Global,
+    salt: Salt,
     limits: &Limits,
     reducer: R,
     log: &[u8],
@@ -74,7 +90,7 @@ fn try_mode<R: Reducer + Drop, O: Sink>(
     ensures counts { GoesUp
         (O.faults out.old) (O.faults out.new) (O.spent out.old) (O.spent out.new) }
 {
-    let line = line_in(alloc, limits, reducer, log)?;
+    let line = line_in(alloc, salt, limits, reducer, log)?;
     match put_all(out, line.as_slice()) {
         Ok(()) => Ok(()),
         Err(_) => Err(Halt::WriteFault),
@@ -84,6 +100,7 @@ fn try_mode<R: Reducer + Drop, O: Sink>(
 // The line of the mode of these new tables after a log and a settle.
 fn line_in<R: Reducer + Drop>(
     alloc: Global,
+    salt: Salt,
     limits: &Limits,
     reducer: R,
     log: &[u8],
@@ -96,7 +113,7 @@ fn line_in<R: Reducer + Drop>(
     ensures causes { IfErr result (HasCauses ⊥ ⊥ ⊥ ⊥ ⊥) }
 {
     let mode = reducer.mode();
-    let mut engine = Ingest::new(alloc, limits, reducer, VecRows::new(alloc));
+    let mut engine = Ingest::new(alloc, salt, limits, reducer, VecRows::new(alloc));
     line_after(alloc, mode, &mut engine, log)
 }
 

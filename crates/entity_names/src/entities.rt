@@ -19,12 +19,13 @@ use flow_base::{Bytes, EntityId, Full, Key, Limit, Limits, List, NoMemory, equal
 use indexmap::{IndexMap, IndexSet};
 use std::alloc::Global;
 use std::marker::Model;
+use table_salt::Salt;
 
 /// The objects by number, and the names of keys, known or not.
 #[derive(Drop)]
 pub struct Entities {
-    keys: IndexSet<Key>,
-    names: IndexMap<Key, Names>,
+    keys: IndexSet<Key, Salt>,
+    names: IndexMap<Key, Names, Salt>,
     /// How many entries of `names` stand in its first part.
     saved: usize,
     limit: u32,
@@ -45,7 +46,7 @@ impl Model for Entities {
 
 impl Entities {
     /// No objects and no names, and room for no more of them than the limits say.
-    pub fn new(alloc: Global, limits: &Limits) -> Entities
+    pub fn new(alloc: Global, salt: Salt, limits: &Limits) -> Entities
         ensures keys { result.keys ≡ [] }
         ensures limit { result.limit ≡ limits.now.entities }
         ensures most_names { result.most_names ≡ limits.now.names }
@@ -53,8 +54,8 @@ impl Entities {
         ensures saved { (k : Key) → saved_at result k ≡ 0 }
     {
         Entities {
-            keys: IndexSet::new(alloc),
-            names: IndexMap::new(alloc),
+            keys: IndexSet::with_hasher(alloc, salt),
+            names: IndexMap::with_hasher(alloc, salt),
             saved: 0,
             limit: limits.entities,
             most_names: limits.names,

@@ -13,9 +13,10 @@ ghost use Rattle.entity_names.specs.Known.{AreSaved, NamesStay, texts, saved_in,
 use crate::key_names::{Named, Names, push_new};
 use flow_base::{Key, List, NoMemory, equal_keys_are_one};
 use indexmap::IndexMap;
+use table_salt::Salt;
 
 /// Takes a key out of the first part, and gives how many entries that part has then.
-pub fn set_apart(names: &mut IndexMap<Key, Names>, saved: usize, key: &Key) -> usize
+pub fn set_apart(names: &mut IndexMap<Key, Names, Salt>, saved: usize, key: &Key) -> usize
     requires { AreSaved saved names.old.entries }
     ensures names { (k : Key) →
         lookup (ghosts.eq k) names.new.entries ≡ lookup (ghosts.eq k) names.old.entries }
@@ -35,7 +36,7 @@ pub fn set_apart(names: &mut IndexMap<Key, Names>, saved: usize, key: &Key) -> u
 }
 
 /// The names that came since the mark, if all names of the first entries were there at the mark.
-pub fn names_from(names: &IndexMap<Key, Names>, saved: usize) -> Result<List<Named>, NoMemory>
+pub fn names_from(names: &IndexMap<Key, Names, Salt>, saved: usize) -> Result<List<Named>, NoMemory>
     requires { AreSaved saved names.now.entries }
     ensures { IfOk result (λ found. (k : Key) → texts_of k (pairs_of found)
         ≡ drop (saved_in (lookup (ghosts.eq k) names.now.entries))
@@ -51,7 +52,7 @@ pub fn names_from(names: &IndexMap<Key, Names>, saved: usize) -> Result<List<Nam
 }
 
 /// The key and the names of one entry.
-fn entry_at(names: &IndexMap<Key, Names>, place: usize) -> (&Key, &Names)
+fn entry_at(names: &IndexMap<Key, Names, Salt>, place: usize) -> (&Key, &Names)
     requires { place < length names.now.entries }
     ensures { slice_get names.now.entries place ≡ Some (result.0.now, result.1.now) }
 {
@@ -62,7 +63,7 @@ fn entry_at(names: &IndexMap<Key, Names>, place: usize) -> (&Key, &Names)
 }
 
 /// Marks the names of one entry as saved.
-fn save(names: &mut IndexMap<Key, Names>, place: usize)
+fn save(names: &mut IndexMap<Key, Names, Salt>, place: usize)
     requires { place < length names.old.entries }
     ensures names { NamesStay names.old.entries names.new.entries }
     ensures saved { AreSaved place names.old.entries → AreSaved (place + 1) names.new.entries }
@@ -75,7 +76,7 @@ fn save(names: &mut IndexMap<Key, Names>, place: usize)
 }
 
 /// Marks the names of all entries from this place on as saved.
-pub fn save_from(names: &mut IndexMap<Key, Names>, first: usize)
+pub fn save_from(names: &mut IndexMap<Key, Names, Salt>, first: usize)
     ensures names { NamesStay names.old.entries names.new.entries }
     ensures saved { AreSaved first names.old.entries
         → AreSaved (length names.new.entries) names.new.entries }

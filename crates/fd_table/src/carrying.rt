@@ -11,6 +11,7 @@ use acts::Object;
 use flow_base::NoMemory;
 use indexmap::IndexMap;
 use std::alloc::Global;
+use table_salt::Salt;
 
 /// Moves one tree of numbers.
 fn carry_tree(
@@ -51,7 +52,11 @@ fn carry_holding(
 }
 
 /// Puts what a process holds.
-fn enter(processes: &mut IndexMap<u32, Holding>, pid: u32, holding: Holding) -> Result<(), NoMemory>
+fn enter(
+    processes: &mut IndexMap<u32, Holding, Salt>,
+    pid: u32,
+    holding: Holding,
+) -> Result<(), NoMemory>
     ensures { OnOk result (AreChanged processes.old.entries processes.new.entries
         (λ p h. if pid == p then holding else h)) }
 {
@@ -64,14 +69,14 @@ pub fn carry_all(
     alloc: Global,
     nodes: &[Node],
     objects: &[Object],
-    processes: &IndexMap<u32, Holding>,
+    processes: &IndexMap<u32, Holding, Salt>,
     moving: &mut Moving,
-) -> Result<IndexMap<u32, Holding>, NoMemory>
+) -> Result<IndexMap<u32, Holding, Salt>, NoMemory>
     requires { HasMoved (shelf_of nodes.now objects.now) moving.old }
     ensures { IfOk result (λ moved. ProcessesMean (shelf_of nodes.now objects.now)
         (shelf moving.new) processes.now.entries moved.entries) }
 {
-    let mut carried = IndexMap::new(alloc);
+    let mut carried = IndexMap::with_hasher(alloc, *processes.hasher());
     for pid in processes.keys() {
         let holding = holding_of(processes, *pid);
         let moved = carry_holding(nodes, objects, moving, holding)?;

@@ -15,6 +15,7 @@ use flow_base::NoMemory;
 use indexmap::IndexMap;
 use std::alloc::Global;
 use std::marker::Model;
+use table_salt::Salt;
 
 /// The nodes and objects that have moved, and the new id of each tree by its height and its old id.
 /// The height is needed, since on the last level ids are numbers of objects.
@@ -22,18 +23,18 @@ use std::marker::Model;
 pub struct Moving {
     pub nodes: Vec<Node>,
     pub objects: Vec<Object>,
-    pub moves: IndexMap<(u8, usize), usize>,
+    pub moves: IndexMap<(u8, usize), usize, Salt>,
 }
 
 impl Moving {
     /// Nothing has moved.
-    pub fn new(alloc: Global) -> Moving
+    pub fn new(alloc: Global, salt: Salt) -> Moving
         ensures { (old : Shelf) → HasMoved old result }
     {
         Moving {
             nodes: Vec::new(alloc),
             objects: Vec::new(alloc),
-            moves: IndexMap::new(alloc),
+            moves: IndexMap::with_hasher(alloc, salt),
         }
     }
 

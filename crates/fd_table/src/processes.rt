@@ -13,9 +13,10 @@ use crate::tree::{Holding, Tree};
 use acts::Object;
 use flow_base::NoMemory;
 use indexmap::IndexMap;
+use table_salt::Salt;
 
 /// What a process holds.
-pub fn holding_of(processes: &IndexMap<u32, Holding>, pid: u32) -> Holding
+pub fn holding_of(processes: &IndexMap<u32, Holding, Salt>, pid: u32) -> Holding
     ensures { result ≡ holding_of processes.now.entries pid }
 {
     match processes.get(&pid) {
@@ -25,7 +26,7 @@ pub fn holding_of(processes: &IndexMap<u32, Holding>, pid: u32) -> Holding
 }
 
 /// The process holds this from now on. It takes no memory.
-pub fn put(processes: &mut IndexMap<u32, Holding>, pid: u32, holding: Holding)
+pub fn put(processes: &mut IndexMap<u32, Holding, Salt>, pid: u32, holding: Holding)
     requires { 1 ≤ spare processes.old }
     ensures put { AreChanged processes.old.entries processes.new.entries
         (λ p h. if pid == p then holding else h) }
@@ -38,7 +39,7 @@ pub fn put(processes: &mut IndexMap<u32, Holding>, pid: u32, holding: Holding)
 }
 
 /// The process holds nothing from now on.
-pub fn clear(processes: &mut IndexMap<u32, Holding>, pid: u32)
+pub fn clear(processes: &mut IndexMap<u32, Holding, Salt>, pid: u32)
     ensures cleared { AreChanged processes.old.entries processes.new.entries
         (λ p h. if pid == p then nothing else h) }
     ensures spare { spare processes.old ≤ spare processes.new }
@@ -47,7 +48,7 @@ pub fn clear(processes: &mut IndexMap<u32, Holding>, pid: u32)
 }
 
 /// The process holds nothing from now on that an exec closes.
-pub fn unmark(processes: &mut IndexMap<u32, Holding>, pid: u32)
+pub fn unmark(processes: &mut IndexMap<u32, Holding, Salt>, pid: u32)
     ensures unmarked { AreChanged processes.old.entries processes.new.entries
         (λ p h. if pid == p then record { kept = h.kept; marked = bare } else h) }
     ensures spare { spare processes.old ≤ spare processes.new }
@@ -59,7 +60,7 @@ pub fn unmark(processes: &mut IndexMap<u32, Holding>, pid: u32)
 
 /// Gives a descriptor of a process these numbers in its two trees. It takes no memory.
 pub fn change(
-    processes: &mut IndexMap<u32, Holding>,
+    processes: &mut IndexMap<u32, Holding, Salt>,
     nodes: &mut Vec<Node>,
     pid: u32,
     fd: u32,
@@ -89,7 +90,7 @@ const NODES: usize = 16;
 
 /// Makes room for this many changes. It fails if memory does.
 pub fn make_room(
-    processes: &mut IndexMap<u32, Holding>,
+    processes: &mut IndexMap<u32, Holding, Salt>,
     nodes: &mut Vec<Node>,
     objects: &mut Vec<Object>,
     changes: usize,

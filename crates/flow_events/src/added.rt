@@ -13,11 +13,12 @@ use flow_base::{EntityId, Flow, Full, Key, Limit, List, NoMemory, Stamp, equal_k
 use indexmap::IndexSet;
 use std::alloc::Global;
 use std::marker::Model;
+use table_salt::Salt;
 
 /// The objects and flows that an event adds.
 #[derive(Drop)]
 pub struct Added {
-    keys: IndexSet<Key>,
+    keys: IndexSet<Key, Salt>,
     flows: List<Flow>,
 }
 
@@ -31,11 +32,11 @@ impl Model for Added {
 
 impl Added {
     /// Nothing.
-    pub fn new(alloc: Global) -> Added
+    pub fn new(alloc: Global, salt: Salt) -> Added
         ensures { result ≡ record { keys = []; flows = [] } }
     {
         Added {
-            keys: IndexSet::new(alloc),
+            keys: IndexSet::with_hasher(alloc, salt),
             flows: List::new(alloc),
         }
     }

@@ -9,11 +9,12 @@ use flow_base::{FileId, NoMemory, equal_files_are_one};
 use indexmap::IndexMap;
 use std::alloc::Global;
 use std::marker::Model;
+use table_salt::Salt;
 
 /// How often each file number was born.
 #[derive(Drop)]
 pub struct Births {
-    counts: IndexMap<FileId, u64>,
+    counts: IndexMap<FileId, u64, Salt>,
 }
 
 impl Model for Births {
@@ -27,12 +28,17 @@ impl Model for Births {
 
 impl Births {
     /// No file was born.
-    pub fn new(alloc: Global) -> Births
+    pub fn new(alloc: Global, salt: Salt) -> Births
         ensures { BornAs result [] }
     {
         Births {
-            counts: IndexMap::new(alloc),
+            counts: IndexMap::with_hasher(alloc, salt),
         }
+    }
+
+    /// What its hashes begin with, for further tables of the same run.
+    pub fn salt(&self) -> Salt {
+        *self.counts.hasher()
     }
 
     /// Makes the room at least `more`.

@@ -22,6 +22,7 @@ use fd_table::Fds;
 use flow_base::{Bytes, List, NoMemory, Stamp};
 use proc_table::Procs;
 use std::alloc::Global;
+use table_salt::Salt;
 
 /// Appends a name, if there is one.
 pub fn put_name(given: &mut List<Given>, name: Option<Given>) -> Result<(), NoMemory>
@@ -86,18 +87,18 @@ pub struct Ground<'a> {
 
 impl Draft {
     /// Nothing yet, with room for this many births.
-    pub fn start(alloc: Global, more: usize) -> Result<Draft, NoMemory>
+    pub fn start(alloc: Global, salt: Salt, more: usize) -> Result<Draft, NoMemory>
         ensures births { IfOk result (λ draft. BornAs draft.births []) }
         ensures room { IfOk result (λ draft. more ≤ draft.births.spare) }
         ensures given { IfOk result (λ draft. draft.given ≡ []) }
         ensures added { IfOk result (λ draft. draft.added ≡ record { keys = []; flows = [] }) }
     {
-        let mut births = Births::new(alloc);
+        let mut births = Births::new(alloc, salt);
         births.reserve(more)?;
         Ok(Draft {
             births,
             given: List::new(alloc),
-            added: Added::new(alloc),
+            added: Added::new(alloc, salt),
         })
     }
 

@@ -20,6 +20,7 @@ use flow_base::{Bytes, FileId, Key, Limits, NoMemory};
 use proc_table::{Life, Procs};
 use row_codec::{StateRow, StoreRow};
 use std::alloc::Global;
+use table_salt::Salt;
 
 /// What was filled so far.
 #[derive(Drop)]
@@ -33,12 +34,17 @@ pub struct Filled {
 }
 
 /// What these rows say.
-pub fn fill_all(alloc: Global, limits: &Limits, rows: &[StoreRow]) -> Result<Filled, NoMemory>
+pub fn fill_all(
+    alloc: Global,
+    salt: Salt,
+    limits: &Limits,
+    rows: &[StoreRow],
+) -> Result<Filled, NoMemory>
     requires fits { length (keys rows.now) ≤ limits.now.entities }
     ensures rows { IfOk result (λ filled. HasRows filled rows.now) }
     ensures within { IfOk result (IsWithin limits.now) }
 {
-    let mut filled = Filled::new(alloc, limits);
+    let mut filled = Filled::new(alloc, salt, limits);
     for row in rows {
         filled.fill(row)?;
     }
@@ -47,15 +53,15 @@ pub fn fill_all(alloc: Global, limits: &Limits, rows: &[StoreRow]) -> Result<Fil
 
 impl Filled {
     /// No rows.
-    pub fn new(alloc: Global, limits: &Limits) -> Filled
+    pub fn new(alloc: Global, salt: Salt, limits: &Limits) -> Filled
         ensures rows { HasRows result [] }
         ensures within { IsWithin limits.now result }
     {
         Filled {
-            procs: Procs::new(alloc),
-            fds: Fds::new(alloc),
-            births: Births::new(alloc),
-            entities: Entities::new(alloc, limits),
+            procs: Procs::new(alloc, salt),
+            fds: Fds::new(alloc, salt),
+            births: Births::new(alloc, salt),
+            entities: Entities::new(alloc, salt, limits),
             flows: 0,
             acts: 0,
         }

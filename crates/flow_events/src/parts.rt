@@ -6,6 +6,7 @@ use acts::copy_key;
 use flow_base::{Key, List, NoMemory};
 use indexmap::IndexSet;
 use std::alloc::Global;
+use table_salt::Salt;
 
 /// The items with the last one first.
 pub fn newest_first<T: Drop>(alloc: Global, items: List<T>) -> Result<List<T>, NoMemory>
@@ -20,7 +21,7 @@ pub fn newest_first<T: Drop>(alloc: Global, items: List<T>) -> Result<List<T>, N
 }
 
 /// The keys with the last one first.
-pub fn newest_keys(alloc: Global, keys: IndexSet<Key>) -> Result<List<Key>, NoMemory>
+pub fn newest_keys(alloc: Global, keys: IndexSet<Key, Salt>) -> Result<List<Key>, NoMemory>
     ensures { IfOk result (λ turned. turned ≡ reverse keys.keys) }
 {
     let mut keys = keys;

@@ -22,6 +22,7 @@ use indexmap::{IndexMap, IndexSet};
 use proc_table::{Life, Procs};
 use std::alloc::Global;
 use std::marker::Model;
+use table_salt::Salt;
 
 /// What is remembered of the acts since a mark.
 #[derive(Drop)]
@@ -29,11 +30,11 @@ pub struct Since {
     /// How many objects there were at the mark.
     known: u32,
     /// Each pid that was named, with its last life at the mark.
-    pids: IndexMap<u32, Option<Life>>,
+    pids: IndexMap<u32, Option<Life>, Salt>,
     /// The file numbers that were born.
-    files: IndexSet<FileId>,
+    files: IndexSet<FileId, Salt>,
     /// The sockets that got another address.
-    sockets: IndexSet<u64>,
+    sockets: IndexSet<u64, Salt>,
     /// The descriptors that were touched while they held something.
     slots: Slots,
     /// The descriptors at which something was put.
@@ -62,17 +63,17 @@ impl Model for Since {
 
 impl Since {
     /// Nothing is remembered: the mark is now, with this many objects.
-    pub fn new(alloc: Global, known: u32) -> Since
+    pub fn new(alloc: Global, salt: Salt, known: u32) -> Since
         ensures { (before : List Act) → known ≡ length (objects before)
             → IsSince result before [] }
     {
         Since {
             known,
-            pids: IndexMap::new(alloc),
-            files: IndexSet::new(alloc),
-            sockets: IndexSet::new(alloc),
-            slots: Slots::new(alloc),
-            puts: Slots::new(alloc),
+            pids: IndexMap::with_hasher(alloc, salt),
+            files: IndexSet::with_hasher(alloc, salt),
+            sockets: IndexSet::with_hasher(alloc, salt),
+            slots: Slots::new(alloc, salt),
+            puts: Slots::new(alloc, salt),
         }
     }
 
@@ -97,7 +98,7 @@ impl Since {
     }
 
     /// Each pid that was named, with its last life at the mark.
-    pub fn pids(&self) -> &IndexMap<u32, Option<Life>>
+    pub fn pids(&self) -> &IndexMap<u32, Option<Life>, Salt>
         ensures { result.now.entries ≡ self.now.pids }
     {
         &self.pids

@@ -12,11 +12,12 @@ use flow_base::NoMemory;
 use indexmap::IndexSet;
 use std::alloc::Global;
 use std::marker::Model;
+use table_salt::Salt;
 
 /// Descriptors, each with its pid.
 #[derive(Drop)]
 pub struct Slots {
-    all: IndexSet<(u32, u32)>,
+    all: IndexSet<(u32, u32), Salt>,
 }
 
 impl Model for Slots {
@@ -29,11 +30,11 @@ impl Model for Slots {
 
 impl Slots {
     /// No descriptors.
-    pub fn new(alloc: Global) -> Slots
+    pub fn new(alloc: Global, salt: Salt) -> Slots
         ensures { result ≡ [] }
     {
         Slots {
-            all: IndexSet::new(alloc),
+            all: IndexSet::with_hasher(alloc, salt),
         }
     }
 

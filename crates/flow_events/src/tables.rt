@@ -38,6 +38,7 @@ use proc_table::Procs;
 use record_join::EventView;
 use row_codec::StoreRow;
 use std::alloc::Global;
+use table_salt::Salt;
 
 // Whether an event with these acts has a call that is not in the table. One that does has its see alone, so the call
 // is looked up only if there is no second act.
@@ -79,17 +80,17 @@ pub struct Tables {
 
 impl Tables {
     /// No acts.
-    pub fn new(alloc: Global, limits: &Limits) -> Tables
+    pub fn new(alloc: Global, salt: Salt, limits: &Limits) -> Tables
         ensures stands { (text : List ℕ → List ℕ) → StandsFor text result [] }
         ensures safe { AreSafe result }
         ensures limits { HasLimits limits.now result }
         ensures unmarked { result.marked ≡ None }
     {
         Tables {
-            procs: Procs::new(alloc),
-            fds: Fds::new(alloc),
-            births: Births::new(alloc),
-            entities: Entities::new(alloc, limits),
+            procs: Procs::new(alloc, salt),
+            fds: Fds::new(alloc, salt),
+            births: Births::new(alloc, salt),
+            entities: Entities::new(alloc, salt, limits),
             flows: 0,
             acts: 0,
             limits: *limits,
@@ -99,7 +100,12 @@ impl Tables {
     }
 
     /// The tables that the rows of a store say. Its rows of flows aren't needed.
-    pub fn restore(alloc: Global, limits: &Limits, rows: &[StoreRow]) -> Result<Tables, NoMemory>
+    pub fn restore(
+        alloc: Global,
+        salt: Salt,
+        limits: &Limits,
+        rows: &[StoreRow],
+    ) -> Result<Tables, NoMemory>
         requires fits { length (keys rows.now) ≤ limits.now.entities }
         ensures stands { IfOk result (AreRestored limits.now rows.now) }
         ensures safe { IfSome (state_of rows.now) (λ s. s.flows ≤ 2 ^ 60) → IfOk result AreSafe }
@@ -114,7 +120,7 @@ impl Tables {
             entities,
             flows,
             acts,
-        } = fill_all(alloc, limits, rows)?;
+        } = fill_all(alloc, salt, limits, rows)?;
         Ok(Tables {
             procs,
             fds,
@@ -138,7 +144,7 @@ impl Tables {
         ensures limits { (limits : Limits) → HasLimits limits self.old → HasLimits limits self.new }
     {
         self.entities.mark_saved();
-        self.since = Some(Since::new(alloc, self.entities.count()));
+        self.since = Some(Since::new(alloc, self.births.salt(), self.entities.count()));
         self.marked = Some(self.acts);
     }
 

@@ -57,7 +57,7 @@ pub fn begin(
 {
     let acting = see_acting(ground.procs, pid, ppid);
     let see = see_change(ground.procs, pid, ppid);
-    let mut draft = Draft::start(ground.alloc, more)?;
+    let mut draft = Draft::start(ground.alloc, ground.births.salt(), more)?;
     draft.see(ground, &acting, ppid, exe)?;
     Ok(Begun { acting, see, draft })
 }
@@ -166,7 +166,7 @@ pub fn work_event(ground: &Ground<'_>, number: u64, acts: &[Act]) -> Result<Work
             see: Change::Nothing,
             last: Change::Nothing,
             address: None,
-            draft: Draft::start(ground.alloc, 0)?,
+            draft: Draft::start(ground.alloc, ground.births.salt(), 0)?,
         }),
         [Act::See { pid, ppid, exe }, rest @ ..] => {
             work_out(ground, number, *pid, *ppid, exe, rest)

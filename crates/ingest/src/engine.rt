@@ -66,6 +66,7 @@ use report_json::{Ask, Reply};
 use row_codec::{StateRow, rows_that_fit_can_be_spelled};
 use std::alloc::Global;
 use std::marker::Model;
+use table_salt::Salt;
 
 /// The engine: it takes a log piece by piece, and answers questions at any time.
 ///
@@ -93,7 +94,7 @@ impl<R: Reducer, K: Keep> Model for Ingest<R, K> {
 
 impl<R: Reducer, K: Keep> Ingest<R, K> {
     /// An engine that has taken nothing, by a new reducer and no rows.
-    pub fn new(alloc: Global, limits: &Limits, reducer: R, keep: K) -> Ingest<R, K>
+    pub fn new(alloc: Global, salt: Salt, limits: &Limits, reducer: R, keep: K) -> Ingest<R, K>
         requires stands { R.stands_for reducer [] }
         requires holds { R.holds reducer [] }
         requires told { K.rows keep ≡ Some [] }
@@ -107,7 +108,7 @@ impl<R: Reducer, K: Keep> Ingest<R, K> {
         Ingest {
             alloc,
             reader: LineReader::new(alloc, limits),
-            joined: EventFlows::new(alloc, limits, reducer, keep),
+            joined: EventFlows::new(alloc, salt, limits, reducer, keep),
             part: 0,
         }
     }
@@ -447,6 +448,7 @@ impl<R: Reducer, D: Disk> Ingest<R, Store<D>> {
     /// that the store has taken more bytes than may be, and that what waits in it is sound. A refusal hands the store back.
     pub fn restore(
         alloc: Global,
+        salt: Salt,
         limits: &Limits,
         reducer: R,
         opened: Opened<D>,
@@ -476,16 +478,29 @@ impl<R: Reducer, D: Disk> Ingest<R, Store<D>> {
             rows,
         } = opened;
         let Some(state) = last_state(rows.as_slice()) else {
-            return Ok(Ingest::begun(alloc, limits, reducer, store));
+            return Ok(Ingest::begun(alloc, salt, limits, reducer, store));
         };
-        match make_again(alloc, limits, last.unwrap_or(0), state, rows.as_slice()) {
+        match make_again(
+            alloc,
+            salt,
+            limits,
+            last.unwrap_or(0),
+            state,
+            rows.as_slice(),
+        ) {
             Ok(parts) => Ingest::resumed(alloc, reducer, store, state, parts),
             Err(why) => Err(Unrestored { why, keep: store }),
         }
     }
 
     // The engine of a store that has no batch.
-    fn begun(alloc: Global, limits: &Limits, reducer: R, store: Store<D>) -> Ingest<R, Store<D>>
+    fn begun(
+        alloc: Global,
+        salt: Salt,
+        limits: &Limits,
+        reducer: R,
+        store: Store<D>,
+    ) -> Ingest<R, Store<D>>
         requires stands { R.stands_for reducer [] }
         requires holds { R.holds reducer [] }
         requires none { store.rows.rows ≡ [] }
@@ -494,7 +509,7 @@ impl<R: Reducer, D: Disk> Ingest<R, Store<D>> {
         ensures keep { result.joined.keep ≡ store }
         ensures marked { result.joined.tables.marked ≡ Some 0 }
     {
-        let mut engine = Ingest::new(alloc, limits, reducer, store);
+        let mut engine = Ingest::new(alloc, salt, limits, reducer, store);
         engine.joined.remember();
         engine
     }

@@ -61,6 +61,7 @@ use reduced_store::Store;
 use row_codec::{StateRow, StoreRow};
 use std::alloc::Global;
 use std::marker::Model;
+use table_salt::Salt;
 
 /// Joins records into events, and follows their flows.
 #[derive(Drop)]
@@ -95,7 +96,7 @@ impl<R: Reducer, K: Keep> Model for EventFlows<R, K> {
 
 impl<R: Reducer, K: Keep> EventFlows<R, K> {
     /// Nothing has come, by a new reducer and no rows.
-    pub fn new(alloc: Global, limits: &Limits, reducer: R, keep: K) -> EventFlows<R, K>
+    pub fn new(alloc: Global, salt: Salt, limits: &Limits, reducer: R, keep: K) -> EventFlows<R, K>
         requires stands { R.stands_for reducer [] }
         requires holds { R.holds reducer [] }
         requires told { K.rows keep ≡ Some [] }
@@ -109,7 +110,7 @@ impl<R: Reducer, K: Keep> EventFlows<R, K> {
         EventFlows {
             alloc,
             join: Join::new(alloc, limits),
-            tables: Tables::new(alloc, limits),
+            tables: Tables::new(alloc, salt, limits),
             kept: KeptFlows::new(reducer, keep),
             counts: EventCounts::new(),
             excess: 0,

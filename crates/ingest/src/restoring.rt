@@ -15,6 +15,7 @@ use flow_events::Tables;
 use record_join::Join;
 use row_codec::{StateRow, StoreRow};
 use std::alloc::Global;
+use table_salt::Salt;
 
 /// Why an engine wasn't made again: what waits isn't sound, with the place of the batch that says it; it is sound, and the
 /// bytes that the store has taken are past the limit; or an allocation failed.
@@ -51,6 +52,7 @@ pub struct Remade {
 /// Makes the parts again that the rows of a store say, and the State among them. The place is that of the last batch.
 pub fn make_again(
     alloc: Global,
+    salt: Salt,
     limits: &Limits,
     place: u64,
     state: &StateRow,
@@ -73,7 +75,7 @@ pub fn make_again(
             number: limits.input,
         }));
     }
-    let tables = Tables::restore(alloc, limits, rows)?;
+    let tables = Tables::restore(alloc, salt, limits, rows)?;
     let reader = LineReader::restore(alloc, limits, state)?;
     Ok(Remade {
         reader,

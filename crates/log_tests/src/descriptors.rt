@@ -3,6 +3,7 @@ use acts::{Held, Object};
 use fd_table::{FdEntry, Fds};
 use flow_base::Bytes;
 use std::test::Fail;
+use table_salt::Salt;
 
 // Sockets go by the act that made them.
 #[derive(Clone, Copy)]
@@ -89,7 +90,7 @@ fn all_answer(fds: &mut Fds, steps: &[Step]) -> bool {
 
 #[test]
 fn a_duplicate_outlives_an_exec_and_a_child_takes_it_over(rt: HostRuntime) {
-    let mut fds = Fds::new(rt.alloc());
+    let mut fds = Fds::new(rt.alloc(), Salt::fixed());
     assert!(rt;
         all_answer(
             &mut fds,
@@ -122,7 +123,7 @@ fn a_duplicate_outlives_an_exec_and_a_child_takes_it_over(rt: HostRuntime) {
 
 #[test]
 fn each_descriptor_is_found_until_it_closes(rt: HostRuntime) {
-    let mut fds = Fds::new(rt.alloc());
+    let mut fds = Fds::new(rt.alloc(), Salt::fixed());
     assert!(rt;
         all_answer(
             &mut fds,
@@ -161,7 +162,7 @@ fn each_descriptor_is_found_until_it_closes(rt: HostRuntime) {
 
 #[test]
 fn many_children_share_what_they_hold_and_change_it_alone(rt: HostRuntime) {
-    let mut fds = Fds::new(rt.alloc());
+    let mut fds = Fds::new(rt.alloc(), Salt::fixed());
     for fd in 0..2000u32 {
         assert!(rt; sets(&mut fds, 1, fd * 3, fd as u64, fd % 5 == 0));
     }
@@ -217,7 +218,7 @@ fn has_address(fds: &Fds, act: u64, bytes: &[u8]) -> bool {
 
 #[test]
 fn an_address_is_that_of_its_socket_alone(rt: HostRuntime) {
-    let mut fds = Fds::new(rt.alloc());
+    let mut fds = Fds::new(rt.alloc(), Salt::fixed());
     match Bytes::from_slice(rt.alloc(), b"\x02\x00\x01\xbb".as_slice()) {
         Ok(bytes) => assert!(rt; gives_address(&mut fds, 6, bytes)),
         Err(_) => assert!(rt; false),
@@ -235,7 +236,7 @@ fn stands(entry: &FdEntry, fd: u32, act: u64, cloexec: bool) -> bool {
 
 #[test]
 fn what_a_process_holds_is_listed_in_ascending_order(rt: HostRuntime) -> Result<(), Fail> {
-    let mut fds = Fds::new(rt.alloc());
+    let mut fds = Fds::new(rt.alloc(), Salt::fixed());
     assert!(rt;
         all_answer(
             &mut fds,

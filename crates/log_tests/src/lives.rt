@@ -3,6 +3,7 @@ ghost use Rattle.std.specs.Prelude.{◌≡◌, ◌≤◌, ◌<◌, ◌-◌, ◌^
 ghost use Rattle.proc_table.specs.Table.{at};
 
 use proc_table::{Forked, Life, Procs, Seen};
+use table_salt::Salt;
 
 #[derive(Clone, Copy)]
 enum Step {
@@ -50,7 +51,7 @@ fn all_answer(procs: &mut Procs, steps: &[Step]) -> bool {
 
 #[test]
 fn a_child_is_seen_before_its_fork_and_its_pid_is_used_again(rt: HostRuntime) {
-    let mut procs = Procs::new(rt.alloc());
+    let mut procs = Procs::new(rt.alloc(), Salt::fixed());
     assert!(rt;
         all_answer(
             &mut procs,
@@ -73,7 +74,7 @@ fn a_child_is_seen_before_its_fork_and_its_pid_is_used_again(rt: HostRuntime) {
 
 #[test]
 fn a_fork_links_a_child_whose_parent_was_not_seen_before_it(rt: HostRuntime) {
-    let mut procs = Procs::new(rt.alloc());
+    let mut procs = Procs::new(rt.alloc(), Salt::fixed());
     assert!(rt;
         all_answer(
             &mut procs,
@@ -105,7 +106,7 @@ fn a_fork_links_a_child_whose_parent_was_not_seen_before_it(rt: HostRuntime) {
 
 #[test]
 fn what_is_put_is_found_again(rt: HostRuntime) {
-    let mut procs = Procs::new(rt.alloc());
+    let mut procs = Procs::new(rt.alloc(), Salt::fixed());
     let life = Life {
         life: 7,
         live: true,

@@ -4,6 +4,7 @@ use entity_names::{EnterFault, Entities};
 use flow_base::{Bytes, EntityId, Full, Key, Limit, Limits};
 use std::alloc::Global;
 use std::test::Fail;
+use table_salt::Salt;
 
 fn small() -> Limits {
     let mut limits = Limits::standard();
@@ -32,7 +33,7 @@ fn is_number(entered: &Result<EntityId, EnterFault>, number: u32) -> bool {
 
 #[test]
 fn keys_are_numbered_as_they_come(rt: HostRuntime) {
-    let mut entities = Entities::new(rt.alloc(), &small());
+    let mut entities = Entities::new(rt.alloc(), Salt::fixed(), &small());
     assert!(rt; is_number(&entities.enter(process(7)), 0));
     assert!(rt; is_number(&entities.enter(process(5)), 1));
     assert!(rt; is_number(&entities.enter(process(7)), 0));
@@ -43,7 +44,7 @@ fn keys_are_numbered_as_they_come(rt: HostRuntime) {
 #[test]
 fn names_come_before_their_key_and_stop_at_their_limit(rt: HostRuntime) -> Result<(), Fail> {
     let alloc = rt.alloc();
-    let mut entities = Entities::new(alloc, &small());
+    let mut entities = Entities::new(alloc, Salt::fixed(), &small());
     for text in [
         b"/a".as_slice(),
         b"/b".as_slice(),
@@ -76,7 +77,7 @@ fn names_come_before_their_key_and_stop_at_their_limit(rt: HostRuntime) -> Resul
 #[test]
 fn names_since_the_mark_are_handed_out_with_their_keys(rt: HostRuntime) -> Result<(), Fail> {
     let alloc = rt.alloc();
-    let mut entities = Entities::new(alloc, &small());
+    let mut entities = Entities::new(alloc, Salt::fixed(), &small());
     for pid in [7, 5, 3] {
         entities.add_name(process(pid), Bytes::from_slice(alloc, b"/a".as_slice())?)?;
     }
@@ -98,7 +99,7 @@ fn names_since_the_mark_are_handed_out_with_their_keys(rt: HostRuntime) -> Resul
 
 #[test]
 fn the_last_keys_are_copied(rt: HostRuntime) -> Result<(), Fail> {
-    let mut entities = Entities::new(rt.alloc(), &small());
+    let mut entities = Entities::new(rt.alloc(), Salt::fixed(), &small());
     assert!(rt; is_number(&entities.enter(process(7)), 0));
     assert!(rt; is_number(&entities.enter(process(5)), 1));
     match entities.copy_from(1)?.as_slice() {

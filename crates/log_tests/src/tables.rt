@@ -21,6 +21,7 @@ use row_codec::{StateRow, StoreRow};
 use std::alloc::Global;
 use std::marker::Model;
 use std::test::Fail;
+use table_salt::Salt;
 
 // What a record beside that of the call says.
 #[derive(Clone, Copy)]
@@ -269,7 +270,7 @@ impl Model for Course {
 impl Course {
     fn new(alloc: Global, limits: Limits) -> Course {
         Course {
-            tables: Tables::new(alloc, &limits),
+            tables: Tables::new(alloc, Salt::fixed(), &limits),
             limits,
         }
     }
@@ -762,7 +763,7 @@ fn tables_are_made_again_of_rows(rt: HostRuntime) -> Result<(), Fail> {
         },
         StoreRow::State(state(alloc, 3, 9)),
     ];
-    let tables = Tables::restore(alloc, &Limits::standard(), rows.as_slice())?;
+    let tables = Tables::restore(alloc, Salt::fixed(), &Limits::standard(), rows.as_slice())?;
     assert_eq!(rt; tables.flows(), 3);
     assert_eq!(rt; tables.acts(), 9);
     assert_eq!(rt; tables.entities().count(), 0);

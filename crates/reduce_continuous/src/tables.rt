@@ -14,27 +14,28 @@ use indexmap::IndexMap;
 use reach_model::{Mode, Verdict};
 use reach_rows::{First, Question, Reducer, Row};
 use std::alloc::Global;
+use table_salt::Salt;
 
 /// The last row of each pair, and the places of the last flows into and out of each object.
 #[derive(Drop)]
 pub struct Continuous {
     count: u64,
-    runs: IndexMap<(u32, u32), Run>,
-    into: IndexMap<u32, u64>,
-    out: IndexMap<u32, u64>,
+    runs: IndexMap<(u32, u32), Run, Salt>,
+    into: IndexMap<u32, u64, Salt>,
+    out: IndexMap<u32, u64, Salt>,
 }
 
 impl Continuous {
     /// The tables of no rows.
-    pub fn new(alloc: Global) -> Continuous
+    pub fn new(alloc: Global, salt: Salt) -> Continuous
         ensures stands { StandsFor result [] }
         ensures holds { Holds result [] }
     {
         Continuous {
             count: 0,
-            runs: IndexMap::new(alloc),
-            into: IndexMap::new(alloc),
-            out: IndexMap::new(alloc),
+            runs: IndexMap::with_hasher(alloc, salt),
+            into: IndexMap::with_hasher(alloc, salt),
+            out: IndexMap::with_hasher(alloc, salt),
         }
     }
 
@@ -143,7 +144,7 @@ impl Reducer for Continuous {
 }
 
 /// Sets the run of a pair, in the room that was made for it.
-fn set_run(runs: &mut IndexMap<(u32, u32), Run>, pair: (u32, u32), run: Run)
+fn set_run(runs: &mut IndexMap<(u32, u32), Run, Salt>, pair: (u32, u32), run: Run)
     requires { 1 ≤ spare runs.old }
     ensures here { get pair_eq runs.new pair ≡ Some run }
     ensures others { (u v : ℕ) → ¬ ((pair.0 ≡ u) × (pair.1 ≡ v)) → get pair_eq runs.new (u, v) ≡ get pair_eq runs.old (u, v) }
@@ -156,7 +157,7 @@ fn set_run(runs: &mut IndexMap<(u32, u32), Run>, pair: (u32, u32), run: Run)
 }
 
 /// Sets the place of an object, in the room that was made for it.
-fn set_place(places: &mut IndexMap<u32, u64>, object: u32, place: u64)
+fn set_place(places: &mut IndexMap<u32, u64, Salt>, object: u32, place: u64)
     requires { 1 ≤ spare places.old }
     ensures here { get nat_eq places.new object ≡ Some place }
     ensures others { (u : ℕ) → object ≢ u → get nat_eq places.new u ≡ get nat_eq places.old u }

@@ -8,6 +8,7 @@ use flow_base::{Flow, NoMemory};
 use reach_model::{Mode, Verdict};
 use reach_rows::{First, Question, Reducer, Row, starts_by};
 use std::alloc::Global;
+use table_salt::Salt;
 use version_graph::Versions;
 
 /// The versions of the kept flows.
@@ -18,12 +19,12 @@ pub struct Full {
 
 impl Full {
     /// The tables of no rows.
-    pub fn new(alloc: Global) -> Full
+    pub fn new(alloc: Global, salt: Salt) -> Full
         ensures stands { StandsFor result [] }
         ensures holds { Holds result [] }
     {
         Full {
-            versions: Versions::new(alloc),
+            versions: Versions::new(alloc, salt),
         }
     }
 }

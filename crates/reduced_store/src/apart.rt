@@ -7,16 +7,17 @@ use flow_base::NoMemory;
 use indexmap::IndexSet;
 use reach_rows::Row;
 use std::alloc::Global;
+use table_salt::Salt;
 
 /// Whether no two rows have one last place. Last places ascend unless a row was extended, and then no set is made of them.
-pub fn are_apart(alloc: Global, rows: &[Row]) -> Result<bool, NoMemory>
+pub fn are_apart(alloc: Global, salt: Salt, rows: &[Row]) -> Result<bool, NoMemory>
     ensures { IfOk result (λ apart. IsTrue apart
         ↔ IsDistinct nat_eq (map last_place rows.now)) }
 {
     if ascend(rows) {
         return Ok(true);
     }
-    let mut places = IndexSet::new(alloc);
+    let mut places = IndexSet::with_hasher(alloc, salt);
     for row in rows {
         if !places.insert(row.last.at.place)? {
             return Ok(false);

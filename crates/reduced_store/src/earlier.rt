@@ -8,12 +8,13 @@ use indexmap::IndexMap;
 use reach_rows::Mark;
 use std::alloc::Global;
 use std::marker::Model;
+use table_salt::Salt;
 
 /// The earlier last marks of the rows that were extended since the last commit. A row is listed
 /// once, however often it is extended.
 #[derive(Drop)]
 pub struct Earlier {
-    marks: IndexMap<u64, Mark>,
+    marks: IndexMap<u64, Mark, Salt>,
 }
 
 impl Model for Earlier {
@@ -27,12 +28,17 @@ impl Model for Earlier {
 
 impl Earlier {
     /// No row is listed.
-    pub fn new(alloc: Global) -> Earlier
+    pub fn new(alloc: Global, salt: Salt) -> Earlier
         ensures { (i : ℕ) → mark_at result.all i ≡ None }
     {
         Earlier {
-            marks: IndexMap::new(alloc),
+            marks: IndexMap::with_hasher(alloc, salt),
         }
+    }
+
+    /// What its hashes begin with, for further tables of the same run.
+    pub fn salt(&self) -> Salt {
+        *self.marks.hasher()
     }
 
     /// Makes room for this many more rows.

@@ -15,6 +15,7 @@ use batch_log::{Batch, BatchLog, LogFault, listed_batches_have_their_payloads, r
 use flow_base::Limits;
 use outside::Disk;
 use std::alloc::Global;
+use table_salt::Salt;
 
 /// What reading a disk finds: its log, the place of its last batch's gate, if it has a batch, and what
 /// its store holds.
@@ -31,6 +32,7 @@ pub struct StoreRead {
 /// store, and else, if two rows have one last place, that of the last batch's gate.
 pub fn read_store<D: Disk>(
     alloc: Global,
+    salt: Salt,
     limits: &Limits,
     disk: &mut D,
 ) -> Result<StoreRead, LogFault>
@@ -56,7 +58,7 @@ pub fn read_store<D: Disk>(
     listed_batches_have_their_payloads();
     keep_freed(alloc);
     let (log, batches) = BatchLog::open_on(alloc, limits, disk)?;
-    let found = read_batches(alloc, limits, disk, batches.as_slice())?;
+    let found = read_batches(alloc, salt, limits, disk, batches.as_slice())?;
     let last = last_gate(batches.as_slice());
     match unless_lawful(last, &found.rows) {
         Some(place) => Err(LogFault::BadStore(place)),
@@ -93,6 +95,7 @@ fn last_gate(batches: &[Batch]) -> Option<u64>
 // Reads the batches of a disk.
 fn read_batches<D: Disk>(
     alloc: Global,
+    salt: Salt,
     limits: &Limits,
     disk: &mut D,
     batches: &[Batch],
@@ -112,7 +115,7 @@ fn read_batches<D: Disk>(
     ensures uses { UsesDisk D.state D.faults D.spent disk.old disk.new
         (IsErrOf result fault.StoreFault) }
 {
-    let mut reading = Reading::new(alloc);
+    let mut reading = Reading::new(alloc, salt);
     for batch in batches {
         let payload = read_payload(alloc, disk, *batch)?;
         if !reading.take(alloc, limits, payload.as_slice())? {

@@ -14,6 +14,7 @@ use reach_model::Mode;
 use row_codec::{Payload, RowRead, StoreRow, payloads_are_apart, read_payload};
 use std::alloc::Global;
 use store_check::StoreCheck;
+use table_salt::Salt;
 
 /// The checker of the batches so far, and their mode.
 #[derive(Drop)]
@@ -25,6 +26,7 @@ pub struct Checked {
 /// What was read so far: the kept rows, the rows of tables, and the rows that close the last batch.
 #[derive(Drop)]
 pub struct Reading {
+    pub salt: Salt,
     pub checked: Option<Checked>,
     pub rows: StoreRows,
     pub tables: List<StoreRow>,
@@ -41,10 +43,11 @@ pub struct Found {
 
 impl Reading {
     /// Before the first payload.
-    pub fn new(alloc: Global) -> Reading
+    pub fn new(alloc: Global, salt: Salt) -> Reading
         ensures { (limits : _) → HasRead (bounds_of limits) [] result }
     {
         Reading {
+            salt,
             checked: None,
             rows: StoreRows::unjudged(alloc),
             tables: List::new(alloc),
@@ -82,7 +85,7 @@ impl Reading {
     {
         payloads_are_apart();
         let Payload { mode, rows } = payload;
-        let Some(check) = check_for(alloc, limits, self.checked.take(), mode) else {
+        let Some(check) = check_for(alloc, self.salt, limits, self.checked.take(), mode) else {
             return Ok(false);
         };
         let Some(check) = check.take(rows.as_slice())? else {
@@ -103,12 +106,13 @@ impl Reading {
             → IsFound (bounds_of limits.now) payloads found) }
     {
         let Reading {
+            salt,
             checked,
             mut rows,
             mut tables,
             closing,
         } = self;
-        rows.judge(alloc)?;
+        rows.judge(alloc, salt)?;
         move_after(alloc, closing, &mut tables)?;
         let mode = mode_of(&checked);
         Ok(Found {
@@ -132,6 +136,7 @@ fn mode_of(checked: &Option<Checked>) -> Option<Mode>
 // The checker for a batch of this mode after those so far, or none if they are of another mode.
 fn check_for(
     alloc: Global,
+    salt: Salt,
     limits: &Limits,
     checked: Option<Checked>,
     mode: Mode,
@@ -143,7 +148,7 @@ fn check_for(
         × IsChecker (bounds_of limits.now) mode (all_of batches) check) }
 {
     match checked {
-        None => Some(StoreCheck::new(alloc, limits, mode)),
+        None => Some(StoreCheck::new(alloc, salt, limits, mode)),
         Some(checked) => {
             let Checked { mode: kept, check } = checked;
             if is_same(kept, mode) {

@@ -28,6 +28,7 @@ use row_codec::{KeptRow, StoreRow};
 use std::alloc::Global;
 use std::marker::Model;
 use std::sync::ledger::Ledger;
+use table_salt::Salt;
 
 /// The rows of a store.
 #[derive(Drop)]
@@ -115,12 +116,12 @@ impl StoreRows {
     }
 
     /// Judges rows that are in order: they are lawful if no two of them have one last place.
-    pub(crate) fn judge(&mut self, alloc: Global) -> Result<(), NoMemory>
+    pub(crate) fn judge(&mut self, alloc: Global, salt: Salt) -> Result<(), NoMemory>
         requires { AreInOrder self.old.rows }
         ensures rows { self.new.rows ≡ self.old.rows }
         ensures lawful { OnOk result ((self.new.lawful ≡ true) ↔ AreApart self.old.rows) }
     {
-        self.lawful = are_apart(alloc, self.rows.as_slice())?;
+        self.lawful = are_apart(alloc, salt, self.rows.as_slice())?;
         Ok(())
     }
 

@@ -33,6 +33,7 @@ use row_codec::{StoreRow, write_payload};
 use std::alloc::Global;
 use std::marker::Model;
 use std::sync::ledger::Ledger;
+use table_salt::Salt;
 
 /// A store on a disk: the log of the disk's batches, and the rows. Of the rows it is known what they
 /// were at the last commit: how many there were, and the last marks of those that were extended since.
@@ -74,6 +75,7 @@ impl<D: Disk> Store<D> {
     /// without a batch is a store of any mode.
     pub fn open_on(
         alloc: Global,
+        salt: Salt,
         limits: &Limits,
         asked: Option<Mode>,
         disk: D,
@@ -106,8 +108,8 @@ impl<D: Disk> Store<D> {
             (IsBlamed result) }
     {
         let mut disk = disk;
-        match read_store(alloc, limits, &mut disk) {
-            Ok(read) => admit(alloc, asked, read, disk),
+        match read_store(alloc, salt, limits, &mut disk) {
+            Ok(read) => admit(alloc, salt, asked, read, disk),
             Err(fault) => Err(Unopened {
                 fault: refusal_of(fault),
                 disk,
@@ -237,7 +239,7 @@ impl<D: Disk> Store<D> {
         match self.log.commit(&mut self.disk, payload) {
             Ok(()) => {
                 self.count = self.rows.count();
-                self.earlier = Earlier::new(alloc);
+                self.earlier = Earlier::new(alloc, self.earlier.salt());
                 Ok(())
             }
             Err(fault) => Err(fault),
@@ -367,6 +369,7 @@ impl<D: Disk> Keep for Store<D> {
 // Makes a store of what was found, unless it is of another mode than was asked for.
 fn admit<D: Disk>(
     alloc: Global,
+    salt: Salt,
     asked: Option<Mode>,
     read: StoreRead,
     disk: D,
@@ -391,7 +394,7 @@ fn admit<D: Disk>(
                 disk,
                 count: rows.count(),
                 rows,
-                earlier: Earlier::new(alloc),
+                earlier: Earlier::new(alloc, salt),
             };
             Ok(Opened {
                 store,

@@ -19,13 +19,14 @@ use reach_rows::{Mark, Row, RowFault};
 use row_codec::{ExtendRow, KeptRow};
 use std::alloc::Global;
 use std::marker::Model;
+use table_salt::Salt;
 
 /// Where the rows of a store stand on its disk, and the blocks of it that were read lately.
 #[derive(Drop)]
 pub struct SavedRows {
     runs: Vec<Run>,
     count: u64,
-    ends: IndexMap<u64, u64>,
+    ends: IndexMap<u64, u64, Salt>,
     cache: BlockCache,
 }
 
@@ -51,7 +52,7 @@ impl Model for SavedRows {
 
 impl SavedRows {
     /// No rows, of a disk whose bytes before the place `firm` don't change.
-    pub fn new(alloc: Global, firm: u64) -> Result<SavedRows, NoMemory>
+    pub fn new(alloc: Global, salt: Salt, firm: u64) -> Result<SavedRows, NoMemory>
         ensures none { IfOk result (λ saved. (bytes : List ℕ) → HasRows bytes saved []) }
         ensures count { IfOk result (λ saved. saved.count ≡ 0) }
         ensures cache { IfOk result (λ saved. (bytes : List ℕ) → IsCacheOf bytes saved.cache) }
@@ -61,7 +62,7 @@ impl SavedRows {
         Ok(SavedRows {
             runs: Vec::new(alloc),
             count: 0,
-            ends: IndexMap::new(alloc),
+            ends: IndexMap::with_hasher(alloc, salt),
             cache,
         })
     }

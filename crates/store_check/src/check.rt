@@ -22,6 +22,7 @@ use reach_model::Mode;
 use row_codec::{ExtendRow, KeptRow, StateRow, StoreRow};
 use std::alloc::Global;
 use std::marker::Model;
+use table_salt::Salt;
 
 /// A checker, which stands for the rows of the batches taken so far.
 ///
@@ -33,13 +34,13 @@ pub struct StoreCheck {
     line: usize,
     shown: usize,
     mode: Mode,
-    keys: IndexSet<Key>,
+    keys: IndexSet<Key, Salt>,
     seen: u32,
     top: Option<Stamp>,
-    into: IndexMap<u32, u64>,
-    out: IndexMap<u32, u64>,
+    into: IndexMap<u32, u64, Salt>,
+    out: IndexMap<u32, u64, Salt>,
     lasts: Vec<Stamp>,
-    lives: IndexMap<u32, Life>,
+    lives: IndexMap<u32, Life, Salt>,
     place: Option<u64>,
     time: Option<u64>,
     act: Option<u64>,
@@ -75,7 +76,7 @@ impl Model for StoreCheck {
 
 impl StoreCheck {
     /// A checker of a store of this mode, before its first batch.
-    pub fn new(alloc: Global, limits: &Limits, mode: Mode) -> StoreCheck
+    pub fn new(alloc: Global, salt: Salt, limits: &Limits, mode: Mode) -> StoreCheck
         ensures bounds { result.bounds ≡ bounds_of limits.now }
         ensures mode { result.mode ≡ mode }
         ensures stands { StandsFor result [] }
@@ -86,13 +87,13 @@ impl StoreCheck {
             line: limits.line,
             shown: limits.shown,
             mode,
-            keys: IndexSet::new(alloc),
+            keys: IndexSet::with_hasher(alloc, salt),
             seen: 0,
             top: None,
-            into: IndexMap::new(alloc),
-            out: IndexMap::new(alloc),
+            into: IndexMap::with_hasher(alloc, salt),
+            out: IndexMap::with_hasher(alloc, salt),
             lasts: Vec::new(alloc),
-            lives: IndexMap::new(alloc),
+            lives: IndexMap::with_hasher(alloc, salt),
             place: None,
             time: None,
             act: None,

@@ -40,6 +40,7 @@ use reduced_store::{Opened, Store, a_store_reads_in_one_way, what_is_found_was_s
 use report_json::Ask;
 use row_codec::payloads_are_apart;
 use std::alloc::Global;
+use table_salt::Salt;
 
 /// How a log is taken into a store.
 #[derive(Clone, Copy, Debug, PartialEq, Eq)]
@@ -58,6 +59,7 @@ pub enum Taking {
 /// fewer of them is a short one.
 pub fn extend<D: Disk, L: Source, Q: Source, O: Sink>(
     alloc: Global,
+    salt: Salt,
     limits: &Limits,
     mode: Mode,
     taking: Taking,
@@ -108,18 +110,21 @@ pub fn extend<D: Disk, L: Source, Q: Source, O: Sink>(
         (IsErrOf result.outcome (over.Run halt.StoreFault)) }
 {
     a_store_reads_in_one_way();
-    match Store::open_on(alloc, limits, Some(mode), disk) {
+    match Store::open_on(alloc, salt, limits, Some(mode), disk) {
         Err(back) => Ran {
             outcome: Err(halt_of_open(back.fault)),
             disk: back.disk,
         },
-        Ok(opened) => extend_opened(alloc, limits, mode, taking, opened, log, questions, out),
+        Ok(opened) => extend_opened(
+            alloc, salt, limits, mode, taking, opened, log, questions, out,
+        ),
     }
 }
 
 // Takes a log into an opened store.
 fn extend_opened<D: Disk, L: Source, Q: Source, O: Sink>(
     alloc: Global,
+    salt: Salt,
     limits: &Limits,
     mode: Mode,
     taking: Taking,
@@ -175,6 +180,7 @@ fn extend_opened<D: Disk, L: Source, Q: Source, O: Sink>(
         Mode::Plain => {
             extend_with(
                 alloc,
+                salt,
                 limits,
                 Plain::new(),
                 taking,
@@ -185,16 +191,22 @@ fn extend_opened<D: Disk, L: Source, Q: Source, O: Sink>(
             )
         }
         Mode::Continuous => {
-            let tables = Continuous::new(alloc);
-            extend_with(alloc, limits, tables, taking, opened, log, questions, out)
+            let tables = Continuous::new(alloc, salt);
+            extend_with(
+                alloc, salt, limits, tables, taking, opened, log, questions, out,
+            )
         }
         Mode::Full => {
-            let tables = reduce_full::Full::new(alloc);
-            extend_with(alloc, limits, tables, taking, opened, log, questions, out)
+            let tables = reduce_full::Full::new(alloc, salt);
+            extend_with(
+                alloc, salt, limits, tables, taking, opened, log, questions, out,
+            )
         }
         Mode::Source => {
             let tables = Sources::new(alloc);
-            extend_with(alloc, limits, tables, taking, opened, log, questions, out)
+            extend_with(
+                alloc, salt, limits, tables, taking, opened, log, questions, out,
+            )
         }
     }
 }
@@ -202,6 +214,7 @@ fn extend_opened<D: Disk, L: Source, Q: Source, O: Sink>(
 // Takes a log into an opened store, by new tables of its mode.
 fn extend_with<R: Reducer + Drop, D: Disk, L: Source, Q: Source, O: Sink>(
     alloc: Global,
+    salt: Salt,
     limits: &Limits,
     tables: R,
     taking: Taking,
@@ -259,7 +272,7 @@ fn extend_with<R: Reducer + Drop, D: Disk, L: Source, Q: Source, O: Sink>(
     payloads_are_apart();
     what_can_commit_still_can::<D>();
     what_is_found_was_stored();
-    match Ingest::restore(alloc, limits, tables, opened) {
+    match Ingest::restore(alloc, salt, limits, tables, opened) {
         Err(back) => Ran {
             outcome: Err(halt_of_restore(back.why)),
             disk: back.keep.into_disk(),

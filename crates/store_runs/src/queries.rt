@@ -29,11 +29,13 @@ use reduce_continuous::Continuous;
 use reduce_source::Sources;
 use reduced_store::{Opened, Store, a_store_reads_in_one_way, what_is_found_was_stored};
 use std::alloc::Global;
+use table_salt::Salt;
 
 /// Opens a disk as a store, and answers questions over what it has. It takes no log, and leaves the disk
 /// as it is.
 pub fn query<D: Disk, Q: Source, O: Sink>(
     alloc: Global,
+    salt: Salt,
     limits: &Limits,
     questions: &mut Q,
     out: &mut O,
@@ -59,18 +61,19 @@ pub fn query<D: Disk, Q: Source, O: Sink>(
         (IsErrOf result.outcome (over.Run halt.StoreFault)) }
 {
     a_store_reads_in_one_way();
-    match Store::open_on(alloc, limits, None, disk) {
+    match Store::open_on(alloc, salt, limits, None, disk) {
         Err(back) => Ran {
             outcome: Err(halt_of_open(back.fault)),
             disk: back.disk,
         },
-        Ok(opened) => query_opened(alloc, limits, opened, questions, out),
+        Ok(opened) => query_opened(alloc, salt, limits, opened, questions, out),
     }
 }
 
 // Answers questions over an opened store.
 fn query_opened<D: Disk, Q: Source, O: Sink>(
     alloc: Global,
+    salt: Salt,
     limits: &Limits,
     opened: Opened<D>,
     questions: &mut Q,
@@ -99,25 +102,35 @@ fn query_opened<D: Disk, Q: Source, O: Sink>(
             outcome: Err(StoreHalt::BadStore(0)),
             disk: opened.store.into_disk(),
         },
-        Some(Mode::Plain) => query_with(alloc, limits, Plain::new(), opened, questions, out),
+        Some(Mode::Plain) => query_with(alloc, salt, limits, Plain::new(), opened, questions, out),
         Some(Mode::Continuous) => query_with(
             alloc,
+            salt,
             limits,
-            Continuous::new(alloc),
+            Continuous::new(alloc, salt),
             opened,
             questions,
             out,
         ),
         Some(Mode::Full) => query_with(
             alloc,
+            salt,
             limits,
-            reduce_full::Full::new(alloc),
+            reduce_full::Full::new(alloc, salt),
             opened,
             questions,
             out,
         ),
         Some(Mode::Source) => {
-            query_with(alloc, limits, Sources::new(alloc), opened, questions, out)
+            query_with(
+                alloc,
+                salt,
+                limits,
+                Sources::new(alloc),
+                opened,
+                questions,
+                out,
+            )
         }
     }
 }
@@ -125,6 +138,7 @@ fn query_opened<D: Disk, Q: Source, O: Sink>(
 // Answers questions over an opened store, by new tables of its mode.
 fn query_with<R: Reducer + Drop, D: Disk, Q: Source, O: Sink>(
     alloc: Global,
+    salt: Salt,
     limits: &Limits,
     reducer: R,
     opened: Opened<D>,
@@ -153,7 +167,7 @@ fn query_with<R: Reducer + Drop, D: Disk, Q: Source, O: Sink>(
 {
     what_can_commit_still_can::<D>();
     what_is_found_was_stored();
-    match Ingest::restore(alloc, limits, reducer, opened) {
+    match Ingest::restore(alloc, salt, limits, reducer, opened) {
         Err(back) => Ran {
             outcome: Err(halt_of_restore(back.why)),
             disk: back.keep.into_disk(),

@@ -5,6 +5,7 @@ use row_codec::read_payload;
 use std::alloc::Global;
 use std::test::Fail;
 use store_check::StoreCheck;
+use table_salt::Salt;
 
 const ENTITY: &[u8] = b"\x01\x03\x02\0\0\0/a";
 
@@ -36,7 +37,7 @@ fn may_begin(alloc: Global, rows: &[&[u8]]) -> Result<bool, Fail> {
     let batch = read_payload(alloc, payload.as_slice())
         .ok()
         .ok_or("a payload")?;
-    let check = StoreCheck::new(alloc, &Limits::standard(), Mode::Continuous);
+    let check = StoreCheck::new(alloc, Salt::fixed(), &Limits::standard(), Mode::Continuous);
     Ok(check.take(batch.rows.as_slice())?.is_some())
 }
 

@@ -10,6 +10,7 @@ use reduce_continuous::Continuous;
 use report_json::{Ask, FindText, reply_text};
 use std::alloc::Global;
 use std::test::Fail;
+use table_salt::Salt;
 
 /// 100 forks 101, and 101 writes to a descriptor that nobody opened.
 const TWO_FLOWS: &[u8] =
@@ -135,7 +136,13 @@ enum Course {
 
 /// Whether a new engine within these limits goes that course as it should.
 fn goes(alloc: Global, limits: &Limits, course: Course) -> Result<bool, NoMemory> {
-    let mut engine = Ingest::new(alloc, limits, Plain::new(), VecRows::new(alloc));
+    let mut engine = Ingest::new(
+        alloc,
+        Salt::fixed(),
+        limits,
+        Plain::new(),
+        VecRows::new(alloc),
+    );
     goes_on(alloc, &mut engine, course)
 }
 
@@ -412,8 +419,9 @@ fn names_in_a_folder(alloc: Global, engine: &mut Engine) -> Result<bool, NoMemor
 fn keeps_less(alloc: Global) -> Result<bool, NoMemory> {
     let mut engine = Ingest::new(
         alloc,
+        Salt::fixed(),
         &Limits::standard(),
-        Continuous::new(alloc),
+        Continuous::new(alloc, Salt::fixed()),
         VecRows::new(alloc),
     );
     joins_changes(alloc, &mut engine)
@@ -495,7 +503,13 @@ fn a_byte_past_the_limit_stops(rt: HostRuntime) -> Result<(), Fail> {
 
 /// How a run over the log ends within these limits.
 fn stop_of(alloc: Global, limits: &Limits, log: &[u8]) -> Result<(), StopWhy> {
-    let mut engine = Ingest::new(alloc, limits, Plain::new(), VecRows::new(alloc));
+    let mut engine = Ingest::new(
+        alloc,
+        Salt::fixed(),
+        limits,
+        Plain::new(),
+        VecRows::new(alloc),
+    );
     ends(&mut engine, log)
 }
 

@@ -15,6 +15,7 @@ use reduced_store::Store;
 use report_json::{Ask, reply_text};
 use std::alloc::Global;
 use std::test::Fail;
+use table_salt::Salt;
 
 /// An engine that keeps each flow, and puts it on a disk.
 type OverDisk<D> = Ingest<Plain, Store<D>>;
@@ -24,11 +25,11 @@ fn engine_on<D: Disk + Drop>(alloc: Global, disk: D) -> Option<OverDisk<D>>
     ensures { IfSome result (λ engine. CanCommit D.state engine.joined.keep) }
 {
     let limits = Limits::standard();
-    let Ok(opened) = Store::open_on(alloc, &limits, Some(Mode::Plain), disk) else {
+    let Ok(opened) = Store::open_on(alloc, Salt::fixed(), &limits, Some(Mode::Plain), disk) else {
         return None;
     };
     what_can_commit_still_can::<D>();
-    match Ingest::restore(alloc, &limits, Plain::new(), opened) {
+    match Ingest::restore(alloc, Salt::fixed(), &limits, Plain::new(), opened) {
         Ok(engine) => Some(engine),
         Err(_) => None,
     }

@@ -5,6 +5,7 @@ use reach_rows::{First, Mark, Question, Reducer, Row};
 use reduce_full::Full;
 use std::alloc::Global;
 use std::test::Fail;
+use table_salt::Salt;
 
 /// A source and a target.
 type Step = (u32, u32);
@@ -39,7 +40,7 @@ fn row_of(flow: &Flow) -> Row {
 /// Whether each of these flows in turn is kept, by tables that were carried through all of them, and by new tables that
 /// recall the rows each time.
 fn kept(alloc: Global, steps: &[Step]) -> Result<(Vec<bool>, Vec<bool>), NoMemory> {
-    let mut carried = Full::new(alloc);
+    let mut carried = Full::new(alloc, Salt::fixed());
     let mut rows = Vec::new(alloc);
     let mut first = Vec::new(alloc);
     let mut second = Vec::new(alloc);
@@ -62,7 +63,7 @@ fn kept(alloc: Global, steps: &[Step]) -> Result<(Vec<bool>, Vec<bool>), NoMemor
 
 /// New tables that recall these rows.
 fn recalled(alloc: Global, rows: &[Row]) -> Result<Full, NoMemory> {
-    let mut full = Full::new(alloc);
+    let mut full = Full::new(alloc, Salt::fixed());
     for row in rows {
         full.recall(row)?;
     }
@@ -115,7 +116,7 @@ fn a_flow_is_dropped_until_a_flow_enters_its_source(rt: HostRuntime) -> Result<(
 
 #[test]
 fn a_start_after_the_first_flow_is_refused(rt: HostRuntime) -> Result<(), Fail> {
-    let full = Full::new(rt.alloc());
+    let full = Full::new(rt.alloc(), Salt::fixed());
     let first = First {
         at: Stamp { ms: 1000, place: 0 },
         out: true,

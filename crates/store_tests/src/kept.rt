@@ -9,6 +9,7 @@ use reach_rows::{Plain, Question, Reducer, VecRows};
 use reduce_continuous::Continuous;
 use std::alloc::Global;
 use std::test::Fail;
+use table_salt::Salt;
 
 /// A source, a target and a time.
 type Step = (u8, u8, u64);
@@ -132,7 +133,12 @@ fn rows_of_either_mode_answer_for_all_flows(rt: HostRuntime) -> Result<(), Fail>
         return Err(Fail::new("the steps aren't lawful"));
     };
     let mut all = kept_of(alloc, Plain::new(), flows.as_slice(), count)?;
-    let mut merged = kept_of(alloc, Continuous::new(alloc), flows.as_slice(), count)?;
+    let mut merged = kept_of(
+        alloc,
+        Continuous::new(alloc, Salt::fixed()),
+        flows.as_slice(),
+        count,
+    )?;
     assert_eq!(rt; (all.mode(), all.count(), all.known()), (Mode::Plain, 5, 4));
     assert_eq!(rt;
         (merged.mode(), merged.count(), merged.known()),
@@ -154,7 +160,12 @@ fn a_path_over_the_rows_of_either_mode_is_shown(rt: HostRuntime) -> Result<(), F
         return Err(Fail::new("the steps aren't lawful"));
     };
     let mut all = kept_of(alloc, Plain::new(), flows.as_slice(), count)?;
-    let mut merged = kept_of(alloc, Continuous::new(alloc), flows.as_slice(), count)?;
+    let mut merged = kept_of(
+        alloc,
+        Continuous::new(alloc, Salt::fixed()),
+        flows.as_slice(),
+        count,
+    )?;
     // The second write of 0 is a row of its own in plain mode, and goes on with the first one's in continuous mode.
     assert!(rt; leads(alloc, &mut all, (0, 2, None), Some([1, 2].as_slice())));
     assert!(rt; leads(alloc, &mut merged, (0, 2, None), Some([0, 2].as_slice())));
@@ -180,8 +191,16 @@ fn rows_of_an_earlier_run_answer_again(rt: HostRuntime) -> Result<(), Fail> {
     let Some((flows, count)) = lawful_flows(alloc, steps)? else {
         return Err(Fail::new("the steps aren't lawful"));
     };
-    let merged = kept_of(alloc, Continuous::new(alloc), flows.as_slice(), count)?;
-    let Ok(mut again) = KeptFlows::restore(Continuous::new(alloc), merged.into_rows()) else {
+    let merged = kept_of(
+        alloc,
+        Continuous::new(alloc, Salt::fixed()),
+        flows.as_slice(),
+        count,
+    )?;
+    let Ok(mut again) = KeptFlows::restore(
+        Continuous::new(alloc, Salt::fixed()),
+        merged.into_rows(),
+    ) else {
         return Err(Fail::new("the rows aren't restored"));
     };
     assert_eq!(rt;

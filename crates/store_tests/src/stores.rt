@@ -10,6 +10,7 @@ use reduced_store::{OpenFault, Opened, Store};
 use row_codec::{StoreRow, read_row, rows_that_fit_can_be_spelled};
 use std::alloc::Global;
 use std::test::Fail;
+use table_salt::Salt;
 
 const EXAMPLE: [u8; 428] = [
     0xA5, 0xA2, 0x01, 0x00, 0x00, 0x00, 0x00, 0x00, 0x00, 0x41, 0x44, 0x4C, 0x52, 0x01, 0x02, 0x01,
@@ -48,7 +49,7 @@ fn disk_with(alloc: Global, bytes: &[u8]) -> Result<MemDisk, Fail> {
 
 fn example(alloc: Global, asked: Option<Mode>) -> Result<Result<Opened<MemDisk>, OpenFault>, Fail> {
     let disk = disk_with(alloc, EXAMPLE.as_slice())?;
-    match Store::open_on(alloc, &Limits::standard(), asked, disk) {
+    match Store::open_on(alloc, Salt::fixed(), &Limits::standard(), asked, disk) {
         Ok(opened) => Ok(Ok(opened)),
         Err(back) => Ok(Err(back.fault)),
     }
@@ -95,7 +96,7 @@ fn commit_stopped(alloc: Global, left: u64) -> Result<(MemDisk, bool), Fail> {
         left,
         failed: 0,
     };
-    let mut store = match Store::open_on(alloc, &Limits::standard(), None, disk) {
+    let mut store = match Store::open_on(alloc, Salt::fixed(), &Limits::standard(), None, disk) {
         Ok(opened) => opened.store,
         Err(back) => return Ok((back.disk.disk, false)),
     };
@@ -109,7 +110,8 @@ fn a_first_commit_that_stops_leaves_no_batch_or_all_of_it(rt: HostRuntime) -> Re
     let alloc = rt.alloc();
     for left in 0..8 {
         let (disk, done) = commit_stopped(alloc, left)?;
-        let Ok(opened) = Store::open_on(alloc, &Limits::standard(), None, disk) else {
+        let Ok(opened) = Store::open_on(alloc, Salt::fixed(), &Limits::standard(), None, disk)
+        else {
             return Err(Fail::new("a store"));
         };
         let rows = opened.rows.as_slice().len();

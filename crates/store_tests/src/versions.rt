@@ -2,6 +2,7 @@
 use flow_base::{EntityId, Flow, How, NoMemory, Stamp};
 use std::alloc::Global;
 use std::test::Fail;
+use table_salt::Salt;
 use version_graph::Versions;
 
 /// A source and a target.
@@ -9,7 +10,7 @@ type Step = (u32, u32);
 
 /// The versions after these kept flows.
 fn versions_of(alloc: Global, steps: &[Step]) -> Result<Versions, NoMemory> {
-    let mut versions = Versions::new(alloc);
+    let mut versions = Versions::new(alloc, Salt::fixed());
     for (from, to) in steps {
         let flow = Flow {
             from: EntityId(*from),

@@ -5,6 +5,7 @@ ghost use Rattle.indexmap.specs.IndexMap.{get, spare};
 ghost use Rattle.version_graph.specs.Tables.{version_or};
 
 use indexmap::IndexMap;
+use table_salt::Salt;
 
 /// The number of a version, and whether a flow has left it.
 #[derive(Clone, Copy, Debug, PartialEq, Eq)]
@@ -42,7 +43,7 @@ fn entered(current: Version) -> Version
 }
 
 /// Takes in a flow into an object, in the room that was made for it.
-pub fn enter(objects: &mut IndexMap<u32, Version>, object: u32)
+pub fn enter(objects: &mut IndexMap<u32, Version, Salt>, object: u32)
     requires { 1 ≤ spare objects.old }
     ensures numbers { (version_or (get nat_eq objects.old object)).number < 2 ^ 64 - 1
         → (x : ℕ) → (version_or (get nat_eq objects.new x)).number ≡ (version_or (get nat_eq objects.old x)).number + cond ((object == x) && (version_or (get nat_eq objects.old x)).sealed) 1 0 }
@@ -54,7 +55,7 @@ pub fn enter(objects: &mut IndexMap<u32, Version>, object: u32)
 }
 
 /// Takes in a flow out of an object, in the room that was made for it, and gives the number of the version that it leaves.
-pub fn leave(objects: &mut IndexMap<u32, Version>, object: u32) -> u64
+pub fn leave(objects: &mut IndexMap<u32, Version, Salt>, object: u32) -> u64
     requires { 1 ≤ spare objects.old }
     ensures left { result ≡ (version_or (get nat_eq objects.new object)).number }
     ensures numbers { (x : ℕ) → (version_or (get nat_eq objects.new x)).number ≡ (version_or (get nat_eq objects.old x)).number }
@@ -71,7 +72,7 @@ pub fn leave(objects: &mut IndexMap<u32, Version>, object: u32) -> u64
 }
 
 /// Sets the current version of an object, in the room that was made for it.
-fn set_version(objects: &mut IndexMap<u32, Version>, object: u32, version: Version)
+fn set_version(objects: &mut IndexMap<u32, Version, Salt>, object: u32, version: Version)
     requires { 1 ≤ spare objects.old }
     ensures here { version_or (get nat_eq objects.new object) ≡ version }
     ensures others { (x : ℕ) → object ≢ x → get nat_eq objects.new x ≡ get nat_eq objects.old x }

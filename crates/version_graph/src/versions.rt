@@ -11,22 +11,23 @@ use crate::version::{Version, current_of, enter, leave};
 use flow_base::{EntityId, Flow, NoMemory};
 use indexmap::IndexMap;
 use std::alloc::Global;
+use table_salt::Salt;
 
 /// The current version of each object, and the version that the last flow of each pair left.
 #[derive(Drop)]
 pub struct Versions {
-    objects: IndexMap<u32, Version>,
-    links: IndexMap<(u32, u32), u64>,
+    objects: IndexMap<u32, Version, Salt>,
+    links: IndexMap<(u32, u32), u64, Salt>,
 }
 
 impl Versions {
     /// The tables of no flows.
-    pub fn new(alloc: Global) -> Versions
+    pub fn new(alloc: Global, salt: Salt) -> Versions
         ensures { StandsFor result [] }
     {
         Versions {
-            objects: IndexMap::new(alloc),
-            links: IndexMap::new(alloc),
+            objects: IndexMap::with_hasher(alloc, salt),
+            links: IndexMap::with_hasher(alloc, salt),
         }
     }
 
@@ -78,7 +79,7 @@ impl Versions {
 }
 
 /// Sets the version that a pair left, in the room that was made for it.
-fn set_link(links: &mut IndexMap<(u32, u32), u64>, pair: (u32, u32), left: u64)
+fn set_link(links: &mut IndexMap<(u32, u32), u64, Salt>, pair: (u32, u32), left: u64)
     requires { 1 ≤ spare links.old }
     ensures here { get pair_eq links.new pair ≡ Some left }
     ensures others { (u v : ℕ) → ¬ ((pair.0 ≡ u) × (pair.1 ≡ v)) → get pair_eq links.new (u, v) ≡ get pair_eq links.old (u, v) }

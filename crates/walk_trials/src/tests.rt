@@ -9,6 +9,7 @@ use reach_rows::{Mark, Plain, Reducer, Row};
 use reduce_continuous::Continuous;
 use std::alloc::Global;
 use std::test::Fail;
+use table_salt::Salt;
 
 /// A source, a target and a time.
 type Step = (u32, u32, u64);
@@ -316,7 +317,7 @@ fn merged_rows_answer_as_all_flows_do(rt: HostRuntime) -> Result<(), Fail> {
     ];
     for (steps, kept) in cases {
         let plain = rows_of(alloc, &mut Plain::new(), steps)?;
-        let merged = rows_of(alloc, &mut Continuous::new(alloc), steps)?;
+        let merged = rows_of(alloc, &mut Continuous::new(alloc, Salt::fixed()), steps)?;
         assert_eq!(rt; plain.len(), steps.len());
         assert_eq!(rt; merged.len(), kept);
         let mut plain = Table::new(alloc, plain, 3)?;

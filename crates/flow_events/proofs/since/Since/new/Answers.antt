@@ -9,5 +9,5 @@ returns c = λ before is. record {
   files_are = search rules;
   sockets_are = search rules;
   slots_are = search rules;
-  puts_are = puts_at_mark c.new-5.result before;
+  puts_are = puts_at_mark c.new-2.result before;
 }
