@@ -6,11 +6,16 @@
 //! it is asked for, through a cache of blocks.
 #![tactic(auto)]
 
+mod disk_rows;
 mod laws;
 mod reading;
+mod remembered;
 mod runs;
 mod saved;
+mod settling;
 
+pub use disk_rows::DiskRows;
 pub use laws::{rows_of_a_payload_stand_in_a_row, saved_rows_outlive_commits};
+pub use remembered::Remembered;
 pub use runs::Run;
 pub use saved::SavedRows;
