@@ -2,10 +2,13 @@
 use Rattle.std.proofs.Common.{◌≡◌, ◌≢◌, ◌∙◌, ℕ, zero, suc, ◌+◌, ◌-◌, ◌<◌, ◌≤◌, List, [], ◌∷◌, ◌++◌, length, get_or, Option, Some, None, refl, sym, ap, subst, arith}
 use Rattle.std.proofs.lemmas.List.{append_assoc, get_or_append_left, length-append}
 use Rattle.std.proofs.Math.Seq.{get_or-append_right}
+use Rattle.block_cache.specs.Cached.{Cached}
 use Rattle.reach_rows.specs.declared.rows.Mark.{Mark}
 use Rattle.reach_rows.specs.declared.rows.Row.{Row}
 use Rattle.saved_rows.specs.Joining.{renew, renew_from}
 use Rattle.saved_rows.specs.Remembered.{with_mark}
+use Rattle.saved_rows.specs.Runs.{place_in}
+use Rattle.saved_rows.specs.Saved.{HasLast, HasRows, IsSpelledAt, Saved, as_kept, end_of}
 
 pub renew_long : (find : ℕ → Option Mark) (i : ℕ) (R : List Row) → length (renew_from find i R) ≡ length R
 renew_long find i [] = refl
@@ -61,6 +64,7 @@ pub now_recent : (find : ℕ → Option Mark) (kept recent : List Row) (i : ℕ)
     → row ≡ get_or recent (i - length kept) d → renew (find i) row ≡ get_or (renew_from find 0 (kept ++ recent)) i d
 now_recent find kept recent i d row from below is =
     ap (renew (find i)) (is ∙ sym (get_or-append_right kept recent i d from))
+    ∙ ap (λ (n : ℕ). renew (find n) (get_or (kept ++ recent) i d)) (let e : i ≡ 0 + i = omega arith in e)
     ∙ sym (renew_at find 0 i (kept ++ recent) d (omega (arith, below, length-append kept recent)))
 
 -- the row at an index, which is one of the last commit
@@ -68,8 +72,25 @@ pub now_kept : (find : ℕ → Option Mark) (kept recent : List Row) (i : ℕ) (
     → row ≡ get_or kept i d → renew (find i) row ≡ get_or (renew_from find 0 (kept ++ recent)) i d
 now_kept find kept recent i d row below is =
     ap (renew (find i)) (is ∙ sym (get_or_append_left kept recent d i below))
+    ∙ ap (λ (n : ℕ). renew (find n) (get_or (kept ++ recent) i d)) (let e : i ≡ 0 + i = omega arith in e)
     ∙ sym (renew_at find 0 i (kept ++ recent) d (omega (arith, below, length-append kept recent)))
 
 -- how many rows there are now
 pub now_long : (find : ℕ → Option Mark) (kept recent : List Row) → length (renew_from find 0 (kept ++ recent)) ≡ length kept + length recent
 now_long find kept recent = renew_long find 0 (kept ++ recent) ∙ length-append kept recent
+
+-- ---- the disk that was only looked at
+
+rows_seen : (bytes : List ℕ) (saved : Saved) (cache : Cached) (R : List Row) → cache.firm ≡ saved.cache.firm → HasRows bytes saved R → HasRows bytes (record saved { cache = cache }) R
+rows_seen bytes saved cache R firm has = record {
+  all = has.all;
+  kept = λ i k d e h is. subst (λ (f : ℕ). IsSpelledAt bytes f (place_in (get_or saved.runs k e) i) (as_kept (get_or R i d))) (sym firm) (has.kept i k d e h is);
+  last = λ i d h. subst (λ (f : ℕ). HasLast bytes f i (get_or R i d) (end_of saved.ends i)) (sym firm) (has.last i d h);
+  listed = has.listed;
+}
+
+pub still_on : (old new : List ℕ) (saved next : Saved) (R : List Row) → new ≡ old → next ≡ record saved { cache = next.cache } → next.cache.firm ≡ saved.cache.firm
+    → HasRows old saved R → HasRows new next R
+still_on old new saved next R bytes same firm has =
+    subst (λ (s : Saved). HasRows new s R) (sym same)
+    (subst (λ (b : List ℕ). HasRows b (record saved { cache = next.cache }) R) (sym bytes) (rows_seen old saved next.cache R firm has))

@@ -4,3 +4,4 @@ pub mod RowLemmas
 pub mod WalkLemmas
 pub mod JoinLemmas
 pub mod SettleLemmas
+pub mod ExtendLemmas

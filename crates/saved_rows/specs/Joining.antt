@@ -1,6 +1,6 @@
 -- Rows of a store: those of its last commit, which its disk has, and those since.
-use Rattle.std.specs.Prelude.{◌≡◌, ℕ, zero, suc, ◌+◌, ◌≤◌, ◌^◌, List, [], ◌∷◌, ◌++◌, length, fold, map, Option, Some, None, nat_eq}
-use Rattle.std.specs.List.{All}
+use Rattle.std.specs.Prelude.{◌≡◌, ℕ, suc, ◌+◌, ◌<◌, ◌≤◌, ◌^◌, ⊤, List, [], ◌∷◌, ◌++◌, length, fold, map, Option, Some, None, nat_eq, is_some}
+use Rattle.std.specs.List.{All, AllByRecursion, list_any}
 use Rattle.std.specs.Map.{lookup}
 use Rattle.block_cache.specs.Cached.{IsCacheOf}
 use Rattle.reach_rows.specs.declared.rows.Mark.{Mark}
@@ -58,6 +58,26 @@ pub record AreTied (saved : Saved) (kept recent : List Row) (renewed : List (ℕ
 -- the rows, once these Extend rows were read in order
 abbrev pub with_extends : List Row → List ExtendRow → List Row
 with_extends R extends = fold (λ S e. with_mark e.row e.mark S) R extends
+
+-- the Extend row of a row that has another last mark
+abbrev pub extend_of : Option Mark → ℕ → List ExtendRow
+extend_of None i = []
+extend_of (Some mark) i = record { row = i; mark = mark } ∷ []
+
+-- the Extend rows of rows from this index on, ascending
+abbrev pub extends_in : (ℕ → Option Mark) → ℕ → List Row → List ExtendRow
+extends_in find i [] = []
+extends_in find i (r ∷ R) = extend_of (find i) i ++ extends_in find (suc i) R
+
+-- each of these numbers is less than those after it
+abbrev pub Ascend : List ℕ → Type 0
+Ascend [] = ⊤
+Ascend (i ∷ is) = AllByRecursion (λ j. i < j) is × Ascend is
+
+-- these are the indexes of rows that have another last mark, ascending
+pub record AreListed (find : ℕ → Option Mark) (rows : List ℕ) : Type 0 where
+  pub ascend : Ascend rows
+  pub each : (i : ℕ) → list_any (nat_eq i) rows ≡ is_some (find i)
 
 -- the Kept rows of rows, and after them Extend rows
 abbrev pub batch_rows : List Row → List ExtendRow → List StoreRow

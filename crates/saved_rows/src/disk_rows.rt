@@ -1,5 +1,5 @@
 //! The rows of a store: those of its last commit, read from its disk, and those since, in memory.
-ghost use Rattle.std.specs.Prelude.{◌≡◌, ◌≤◌, ◌<◌, ◌+◌, ◌*◌, ◌++◌, ◌∷◌, ◌^◌, ℕ, List, [], None, length, map, slice_index_or, IfOk, IsErrOf, OnOk};
+ghost use Rattle.std.specs.Prelude.{◌≡◌, ◌≤◌, ◌<◌, ◌+◌, ◌*◌, ◌++◌, ◌∷◌, ◌^◌, ℕ, List, [], None, length, slice_index_or, IfOk, IsErrOf, OnOk};
 ghost use Rattle.std.specs.List.{All};
 ghost use Rattle.outside.specs.Disk.{OnlyLooks, UsesDisk};
 ghost use Rattle.reach_rows.specs.declared.rows.Row.{Row as ARow};
@@ -7,15 +7,16 @@ ghost use Rattle.reach_rows.specs.declared.rows.RowFault.TheVariants as fault;
 ghost use Rattle.row_codec.specs.declared.rows.ExtendRow.{ExtendRow as AnExtendRow};
 ghost use Rattle.saved_rows.specs.Remembered.{with_mark};
 ghost use Rattle.saved_rows.specs.Saved.{AreSpelledFrom, Gives, IsSingle, SameRows};
-ghost use Rattle.saved_rows.specs.Joining.{AreOn, MOST as most, mark_in, renew, rows_now, with_cache_of, with_extends, batch_rows};
+ghost use Rattle.saved_rows.specs.Joining.{AreOn, MOST as most, mark_in, renew, rows_now, with_cache_of, with_extends, extends_in, batch_rows};
 
+use crate::extending::extend_rows;
 use crate::laws::saved_rows_outlive_commits;
 use crate::reading::KEPT;
 use crate::remembered::Remembered;
 use crate::saved::SavedRows;
 use crate::settling::{put_extends, remember};
 use block_cache::caches_outlive_commits;
-use flow_base::NoMemory;
+use flow_base::{List, NoMemory};
 use indexmap::IndexMap;
 use outside::Disk;
 use reach_rows::{Mark, Row, RowFault};
@@ -159,6 +160,28 @@ impl DiskRows {
         }
     }
 
+    /// The Extend rows of the rows that were extended since the last commit, ascending. They make of the
+    /// Kept rows what the rows are now.
+    pub fn extends(&self, alloc: Global) -> Result<List<ExtendRow>, NoMemory>
+        ensures each { IfOk result (λ extends. extends
+            ≡ extends_in (mark_in self.now.renewed) 0 (self.now.kept ++ self.now.recent)) }
+        ensures now { IfOk result (λ extends.
+            with_extends (self.now.kept ++ self.now.recent) extends ≡ rows_now self.now) }
+        ensures known { IfOk result (All (λ e. e.row < length (rows_now self.now))) }
+    {
+        let _ = &self.kept;
+        extend_rows(alloc, &self.renewed)
+    }
+
+    /// The rows since the last commit, as their Kept rows say them.
+    pub fn recent(&self) -> &[Row]
+        ensures rows { result.now ≡ self.now.recent }
+        ensures single { All IsSingle result.now }
+    {
+        let _ = &self.kept;
+        self.recent.as_slice()
+    }
+
     /// Makes room for the batch that has the rows since the last commit, with this many Extend rows.
     pub fn reserve_batch(&mut self, extends: usize) -> Result<(), NoMemory>
         ensures room { OnOk result ((1 ≤ self.new.saved.runs_room)
@@ -191,7 +214,10 @@ impl DiskRows {
         let count = self.recent.len() as u64;
         self.saved.raise(firm);
         self.saved.add_kept(place, count);
-        let kept = remember(replace(&mut self.kept, Remembered::none()), self.recent.as_slice());
+        let kept = remember(
+            replace(&mut self.kept, Remembered::none()),
+            self.recent.as_slice(),
+        );
         self.kept = put_extends(&mut self.saved, kept, place + KEPT as u64 * count, extends);
         self.recent = Vec::new(alloc);
         self.renewed = IndexMap::new(alloc);

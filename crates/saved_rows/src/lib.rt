@@ -7,6 +7,7 @@
 #![tactic(auto)]
 
 mod disk_rows;
+mod extending;
 mod laws;
 mod reading;
 mod remembered;
