@@ -1,4 +1,4 @@
-use Rattle.std.proofs.Common.{◌∙◌, sym, subst}
+use Rattle.std.proofs.Common.{◌∙◌, sym, subst, arith}
 use Rattle.saved_rows.specs.Joining.{AreListed, extend_of, mark_in}
 use Rattle.saved_rows.proofs.ExtendLemmas.{extends_all, extends_more, from_zero, listed_extends}
 use Rattle.saved_rows.proofs.extending.extend_rows.Goals as goal
@@ -14,4 +14,4 @@ returns c = λ R ends.
     let ks = c.deref-row-items.result.now in
     let are = subst (AreListed find) (sym c.deref-row-items.ensures.value) c.in_ok-listed.ensures in
     extends_all (λ k. extend_of (find k) k) ks c.loop-row.row-index c.loop-row.extends c.loop-row-test.false c.loop-row.invariant
-    ∙ sym (listed_extends find 0 R ks are.ascend (from_zero ks) (λ j le. are.each j) ends)
+    ∙ sym (listed_extends find 0 R ks are.ascend (from_zero ks) (λ j le. are.each j) (λ j le. ends j (omega (arith, le))))

@@ -1,7 +1,7 @@
 use Rattle.std.proofs.Common.{◌≡◌, ◌∙◌, ◌<◌, ◌≤◌, ◌+◌, ◌-◌, length, get_or, ap, sym, subst, arith}
 use Rattle.std.proofs.lemmas.List.{get_or_default}
 use Rattle.block_cache.specs.Cached.{IsCacheOf}
-use Rattle.saved_rows.specs.Joining.{Joined, mark_in, rows_now}
+use Rattle.saved_rows.specs.Joining.{Joined, mark_in, renew, rows_now}
 use Rattle.saved_rows.specs.Saved.{HasRows}
 use Rattle.saved_rows.proofs.JoinLemmas.{now_kept, now_long, now_recent, still_on}
 use Rattle.saved_rows.proofs.RowLemmas.{fault_same}
@@ -27,6 +27,7 @@ returns-then-index-count-clause-exact g c = λ told d.
     let within : i - length kept < length recent = omega (arith, counted, all, c.requires.index, c.if-index-count.true) in
     let here : row ≡ get_or recent (i - length kept) d = c.index-row.ensures ∙ ap (λ n. get_or recent (i - n) row) counted ∙ get_or_default recent (i - length kept) row d within in
     c.renewed_row.ensures
+    ∙ ap (λ (j : Joined). renew (mark_in j.renewed i) row) (sym c.self.view_is)
     ∙ now_recent (mark_in a.renewed.entries) kept recent i d c.index-row.result.now (omega (arith, counted, c.if-index-count.true)) (omega (arith, all, c.requires.index)) here
     ∙ ap (λ (j : Joined). get_or (rows_now j) i d) c.self.view_is
 
