@@ -28,8 +28,8 @@ use std::mem::replace;
 /// How many rows there are at most.
 const MOST: u64 = 1 << 62;
 
-/// The rows of a store. Those of its last commit are read from its disk one by one. Those since are in
-/// memory, and so are the last marks of rows that were extended since.
+/// The rows of a store. Those of its last commit are read from its disk one by one. Those since are
+/// in memory, and so are the last marks of rows that were extended since.
 #[derive(Drop)]
 pub struct DiskRows {
     saved: SavedRows,
@@ -83,10 +83,11 @@ impl DiskRows {
         self.saved.count() + self.recent.len() as u64
     }
 
-    /// Makes room for this many more flows, each of which is a row or extends one. There is no room for
-    /// more rows than there may be.
+    /// Makes room for this many more flows, each of which is a row or extends one. There is no room
+    /// for more rows than there may be.
     pub fn reserve(&mut self, flows: usize) -> Result<(), NoMemory>
-        ensures room { OnOk result ((flows ≤ self.new.recent_room) × (flows ≤ self.new.renewed_room)) }
+        ensures room { OnOk result ((flows ≤ self.new.recent_room)
+            × (flows ≤ self.new.renewed_room)) }
         ensures few { OnOk result (length (rows_now self.old) + flows ≤ most) }
         ensures saved { self.new.saved ≡ self.old.saved }
         ensures kept { self.new.kept ≡ self.old.kept }
@@ -135,8 +136,8 @@ impl DiskRows {
         }
     }
 
-    /// The row at an index. A row of the last commit is read from the disk, and the store is bad at a
-    /// place at which it doesn't have it.
+    /// The row at an index. A row of the last commit is read from the disk, and the store is bad at
+    /// a place at which it doesn't have it.
     pub fn row<D: Disk>(&mut self, disk: &mut D, index: u64) -> Result<Row, RowFault>
         requires index { index < length (rows_now self.old) }
         requires there { (D.state disk.old).told → AreOn (D.state disk.old).reads self.old }
@@ -160,8 +161,8 @@ impl DiskRows {
         }
     }
 
-    /// The Extend rows of the rows that were extended since the last commit, ascending. They make of the
-    /// Kept rows what the rows are now.
+    /// The Extend rows of the rows that were extended since the last commit, ascending. They make of
+    /// the Kept rows what the rows are now.
     pub fn extends(&self, alloc: Global) -> Result<List<ExtendRow>, NoMemory>
         ensures each { IfOk result (λ extends. extends
             ≡ extends_in (mark_in self.now.renewed) 0 (self.now.kept ++ self.now.recent)) }
@@ -182,7 +183,7 @@ impl DiskRows {
         self.recent.as_slice()
     }
 
-    /// Makes room for the batch that has the rows since the last commit, with this many Extend rows.
+    /// Makes room for the batch of the rows since the last commit, with this many Extend rows.
     pub fn reserve_batch(&mut self, extends: usize) -> Result<(), NoMemory>
         ensures room { OnOk result ((1 ≤ self.new.saved.runs_room)
             × (extends ≤ self.new.saved.ends_room)) }
@@ -192,8 +193,8 @@ impl DiskRows {
         self.saved.reserve(extends)
     }
 
-    /// The rows since the last commit stand on the disk now: their Kept rows from a place on, and after
-    /// them these Extend rows. The bytes before the place `firm` don't change any more.
+    /// The rows since the last commit stand on the disk now: their Kept rows from a place on, and
+    /// after them these Extend rows. The bytes before the place `firm` don't change any more.
     pub fn settle(&mut self, alloc: Global, firm: u64, place: u64, extends: &[ExtendRow])
         requires room { (1 ≤ self.old.saved.runs_room)
             × (length extends.now ≤ self.old.saved.ends_room) }

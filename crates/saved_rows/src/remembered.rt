@@ -8,7 +8,8 @@ use reach_rows::Row;
 use row_codec::ExtendRow;
 use std::marker::Model;
 
-/// The rows that a disk has, as clauses speak of them. It takes no memory, and its methods do nothing at run time.
+/// The rows that a disk has, as clauses speak of them. It takes no memory, and its methods do nothing
+/// at run time.
 #[derive(Drop)]
 pub struct Remembered {
     pub ghost rows: { List ARow },
