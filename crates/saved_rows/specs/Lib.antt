@@ -1,2 +1,4 @@
 pub mod Runs
 pub mod Saved
+pub mod Remembered
+pub mod Joining
