@@ -1,7 +1,7 @@
 #!/usr/bin/env python3
 """Whether a log whose keys were chosen to collide is taken as fast as one with keys at random.
 
-    bench/chosen_keys.py [--events 100000] [--runs 5] [--only files,births,addresses,pids,names] [--program ./crates/audit_cli/out/audit_cli]
+    bench/chosen_keys.py [--events 100000] [--runs 5] [--limit 1.2] [--only files,births,addresses,pids,names] [--program ./crates/audit_cli/out/audit_cli]
 
     files      changes of files with chosen file numbers
     births     files made, with chosen file numbers
@@ -13,7 +13,7 @@ Each case is two logs of one shape, one with chosen keys and one with keys at ra
 hasher with its fixed seed: file numbers that all have one hash, and addresses, pids and names whose hashes stand for one
 place in 128. So a program whose hashes begin with that seed looks through many keys for each of them. Printed are the
 seconds of the processor, of each log the least of some runs, and how many times as long the chosen keys take. It ends with
-status 1 if that is more than 1.2 in a case.
+status 1 if that is more than the limit in a case.
 """
 import argparse
 import os
@@ -23,7 +23,6 @@ import tempfile
 
 from hostile_tables import AS_BIRTH, AS_OBJECT, MASK, MULTIPLIER, SEED, Log, met, taken, written
 
-LIMIT = 1.2
 # Of this many groups of the table chosen keys have one. A table of 100,000 keys has 8,192 groups, and its group is known
 # by the lowest bits of a hash.
 GROUPS = 128
@@ -112,6 +111,7 @@ def main():
     parser.add_argument('--program', default=os.path.join(os.path.dirname(os.path.abspath(__file__)), '../crates/audit_cli/out/audit_cli'))
     parser.add_argument('--events', type=int, default=100_000)
     parser.add_argument('--runs', type=int, default=5)
+    parser.add_argument('--limit', type=float, default=1.2)
     parser.add_argument('--only', default=','.join(CASES))
     options = parser.parse_args()
     slow = []
@@ -127,12 +127,12 @@ def main():
             for stat in stats:
                 if f'"events":{options.events},' not in stat:
                     sys.exit(f'not all events were taken: {stat}')
-            if times > LIMIT:
+            if times > options.limit:
                 slow.append(name)
             for path in paths:
                 os.remove(path)
     if slow:
-        print(f'chosen keys take more than {LIMIT} times as long: {", ".join(slow)}')
+        print(f'chosen keys take more than {options.limit:g} times as long: {", ".join(slow)}')
     else:
         print(f'{len(options.only.split(","))} cases')
     return 1 if slow else 0

@@ -24,6 +24,7 @@ use row_codec::ExtendRow;
 use std::alloc::Global;
 use std::marker::Model;
 use std::mem::replace;
+use table_salt::Salt;
 
 /// How many rows there are at most.
 const MOST: u64 = 1 << 62;
@@ -35,7 +36,7 @@ pub struct DiskRows {
     saved: SavedRows,
     kept: Remembered,
     recent: Vec<Row>,
-    renewed: IndexMap<u64, Mark>,
+    renewed: IndexMap<u64, Mark, Salt>,
 }
 
 impl Model for DiskRows {
@@ -59,18 +60,18 @@ impl Model for DiskRows {
 
 impl DiskRows {
     /// No rows, of a disk whose bytes before the place `firm` don't change.
-    pub fn new(alloc: Global, firm: u64) -> Result<DiskRows, NoMemory>
+    pub fn new(alloc: Global, salt: Salt, firm: u64) -> Result<DiskRows, NoMemory>
         ensures kept { IfOk result (λ rows. rows.kept ≡ []) }
         ensures recent { IfOk result (λ rows. rows.recent ≡ []) }
         ensures there { IfOk result (λ rows. (bytes : List ℕ) → AreOn bytes rows) }
         ensures firm { IfOk result (λ rows. rows.saved.cache.firm ≡ firm) }
     {
-        let saved = SavedRows::new(alloc, firm)?;
+        let saved = SavedRows::new(alloc, salt, firm)?;
         Ok(DiskRows {
             saved,
             kept: Remembered::none(),
             recent: Vec::new(alloc),
-            renewed: IndexMap::new(alloc),
+            renewed: IndexMap::with_hasher(alloc, salt),
         })
     }
 
@@ -221,7 +222,7 @@ impl DiskRows {
         );
         self.kept = put_extends(&mut self.saved, kept, place + KEPT as u64 * count, extends);
         self.recent = Vec::new(alloc);
-        self.renewed = IndexMap::new(alloc);
+        self.renewed = IndexMap::with_hasher(alloc, *self.renewed.hasher());
     }
 
     // A row with the last mark that it has since the last commit, if it was extended since.

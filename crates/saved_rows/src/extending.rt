@@ -8,11 +8,12 @@ use indexmap::IndexMap;
 use reach_rows::Mark;
 use row_codec::ExtendRow;
 use std::alloc::Global;
+use table_salt::Salt;
 
 /// The Extend rows of these rows with their last marks, ascending.
 pub fn extend_rows(
     alloc: Global,
-    renewed: &IndexMap<u64, Mark>,
+    renewed: &IndexMap<u64, Mark, Salt>,
 ) -> Result<List<ExtendRow>, NoMemory>
     ensures { IfOk result (λ extends. (R : List ARow)
         → ((i : ℕ) → length R ≤ i → mark_in renewed.now.entries i ≡ None)
@@ -27,7 +28,7 @@ pub fn extend_rows(
 }
 
 // The rows that are listed, ascending.
-fn listed_rows(alloc: Global, renewed: &IndexMap<u64, Mark>) -> Result<Vec<u64>, NoMemory>
+fn listed_rows(alloc: Global, renewed: &IndexMap<u64, Mark, Salt>) -> Result<Vec<u64>, NoMemory>
     ensures { IfOk result (λ rows. AreListed (mark_in renewed.now.entries) rows.items) }
 {
     let mut rows = Vec::from_slice(alloc, renewed.keys().as_slice())?;
@@ -38,7 +39,7 @@ fn listed_rows(alloc: Global, renewed: &IndexMap<u64, Mark>) -> Result<Vec<u64>,
 // Appends the Extend row of a row, if it is listed.
 fn put_extend(
     to: &mut List<ExtendRow>,
-    renewed: &IndexMap<u64, Mark>,
+    renewed: &IndexMap<u64, Mark, Salt>,
     row: u64,
 ) -> Result<(), NoMemory>
     ensures { OnOk result (to.new

@@ -1,11 +1,11 @@
-use Rattle.std.proofs.Common.{◌≡◌, ◌∙◌, ◌+◌, ◌*◌, ◌++◌, ◌<◌, ◌≤◌, ℕ, [], List, length, length-append, map, ap, sym, subst, arith}
+use Rattle.std.proofs.Common.{◌≡◌, ◌∙◌, ◌+◌, ◌*◌, ◌++◌, ◌≤◌, ℕ, List, length, length-append, map, ap, sym, subst, arith}
 use Rattle.std.specs.List.{All, flat_map}
 use Rattle.block_cache.specs.Cached.{Cached, IsCacheOf}
 use Rattle.reach_rows.specs.declared.rows.Row.{Row}
 use Rattle.row_codec.specs.declared.rows.StoreRow.TheVariants.{Extend}
 use Rattle.row_codec.specs.Rows.{row as spelling}
 use Rattle.saved_rows.specs.declared.remembered.Remembered.{Remembered}
-use Rattle.saved_rows.specs.Joining.{Joined, mark_in, rows_now, with_extends}
+use Rattle.saved_rows.specs.Joining.{Joined, mark_in, rows_now}
 use Rattle.saved_rows.specs.Saved.{AreSpelledFrom, HasRows, IsSingle, Saved, as_kept}
 use Rattle.saved_rows.proofs.JoinLemmas.{now_long}
 use Rattle.saved_rows.proofs.SettleLemmas.{all_kept_long, extends_long, spelled_split}
@@ -33,7 +33,7 @@ invariant_of-self c =
       counted = omega (arith, long, c.put_extends-self-inside.ensures.count, c.add_kept.ensures.count, raised, c.self.invariant.counted, c.len-count.ensures);
       few = omega (arith, long, none, c.self.invariant.few);
       single = subst (All IsSingle) (sym c.new.ensures.items) (λ i d h. absurd (omega (arith, h)));
-      listed = λ i h. ap (λ es. mark_in es i) c.new-2.ensures.empty;
+      listed = λ i h. ap (λ es. mark_in es i) c.with_hasher.ensures.empty;
     }
 
 pub returns-clause-there : goal.returns-clause-there
