@@ -35,7 +35,7 @@ pub record Ends : Type 0 where
 abbrev pub name_at : Ends → Option Under → EventKey → List ℕ → Option (List ℕ)
 name_at ends under event bytes = or_else
     (knock_name ends.clock ends.waits event (knocked ends.held ends.hosts ends.places under bytes))
-    (answer_name ends.waits event bytes (answered ends.held ends.hosts under bytes))
+    (answer_name ends.clock ends.waits event bytes (answered ends.held ends.hosts under bytes))
 
 -- the address that the peer of an accept or a datagram has called, or calls in answer to one
 abbrev pub called_at : Ends → Option Under → List ℕ → Option (List ℕ)

@@ -20,13 +20,18 @@ pub enum Act {
     Closes {
         fd: u32,
     },
+    /// It closes the descriptors from `first` to `last`.
+    ClosesRange {
+        first: u32,
+        last: u32,
+    },
     /// The descriptor `to` holds what `from` holds.
     Copies {
         from: u32,
         to: u32,
         stays: bool,
     },
-    /// It begins a process that holds what its own process holds.
+    /// It begins a process that inherits what its own process holds.
     Begins {
         child: u32,
     },
