@@ -39,7 +39,7 @@ FOLLOWED = '''read pread64 readv preadv preadv2 recvfrom recvmsg write pwrite64 
 RENAMED = {'mmap2': 'mmap', **{name: name.removesuffix('32') for name in ('chown32', 'lchown32', 'fchown32')},
            **{name: name.removesuffix('64') for name in ('truncate64', 'ftruncate64', 'fcntl64', 'sendfile64')}}
 # The words that turn rules off.
-RULES = ('--no-join', '--shared-connections', '--no-names', '--no-compat')
+RULES = ('--no-join', '--shared-connections', '--no-names', '--no-compat', '--no-descriptors')
 END = re.compile(rb'^(.*)type=EOE msg=audit\((\d+\.\d{3}):(\d+)\): $', re.S)
 ADDED_PEER = re.compile(rb'^(.*)type=SOCKADDR msg=audit\((\d+\.\d{3}):(\d+)\): saddr=0100\x1dADDED=yes$', re.S)
 
@@ -169,7 +169,9 @@ BIND, ACCEPT, UNLINKAT, SEND, RECEIVE, SOCKET = 49, 43, 263, 44, 45, 41
 BOUND = call('1000.010', 3, BIND, 1, 'saddr=02001F90000000000000000000000000', answer=0)
 BOUND_PATH = call('1000.010', 3, BIND, 1, 'saddr=01002F72756E2F73', answer=0)
 CALLED, PEER, ELSEWHERE = 'saddr=02001F907F0000010000000000000000', 'saddr=0200D4317F0000010000000000000000', 'saddr=0200D4310A0000090000000000000000'
-# Logs made by hand, and how many of their lines are rewritten: with all rules, with shared connections, without those on addresses, and without those on names.
+OPENED_FD = call('1000.020', 4, OPEN, 2, answer=4, a0='ffffff9c', a1='7ffc', a2=0, cwd='/', path='item=0 name="/dev/fd/63" inode=9 dev=00:0d mode=010600 ouid=0 ogid=0 rdev=00:00 nametype=NORMAL')
+# Logs made by hand, and how many of their lines are rewritten: with all rules, with shared connections, without those on addresses, without those on names, and without that
+# on names of descriptors.
 MEETINGS = {
     'a connection': (BOUND + call('1000.020', 4, CONNECT, 2, CALLED, answer=0) + call('1000.030', 5, ACCEPT, 1, PEER, answer=4), (2, 1, 0, 2)),
     'a connection that was accepted first': (BOUND + call('1000.020', 4, ACCEPT, 1, PEER, answer=4) + call('1000.030', 5, CONNECT, 2, CALLED, answer=0), (2, 1, 0, 2)),
@@ -190,6 +192,11 @@ MEETINGS = {
                                                     + call('1000.030', 5, ACCEPT, 8, PEER, answer=4, a0='ff'), (1, 1, 0, 1)),
     'a connection to a socket of a great number that was inherited': (call('1000.010', 3, BIND, 1, 'saddr=02001F90000000000000000000000000', answer=0, a0='100')
                                                                       + call('1000.015', 6, FORK, 1, answer=8) + call('1000.030', 5, ACCEPT, 8, PEER, answer=4, a0='100'), (0, 0, 0, 0)),
+    'an open of a descriptor by its name': (OPENED_FD, (1, 1, 1, 1, 0)),
+    'an open of a standard stream': (OPENED_FD.replace('/dev/fd/63', '/dev/stdin'), (1, 1, 1, 1, 0)),
+    'an open of a descriptor of the process by its number': (OPENED_FD.replace('/dev/fd', '/proc/2/fd'), (1, 1, 1, 1, 0)),
+    'an open of a descriptor of another process': (OPENED_FD.replace('/dev/fd', '/proc/3/fd'), (0, 0, 0, 0, 0)),
+    'an open of a descriptor by its name that failed': (OPENED_FD.replace('success=yes', 'success=no'), (0, 0, 0, 0, 0)),
     'a connect that failed': (BOUND + call('1000.020', 4, CONNECT, 2, CALLED, done='no', answer=-111), (0, 0, 0, 0)),
     'a peer from elsewhere': (BOUND + call('1000.020', 4, ACCEPT, 1, ELSEWHERE, answer=4), (0, 0, 0, 0)),
     'a connection after a start': (BOUND + 'type=DAEMON_START msg=audit(1000.011:9): op=start\n' + call('1000.020', 4, CONNECT, 2, CALLED, answer=0)
@@ -250,7 +257,7 @@ def faults_of_names():
 def faults_of_meetings():
     """What isn't so of how many lines are rewritten."""
     for name, (log, wanted) in MEETINGS.items():
-        for word, count in zip((None, '--shared-connections', '--no-join', '--no-names'), wanted):
+        for word, count in zip((None, '--shared-connections', '--no-join', '--no-names', '--no-descriptors'), wanted):
             ran = subprocess.run([PROGRAM, *filter(None, [word]), '--report'], input=(EARLY + log).encode(), stdout=subprocess.PIPE, stderr=subprocess.PIPE, check=True)
             if (found := json.loads(ran.stderr)['rewrites']) != count:
                 yield f'{name}: {found} lines are rewritten and not {count}, by {word}'
@@ -434,7 +441,7 @@ def faults_of_words():
     """What isn't as it is to be of words that name no job."""
     for words in [['--order'], ['--undo', '--undo'], ['--und'], [''], ['--undo', '--report'], ['--report', '--report'], ['--window'], ['--window', 'x'], ['--memory', '-1'],
                   ['--memory', '1', '--window', '1'], ['--window', '1', '--report'], ['--window', '1', '--window', '1'], ['--window', '4294967296'], ['--report', 'x'],
-                  ['--report', '--no-join'], ['--no-compat', '--no-join'], ['--no-compat', '--no-names'], ['--no-names', '--no-join'], ['--no-names', '--shared-connections'], ['--shared-connections', '--no-join'], ['--no-join', '--no-join'], ['--no-compat', '--undo'], ['--join']]:
+                  ['--report', '--no-join'], ['--no-compat', '--no-join'], ['--no-compat', '--no-names'], ['--no-names', '--no-join'], ['--no-names', '--shared-connections'], ['--shared-connections', '--no-join'], ['--no-join', '--no-join'], ['--no-compat', '--undo'], ['--join'], ['--no-descriptors', '--no-compat'], ['--report', '--no-descriptors'], ['--no-descriptors', '--no-descriptors']]:
         ran = subprocess.run([PROGRAM, *words], input=b'x\n', stdout=subprocess.PIPE, stderr=subprocess.PIPE)
         if ran.returncode != 2 or ran.stdout or ran.stderr != b'audit_order: bad words\n':
             yield f'status {ran.returncode}, {ran.stdout!r}, {ran.stderr!r} for the words {words}'
@@ -464,7 +471,7 @@ def main(names):
         faults += [('calls', fault) for fault in faults_of_calls()]
     else:
         print(f'not checked, since {TABLES[0].parent} has no tables of calls: how lines are rewritten')
-    faults += [(name, fault) for name, log in logs.items() for words in ((), ('--window', '0'), ('--no-join', '--memory', '0'), ('--shared-connections', '--no-compat'), ('--no-join', '--no-names'))
+    faults += [(name, fault) for name, log in logs.items() for words in ((), ('--window', '0'), ('--no-join', '--memory', '0'), ('--shared-connections', '--no-compat'), ('--no-join', '--no-names'), ('--no-descriptors',))
                for fault in faults_of(log, words)]
     for name, fault in faults[:20]:
         print(f'{name}: {fault}')

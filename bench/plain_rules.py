@@ -11,6 +11,9 @@ BLANK_PEER = b'\1\0'
 OPENS, SOCKETS, COPIES, FORKS, RUNS = {2: 1, 85: None, 257: 2, 437: None}, {41: 1, 43: None, 288: 3}, {32, 33, 292}, {57, 58, 435}, {59, 322}
 AT_FIRST, AT_BOTH = {257, 258, 259, 260, 263, 268, 322, 437}, {264, 265, 316}
 MAPPED = bytes(10) + b'\xff\xff'
+OWN = re.compile(rb'/dev/fd/(\d{1,10})|/proc/(?:self|thread-self|(\d{1,10}))/fd/(\d{1,10})')
+STANDARD = {b'/dev/stdin': 0, b'/dev/stdout': 1, b'/dev/stderr': 2}
+BEFORE_THIRD = re.compile(rb': arch=c000003e syscall=[^ ]* success=yes exit=([^ ]*) a0=[^ ]* a1=[^ ]*(?= )', re.S)
 VALUE = re.compile(rb'^([: ]*)(cwd|saddr)=([^ \x1d]*)', re.S)
 
 
@@ -47,6 +50,8 @@ class Node:
             self.hear_call(key, fields)
         elif kind == 'CWD' and call:
             call['cwd'] = fields['cwd']
+        elif kind == 'PATH' and fields['nametype'] in (b'NORMAL', b'CREATE') and own_in(line):
+            self.call = {'key': key, 'pid': None, 'cwd': None, 'opens': None, 'asks': None, 'silent': False, 'own': own_in(line)}
         elif kind == 'PATH' and call and call['opens'] and fields['nametype'] in (b'NORMAL', b'CREATE'):
             at, stays = call['opens']
             named = any(it.startswith(b'mode=04') for it in line.split(b' ')) and fields['name'] is not None
@@ -200,6 +205,16 @@ class Node:
 
     # ---- what becomes of a line
 
+    def copied(self, key, kind, fields, rest):
+        """What of the record of a call is that of a copy, if it has opened a descriptor by its name, which was seen before it."""
+        own = self.call.get('own') if self.call and self.call['key'] == key else None
+        stands = BEFORE_THIRD.match(rest)
+        if kind != 'SYSCALL' or not own or not stands or not fields['success'] or fields['arch'] != X86_64 or fields['syscall'] not in OPENS or own[1] not in (None, fields['pid']):
+            return None
+        number, flags = fields['syscall'], OPENS[fields['syscall']]
+        stays = number == 85 or number != 437 and not fields[f'a{flags}'] & LEAVES
+        return stands[0], b': arch=c000003e syscall=72 success=yes exit=%b a0=%02x a1=%b' % (stands[1], own[0], b'0' if stays else b'406')
+
     def value(self, key, kind, fields, leaves_out):
         """The value that the first field of a line gets, if it is known."""
         call = self.call if self.call and self.call['key'] == key else None
@@ -220,6 +235,16 @@ class Node:
             return self.wait_at(door)[0] if self.wait_at(door) else own_name(door, key, saddr)
         port = self.own_port(call, inet) if self.is_local(inet) else None
         return port and address_of(inet[0], port)
+
+
+def own_in(line):
+    """The descriptor below 256 that the first text between quotes names, and whose it is if it isn't that of the process itself."""
+    name = line.split(b'"')[1] if b'"' in line else b''
+    found = OWN.fullmatch(name)
+    if name in STANDARD:
+        return STANDARD[name], None
+    fd, pid = (int(found[1] or found[3]), found[2] and int(found[2])) if found else (256, None)
+    return (fd, pid) if fd < 256 and (pid is None or pid < 2**32) else None
 
 
 def name_of(stem, key):
@@ -270,9 +295,12 @@ class Rules:
         node.time = max(node.time, time)
         if kind != 'used':
             return None
+        copied = node.copied(*about[:3], rest) if '--no-descriptors' not in self.leaves_out else None
         value = node.value(*about[:3], self.leaves_out)
         node.hear(*about[:3], line)
         stands = VALUE.match(rest)
+        if copied:
+            return copied
         if not value or not stands or stands[2].decode() != {'CWD': 'cwd', 'SOCKADDR': 'saddr'}[about[1]] or stands[3] == value:
             return None
         return stands[0], stands[1] + stands[2] + b'=' + value

@@ -8,10 +8,11 @@ ghost use Rattle.order_rules.specs.Addresses as addresses;
 ghost use Rattle.order_rules.specs.Addresses.{inet_of, is_unix};
 ghost use Rattle.order_rules.specs.Known.{nothing, fds_at, held_at, held_of, is_host_at, is_place_at, waits_at, with_mark, target_seen, Leaves, Keeps, Becomes, AddsHost, AddsHostOf, Binds, BindsPlace, Meets, NowWait, Hears, StandsFor};
 ghost use Rattle.order_rules.specs.Kept.{ends_of};
-ghost use Rattle.order_rules.specs.Rewrites.{name_at, called_at};
+ghost use Rattle.order_rules.specs.Rewrites.{name_at, called_at, owned_in};
 
 use crate::address::{address_of, inet_key, inet_of, is_any, is_loopback, is_unix, place_of};
 use crate::call::{Act, Asks, Call, SocketKind};
+use crate::copies::owned_by;
 use crate::doors::Doors;
 use crate::fds::Fds;
 use crate::held::{Held, Thing};
@@ -21,6 +22,7 @@ use crate::under::{Opened, Under, is_event, met_at, stood};
 use audit_lex::EventKey;
 use flow_base::{Bytes, NoMemory};
 use name_text::{address_key, address_text, join_path};
+use order_lines::Own;
 use std::alloc::Global;
 use std::collections::{BTreeMap, BTreeSet};
 use std::marker::Model;
@@ -561,6 +563,16 @@ impl Table {
         match &self.under {
             Some(under) if is_event(key, under.key) => Some(under),
             _ => None,
+        }
+    }
+
+    /// The descriptor that records of an event have named before that of its call.
+    pub fn owned(&self, key: EventKey) -> Option<Own>
+        ensures { result ≡ owned_in (of_event self.now.under key) }
+    {
+        match self.under_of(key) {
+            Some(under) => owned_by(under.call.asks),
+            None => None,
         }
     }
 
