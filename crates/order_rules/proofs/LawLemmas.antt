@@ -184,6 +184,6 @@ stamped_off settings lines line (Some s) names own join =
     let said = said_until s (said_of (node_of s.front) lines) in
     class_off settings (under_in said) (ends_in said) line (class_in line) names own join
 
-pub rewrite_off : (settings : Settings) (lines : List (List ℕ)) (line : List ℕ) → settings.names ≡ false → settings.join ≡ false
-    → rewrite_of settings lines line ≡ None
+pub rewrite_off : (settings : Settings) (lines : List (List ℕ)) (line : List ℕ)
+    → settings.names ≡ false → settings.own ≡ false → settings.join ≡ false → rewrite_of settings lines line ≡ None
 rewrite_off settings lines line names own join = stamped_off settings lines line (stamp_of line) names own join

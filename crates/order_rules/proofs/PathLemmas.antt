@@ -55,18 +55,18 @@ nothing_named known key name none = record {
 
 path_stands : (known : Known) (said : List Said) (key : EventKey) (opened : Bool) (own : Option Own) (line : List ℕ) → is_some (opened_in known.under) ≡ false
     → is_none own ≡ true → StandsFor known said → StandsFor known (saying key (if opened then Some (path_said own line) else None) said)
-path_stands known said key true None line none no stands = heard known known key (Names (directory_name line)) said (nothing_named known key (directory_name line) none) stands
-path_stands known said key true (Some own) line none no stands = absurd (cc no)
-path_stands known said key false own line none no stands = stands
+path_stands known said key true None line none free stands = heard known known key (Names (directory_name line)) said (nothing_named known key (directory_name line) none) stands
+path_stands known said key true (Some own) line none free stands = absurd (cc free)
+path_stands known said key false own line none free stands = stands
 
 kind_said : (known : Known) (said : List Said) (line : List ℕ) (class : Class) → OfKind kind.Path class → is_some (opened_in known.under) ≡ false
     → is_none (own_in line) ≡ true → StandsFor known said → StandsFor known (said_after line class said)
-kind_said known said line (Used key of) is none no stands =
+kind_said known said line (Used key of) is none free stands =
     subst (λ (k : Kind). StandsFor known (saying key (deed_of_kind line k) said)) (sym is)
-    (path_stands known said key (is_path_opened line) (own_in line) line none no stands)
-kind_said known said line Other of none no stands = absurd of
-kind_said known said line Blank of none no stands = absurd of
-kind_said known said line (Malformed fault) of none no stands = stands
+    (path_stands known said key (is_path_opened line) (own_in line) line none free stands)
+kind_said known said line Other of none free stands = absurd of
+kind_said known said line Blank of none free stands = absurd of
+kind_said known said line (Malformed fault) of none free stands = stands
 
 both : (a b c : Bool) → (a && (not b && c)) ≡ true → (a ≡ true) × (b ≡ false) × (c ≡ true)
 both true true c is = absurd (cc is)
