@@ -345,6 +345,29 @@ def connected_datagrams():
     return log.text(), [('/in/0', '/out'), ('/in/1', '/out'), ('/answer', '/got/0'), ('/answer', '/got/1')], [('/in/1', '/got/0')]
 
 
+def opened_by_name():
+    """A shell's child opens a pipe by the name of its descriptor, as `cat <(cat /secret)` does. Another process opens a pipe of its own by the same name."""
+    log = Log()
+    log.clock(0)
+    log.pipe(20, 100, 63, 62)
+    log.fork(22, 100, 101)
+    log.fork(22, 100, 102)
+    log.pipe(23, 300, 63, 62)
+    log.copies(24, 101, '/secret', '/none')
+    log.open(26, 102, 3, '/dev/fd/63', FIFO)
+    log.open(27, 102, 4, '/out')
+    log.open(26, 300, 3, '/dev/fd/63', FIFO)
+    log.open(27, 300, 4, '/other')
+    log.read(28, 101, 3)
+    log.write(32, 101, 62)
+    log.read(30, 102, 3)
+    log.read(31, 300, 3)
+    log.write(36, 102, 4)
+    log.write(37, 300, 4)
+    log.clock(100)
+    return log.text(), [('/secret', '/out')], [('/secret', '/other')]
+
+
 def two_boots():
     """A node is started anew with its clock set back. What was read then can't have reached what was written before."""
     log = Log(begins=2000)
@@ -380,6 +403,7 @@ CASES = {
     'forty clients of a silent server over TCP': lambda: clients_of_a_server(40, 2, silent=True),
     'forty clients of a silent server over a unix socket': lambda: clients_of_a_server(40, 1, silent=True),
     'datagrams of sockets that are connected': connected_datagrams,
+    'a pipe that is opened by the name of a descriptor': opened_by_name,
     'two boots': two_boots,
 }
 

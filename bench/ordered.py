@@ -31,15 +31,15 @@ CALL_32 = re.compile(rb'^: arch=40000003 syscall=(\d{1,10}) ')
 KERNEL_ADDRESS = re.compile(rb'^: saddr=1000[^ \x1d]{4}00000000[^ \x1d]*')
 TABLES = [Path('/usr/include/x86_64-linux-gnu/asm') / name for name in ('unistd_32.h', 'unistd_64.h')]
 TABLES_ARE_THERE = all(it.exists() for it in TABLES)
-# The calls that the main program follows, by the kernel's names for the 64-bit gate; and 32-bit calls that have another name there.
+# The calls that the main program or the rules follow, by the kernel's names for the 64-bit gate; and 32-bit calls that have another name there.
 FOLLOWED = '''read pread64 readv preadv preadv2 recvfrom recvmsg write pwrite64 writev pwritev pwritev2 sendto sendmsg sendfile tee splice copy_file_range open creat
-    openat openat2 close dup dup2 dup3 fcntl pipe socketpair pipe2 socket bind connect accept accept4 execve execveat fork vfork clone3 clone exit_group truncate
+    openat openat2 close close_range dup dup2 dup3 fcntl pipe socketpair pipe2 socket bind connect accept accept4 execve execveat fork vfork clone3 clone exit_group truncate
     chmod chown lchown fchownat fchmodat ftruncate fchmod fchown rename link renameat linkat renameat2 rmdir unlink unlinkat mkdir symlink mknod mkdirat mknodat
     symlinkat'''.split()
 RENAMED = {'mmap2': 'mmap', **{name: name.removesuffix('32') for name in ('chown32', 'lchown32', 'fchown32')},
            **{name: name.removesuffix('64') for name in ('truncate64', 'ftruncate64', 'fcntl64', 'sendfile64')}}
 # The words that turn rules off.
-RULES = ('--no-join', '--shared-connections', '--no-names', '--no-compat')
+RULES = ('--no-join', '--shared-connections', '--no-names', '--no-compat', '--no-descriptors')
 END = re.compile(rb'^(.*)type=EOE msg=audit\((\d+\.\d{3}):(\d+)\): $', re.S)
 ADDED_PEER = re.compile(rb'^(.*)type=SOCKADDR msg=audit\((\d+\.\d{3}):(\d+)\): saddr=0100\x1dADDED=yes$', re.S)
 
@@ -61,9 +61,9 @@ ODD = {
 }
 
 
-def call(at, serial, number, pid, more='', node='', a0=3, a1=0, answer=1, done='yes', path='', cwd='', parent=1, arch='c000003e'):
+def call(at, serial, number, pid, more='', node='', a0=3, a1=0, answer=1, done='yes', path='', cwd='', parent=1, arch='c000003e', a2=1):
     """The records of an event with one call."""
-    kind = f'arch={arch} syscall={number} success={done} exit={answer} a0={a0} a1={a1} a2=1 a3=0 items=0 ppid={parent} pid={pid} comm="p" exe="/p"'
+    kind = f'arch={arch} syscall={number} success={done} exit={answer} a0={a0} a1={a1} a2={a2} a3=0 items=0 ppid={parent} pid={pid} comm="p" exe="/p"'
     rest = [('SOCKADDR', more)] * bool(more) + [('CWD', f'cwd="{cwd}"')] * bool(cwd) + [('PATH', path)] * bool(path) + [('EOE', '')]
     return ''.join(f'{node}type={name} msg=audit({at}:{serial}): {text}\n' for name, text in [('SYSCALL', kind), *rest])
 
@@ -79,7 +79,8 @@ def torn(event, other):
     return first + '\n' + other + rest
 
 
-READ, WRITE, OPEN, CLOSE, DUP2, CONNECT, CLONE, FORK, VFORK, EXEC, EXIT, CLONE3 = 0, 1, 257, 3, 33, 42, 56, 57, 58, 59, 231, 435
+READ, WRITE, OPEN, CLOSE, DUP2, CONNECT, CLONE, FORK, VFORK, EXEC, EXIT, CLONE3, CLOSE_RANGE = 0, 1, 257, 3, 33, 42, 56, 57, 58, 59, 231, 435, 436
+SPLICE, TEE, PREADV2 = 275, 276, 327
 # The 32-bit gate, and its numbers of read, write, close and openat.
 GATE, READ_32, WRITE_32, CLOSE_32, OPEN_32 = '40000003', 3, 4, 6, 295
 FILE, FIFO, FOLDER = '0100644', '010644', '040755'
@@ -88,6 +89,9 @@ EARLY = call('1000.000', 1, WRITE, 9) + call('1000.000', 2, WRITE, 9)
 ORDERS = {
     'a read that waited': (EARLY + call('1000.030', 3, WRITE, 1) + call('1000.010', 4, READ, 2) + call('1000.040', 5, WRITE, 2), [1, 2, 3, 4, 5]),
     'a 32-bit read that waited': (EARLY + call('1000.030', 3, WRITE, 1) + call('1000.010', 4, READ_32, 2, arch=GATE) + call('1000.040', 5, WRITE_32, 2, arch=GATE), [1, 2, 3, 4, 5]),
+    **{f'{name} that waited': (EARLY + call('1000.030', 3, WRITE, 1) + call('1000.010', 4, number, 2) + call('1000.040', 5, WRITE, 2), [1, 2, 3, 4, 5])
+       for name, number in (('a splice', SPLICE), ('a tee', TEE), ('a preadv2', PREADV2))},
+    'a pread': (EARLY + call('1000.030', 3, WRITE, 1) + call('1000.010', 4, 17, 2), [1, 2, 4, 3]),
     'a 32-bit write': (EARLY + call('1000.030', 3, WRITE, 1) + call('1000.010', 4, WRITE_32, 2, arch=GATE), [1, 2, 4, 3]),
     'a reader that sleeps ten seconds': (EARLY + call('1000.010', 3, READ, 2) + call('1005.000', 4, WRITE, 1) + call('1010.010', 5, WRITE, 2), [1, 2, 3, 4, 5]),
     'a call that waited more than two seconds': (EARLY + torn(call('1000.500', 4, CONNECT, 2, 'saddr=0200'), call('1003.000', 3, WRITE, 1)), [1, 2, 4, 3]),
@@ -112,12 +116,25 @@ READ_FROM = {
     'a regular file': (opening('1000.010', 3, 2, 3, FILE), {}, True),
     'a new file': (opening('1000.010', 3, 2, 3, FILE, kind='CREATE'), {}, True),
     'a FIFO': (opening('1000.010', 3, 2, 3, FIFO), {}, False),
+    # The type of a file stands above the twelve bits of what its mode allows: setuid, setgid and sticky are among these.
+    **{f'a file of the mode {mode}': (opening('1000.010', 3, 2, 3, mode), {}, True) for mode in ('0104755', '0102755', '0101777', '0107777', '0100000')},
+    **{f'what has the mode {mode}': (opening('1000.010', 3, 2, 3, mode), {}, False) for mode in ('010044', '0140755', '0120777', '020620', '060660', '01006440', '0100864')},
     'a file whose folder alone is there': (opening('1000.010', 3, 2, 3, FILE, kind='PARENT'), {}, False),
     'another descriptor': (opening('1000.010', 3, 2, 4, FILE), {}, False),
     'a descriptor of another process': (opening('1000.010', 3, 5, 3, FILE), {}, False),
     'a descriptor of another node': (opening('1000.010', 3, 2, 3, FILE, node='node=b '), {}, False),
     'a file that could not be opened': (opening('1000.010', 3, 2, 3, FILE, done='no'), {}, False),
     'a descriptor that was closed': (opening('1000.010', 3, 2, 3, FILE) + call('1000.011', 7, CLOSE, 2, answer=0), {}, False),
+    'a descriptor of a range that was closed': (opening('1000.010', 3, 2, 3, FILE) + call('1000.011', 7, CLOSE_RANGE, 2, a0=3, a1='ffffffff', a2=0, answer=0), {}, False),
+    'a descriptor of a range that was closed in a table of its own': (opening('1000.010', 3, 2, 3, FILE) + call('1000.011', 7, CLOSE_RANGE, 2, a0=2, a1=3, a2=2, answer=0), {}, False),
+    'a descriptor of a range of long numbers': (opening('1000.010', 3, 2, 3, FILE) + call('1000.011', 7, CLOSE_RANGE, 2, a0=3, a1='ffffffffffffffff', a2=0, answer=0), {}, False),
+    'a descriptor of a range that a 32-bit call closed': (opening('1000.010', 3, 2, 3, FILE)
+                                                          + call('1000.011', 7, CLOSE_RANGE, 2, a0=3, a1='ffffffff', a2=0, answer=0, arch=GATE), {}, False),
+    'a descriptor of a range that an exec will close': (opening('1000.010', 3, 2, 3, FILE) + call('1000.011', 7, CLOSE_RANGE, 2, a0=3, a1='ffffffff', a2=4, answer=0), {}, True),
+    'a descriptor below a range that was closed': (opening('1000.010', 3, 2, 3, FILE) + call('1000.011', 7, CLOSE_RANGE, 2, a0=4, a1='ffffffff', a2=0, answer=0), {}, True),
+    'a descriptor above a range that was closed': (opening('1000.010', 3, 2, 3, FILE) + call('1000.011', 7, CLOSE_RANGE, 2, a0=0, a1=2, a2=0, answer=0), {}, True),
+    'a descriptor of a range that another process closed': (opening('1000.010', 3, 2, 3, FILE) + call('1000.011', 7, CLOSE_RANGE, 8, a0=3, a1='ffffffff', a2=0, answer=0), {}, True),
+    'a descriptor of a range that could not be closed': (opening('1000.010', 3, 2, 3, FILE) + call('1000.011', 7, CLOSE_RANGE, 2, a0=3, a1=2, a2=0, done='no', answer=-22), {}, True),
     'a descriptor that is another file now': (opening('1000.010', 3, 2, 3, FILE) + opening('1000.011', 7, 2, 3, FIFO), {}, False),
     'a copy': (opening('1000.010', 3, 2, 3, FILE) + call('1000.011', 7, DUP2, 2, answer=0), {'a0': 0}, True),
     'a copy of a FIFO over a file': (opening('1000.009', 3, 2, 3, FILE) + opening('1000.010', 7, 2, 4, FIFO) + call('1000.011', 8, DUP2, 2, a0=4, answer=3), {}, False),
@@ -152,7 +169,9 @@ BIND, ACCEPT, UNLINKAT, SEND, RECEIVE, SOCKET = 49, 43, 263, 44, 45, 41
 BOUND = call('1000.010', 3, BIND, 1, 'saddr=02001F90000000000000000000000000', answer=0)
 BOUND_PATH = call('1000.010', 3, BIND, 1, 'saddr=01002F72756E2F73', answer=0)
 CALLED, PEER, ELSEWHERE = 'saddr=02001F907F0000010000000000000000', 'saddr=0200D4317F0000010000000000000000', 'saddr=0200D4310A0000090000000000000000'
-# Logs made by hand, and how many of their lines are rewritten: with all rules, with shared connections, without those on addresses, and without those on names.
+OPENED_FD = call('1000.020', 4, OPEN, 2, answer=4, a0='ffffff9c', a1='7ffc', a2=0, cwd='/', path='item=0 name="/dev/fd/63" inode=9 dev=00:0d mode=010600 ouid=0 ogid=0 rdev=00:00 nametype=NORMAL')
+# Logs made by hand, and how many of their lines are rewritten: with all rules, with shared connections, without those on addresses, without those on names, and without that
+# on names of descriptors.
 MEETINGS = {
     'a connection': (BOUND + call('1000.020', 4, CONNECT, 2, CALLED, answer=0) + call('1000.030', 5, ACCEPT, 1, PEER, answer=4), (2, 1, 0, 2)),
     'a connection that was accepted first': (BOUND + call('1000.020', 4, ACCEPT, 1, PEER, answer=4) + call('1000.030', 5, CONNECT, 2, CALLED, answer=0), (2, 1, 0, 2)),
@@ -161,6 +180,23 @@ MEETINGS = {
                                           (2, 0, 0, 2)),
     'two connections that wait': (BOUND + call('1000.020', 4, CONNECT, 2, CALLED, answer=0) + call('1000.021', 5, CONNECT, 5, CALLED, done='no', answer=-115)
                                   + call('1000.030', 6, ACCEPT, 1, PEER, answer=4) + call('1000.031', 7, ACCEPT, 1, PEER, answer=5), (4, 2, 0, 4)),
+    'a connect that nobody accepts': (BOUND + call('1000.020', 4, CONNECT, 2, CALLED, answer=0) + call('1020.020', 5, CONNECT, 2, CALLED, answer=0)
+                                      + call('1020.021', 6, CONNECT, 2, CALLED, answer=0) + call('1020.022', 7, ACCEPT, 1, PEER, answer=4), (4, 1, 0, 4)),
+    'a connect that was accepted too late': (BOUND + call('1000.020', 4, CONNECT, 2, CALLED, answer=0) + call('1020.021', 5, ACCEPT, 1, PEER, answer=4), (2, 1, 0, 2)),
+    'a bind to no port': (call('1000.010', 3, BIND, 1, 'saddr=02000000000000000000000000000000', answer=0) + call('1000.020', 4, CONNECT, 2, 'saddr=020000007F0000010000000000000000', answer=0),
+                          (0, 0, 0, 0)),
+    'a connection to a socket of a range that was closed': (BOUND + call('1000.015', 6, CLOSE_RANGE, 1, a0=3, a1=3, a2=0, answer=0) + call('1000.030', 5, ACCEPT, 1, PEER, answer=4), (0, 0, 0, 0)),
+    'a connection to a socket of a range that an exec will close': (BOUND + call('1000.015', 6, CLOSE_RANGE, 1, a0=3, a1=3, a2=4, answer=0) + call('1000.030', 5, ACCEPT, 1, PEER, answer=4),
+                                                                    (1, 1, 0, 1)),
+    'a connection to a socket that was inherited': (call('1000.010', 3, BIND, 1, 'saddr=02001F90000000000000000000000000', answer=0, a0='ff') + call('1000.015', 6, FORK, 1, answer=8)
+                                                    + call('1000.030', 5, ACCEPT, 8, PEER, answer=4, a0='ff'), (1, 1, 0, 1)),
+    'a connection to a socket of a great number that was inherited': (call('1000.010', 3, BIND, 1, 'saddr=02001F90000000000000000000000000', answer=0, a0='100')
+                                                                      + call('1000.015', 6, FORK, 1, answer=8) + call('1000.030', 5, ACCEPT, 8, PEER, answer=4, a0='100'), (0, 0, 0, 0)),
+    'an open of a descriptor by its name': (OPENED_FD, (1, 1, 1, 1, 0)),
+    'an open of a standard stream': (OPENED_FD.replace('/dev/fd/63', '/dev/stdin'), (1, 1, 1, 1, 0)),
+    'an open of a descriptor of the process by its number': (OPENED_FD.replace('/dev/fd', '/proc/2/fd'), (1, 1, 1, 1, 0)),
+    'an open of a descriptor of another process': (OPENED_FD.replace('/dev/fd', '/proc/3/fd'), (0, 0, 0, 0, 0)),
+    'an open of a descriptor by its name that failed': (OPENED_FD.replace('success=yes', 'success=no'), (0, 0, 0, 0, 0)),
     'a connect that failed': (BOUND + call('1000.020', 4, CONNECT, 2, CALLED, done='no', answer=-111), (0, 0, 0, 0)),
     'a peer from elsewhere': (BOUND + call('1000.020', 4, ACCEPT, 1, ELSEWHERE, answer=4), (0, 0, 0, 0)),
     'a connection after a start': (BOUND + 'type=DAEMON_START msg=audit(1000.011:9): op=start\n' + call('1000.020', 4, CONNECT, 2, CALLED, answer=0)
@@ -180,6 +216,10 @@ MEETINGS = {
     'a datagram socket that is connected': (call('1000.009', 7, SOCKET, 2, a1=2, answer=3) + BOUND + call('1000.020', 4, CONNECT, 2, CALLED, answer=0), (0, 0, 0, 0)),
     'a stream that is connected': (call('1000.009', 7, SOCKET, 2, a1=80001, answer=3) + BOUND + call('1000.020', 4, CONNECT, 2, CALLED, answer=0), (1, 0, 0, 1)),
     'a name in a folder': (opening('1000.010', 3, 2, 3, FOLDER) + call('1000.020', 4, UNLINKAT, 2, cwd='/home'), (1, 1, 1, 0)),
+    'a folder in a folder': (opening('1000.010', 3, 2, 3, FOLDER) + call('1000.012', 4, OPEN, 2, cwd='/home', path='item=0 name="d" inode=8 dev=fe:00 mode=040755 nametype=NORMAL', answer=6)
+                             + call('1000.020', 5, UNLINKAT, 2, cwd='/home', a0=6), (2, 2, 2, 0)),
+    'a folder in a folder that is not known': (call('1000.012', 4, OPEN, 2, cwd='/home', path='item=0 name="d" inode=8 dev=fe:00 mode=040755 nametype=NORMAL', answer=6, a0=5)
+                                               + call('1000.020', 5, UNLINKAT, 2, cwd='/home', a0=6), (0, 0, 0, 0)),
     'a name in what was closed': (opening('1000.010', 3, 2, 3, FOLDER) + call('1000.015', 4, CLOSE, 2, answer=0) + call('1000.020', 5, UNLINKAT, 2, cwd='/home'), (0, 0, 0, 0)),
     'a name in a folder of another process': (opening('1000.010', 3, 5, 3, FOLDER) + call('1000.020', 4, UNLINKAT, 2, cwd='/home'), (0, 0, 0, 0)),
 }
@@ -194,6 +234,8 @@ NAMES_MET = {
     'a silent accept': ['127.0.0.1:8080#1000020:4'] * 2,
     'a silent accept at a path': ['/run/s#1000020:4'] * 2,
     'two connections that wait': ['127.0.0.1:8080#1000020:4'] * 4,
+    'a connect that nobody accepts': ['127.0.0.1:8080#1000020:4'] * 2 + ['127.0.0.1:8080#1020021:6'] * 2,
+    'a connect that was accepted too late': ['127.0.0.1:8080#1000020:4', '127.0.0.1:8080#1020021:5'],
 }
 
 
@@ -215,7 +257,7 @@ def faults_of_names():
 def faults_of_meetings():
     """What isn't so of how many lines are rewritten."""
     for name, (log, wanted) in MEETINGS.items():
-        for word, count in zip((None, '--shared-connections', '--no-join', '--no-names'), wanted):
+        for word, count in zip((None, '--shared-connections', '--no-join', '--no-names', '--no-descriptors'), wanted):
             ran = subprocess.run([PROGRAM, *filter(None, [word]), '--report'], input=(EARLY + log).encode(), stdout=subprocess.PIPE, stderr=subprocess.PIPE, check=True)
             if (found := json.loads(ran.stderr)['rewrites']) != count:
                 yield f'{name}: {found} lines are rewritten and not {count}, by {word}'
@@ -399,7 +441,7 @@ def faults_of_words():
     """What isn't as it is to be of words that name no job."""
     for words in [['--order'], ['--undo', '--undo'], ['--und'], [''], ['--undo', '--report'], ['--report', '--report'], ['--window'], ['--window', 'x'], ['--memory', '-1'],
                   ['--memory', '1', '--window', '1'], ['--window', '1', '--report'], ['--window', '1', '--window', '1'], ['--window', '4294967296'], ['--report', 'x'],
-                  ['--report', '--no-join'], ['--no-compat', '--no-join'], ['--no-compat', '--no-names'], ['--no-names', '--no-join'], ['--no-names', '--shared-connections'], ['--shared-connections', '--no-join'], ['--no-join', '--no-join'], ['--no-compat', '--undo'], ['--join']]:
+                  ['--report', '--no-join'], ['--no-compat', '--no-join'], ['--no-compat', '--no-names'], ['--no-names', '--no-join'], ['--no-names', '--shared-connections'], ['--shared-connections', '--no-join'], ['--no-join', '--no-join'], ['--no-compat', '--undo'], ['--join'], ['--no-descriptors', '--no-compat'], ['--report', '--no-descriptors'], ['--no-descriptors', '--no-descriptors']]:
         ran = subprocess.run([PROGRAM, *words], input=b'x\n', stdout=subprocess.PIPE, stderr=subprocess.PIPE)
         if ran.returncode != 2 or ran.stdout or ran.stderr != b'audit_order: bad words\n':
             yield f'status {ran.returncode}, {ran.stdout!r}, {ran.stderr!r} for the words {words}'
@@ -429,7 +471,7 @@ def main(names):
         faults += [('calls', fault) for fault in faults_of_calls()]
     else:
         print(f'not checked, since {TABLES[0].parent} has no tables of calls: how lines are rewritten')
-    faults += [(name, fault) for name, log in logs.items() for words in ((), ('--window', '0'), ('--no-join', '--memory', '0'), ('--shared-connections', '--no-compat'), ('--no-join', '--no-names'))
+    faults += [(name, fault) for name, log in logs.items() for words in ((), ('--window', '0'), ('--no-join', '--memory', '0'), ('--shared-connections', '--no-compat'), ('--no-join', '--no-names'), ('--no-descriptors',))
                for fault in faults_of(log, words)]
     for name, fault in faults[:20]:
         print(f'{name}: {fault}')

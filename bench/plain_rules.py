@@ -6,11 +6,14 @@ import re
 
 from plain_reading import X86_64, address_key, address_text, class_of, join_path
 
-WORKING, LEAVES, TICK = 0xFFFFFF9C, 0x80000, 4
+WORKING, LEAVES, TICK, PATIENCE, INHERITED = 0xFFFFFF9C, 0x80000, 4, 20000, 256
 BLANK_PEER = b'\1\0'
 OPENS, SOCKETS, COPIES, FORKS, RUNS = {2: 1, 85: None, 257: 2, 437: None}, {41: 1, 43: None, 288: 3}, {32, 33, 292}, {57, 58, 435}, {59, 322}
 AT_FIRST, AT_BOTH = {257, 258, 259, 260, 263, 268, 322, 437}, {264, 265, 316}
 MAPPED = bytes(10) + b'\xff\xff'
+OWN = re.compile(rb'/dev/fd/(\d{1,10})|/proc/(?:self|thread-self|(\d{1,10}))/fd/(\d{1,10})')
+STANDARD = {b'/dev/stdin': 0, b'/dev/stdout': 1, b'/dev/stderr': 2}
+BEFORE_THIRD = re.compile(rb': arch=c000003e syscall=[^ ]* success=yes exit=([^ ]*) a0=[^ ]* a1=[^ ]*(?= )', re.S)
 VALUE = re.compile(rb'^([: ]*)(cwd|saddr)=([^ \x1d]*)', re.S)
 
 
@@ -47,10 +50,12 @@ class Node:
             self.hear_call(key, fields)
         elif kind == 'CWD' and call:
             call['cwd'] = fields['cwd']
+        elif kind == 'PATH' and fields['nametype'] in (b'NORMAL', b'CREATE') and own_in(line):
+            self.call = {'key': key, 'pid': None, 'cwd': None, 'opens': None, 'asks': None, 'silent': False, 'own': own_in(line)}
         elif kind == 'PATH' and call and call['opens'] and fields['nametype'] in (b'NORMAL', b'CREATE'):
             at, stays = call['opens']
             named = any(it.startswith(b'mode=04') for it in line.split(b' ')) and fields['name'] is not None
-            path = join_path(self.directory(call) or call['cwd'], fields['name']) if named else b''
+            path = join_path(self.base(call), fields['name']) if named else b''
             self.put(at, path.startswith(b'/') and ('directory', path, stays))
         elif kind == 'SOCKADDR':
             self.hear_address(call, key, fields['saddr'])
@@ -78,13 +83,16 @@ class Node:
             self.put((pid, answer), ('socket', b'', number == 43 or stays(SOCKETS[number]), {1: 'stream', 2: 'datagrams'}.get(a[1] % 16) if number == 41 else 'stream'))
         elif number == 3:
             self.put((pid, a[0]), None)
+        elif number == 436:
+            if not a[2] & 4:
+                self.become(pid, {fd: what for fd, what in of_process.items() if not a[0] <= fd <= a[1]})
         elif number in COPIES or number == 72 and a[1] in (0, 1030):
             if answer not in (None, a[0]):
                 self.copy((pid, a[0]), (pid, answer), stays(2) if number == 292 else number != 72 or a[1] == 0)
         elif number == 72 and a[1] == 2:
             self.copy((pid, a[0]), (pid, a[0]), not a[2] & 1)
         elif (number in FORKS or number == 56 and not a[0] & 0x10000) and answer is not None:
-            self.become(answer, of_process)
+            self.become(answer, {fd: what for fd, what in of_process.items() if fd < INHERITED})
         elif number in RUNS:
             self.become(pid, {fd: what for fd, what in of_process.items() if what[2]})
 
@@ -113,7 +121,8 @@ class Node:
             at = call['pid'], call['asks'][1]
             was = self.held.get(at, (None, None, True))
             self.put(at, ('socket', place, was[2], was[3] if was[0] == 'socket' else None))
-            self.places.add(place)
+            if place.strip(b'\0'):
+                self.places.add(place)
             if inet and inet[0].strip(b'\0'):
                 self.hosts.add(inet[0])
 
@@ -121,15 +130,17 @@ class Node:
         early = self.early_at(place)
         self.early[place] = early[1:]
         if not early:
-            name, count = self.waits.get(place, (name_of(stem, key), 0))
-            self.waits[place] = name, count + 1
+            name, count, since = self.wait_at(place) or (name_of(stem, key), 0, self.time)
+            self.waits[place] = name, count + 1, since
 
     def hear_accept(self, place, key, saddr):
         own = own_name(place, key, saddr)
-        if place in self.waits:
-            name, count = self.waits.pop(place)
+        wait = self.wait_at(place)
+        self.waits.pop(place, None)
+        if wait:
+            name, count, since = wait
             if count > 1:
-                self.waits[place] = name, count - 1
+                self.waits[place] = name, count - 1, since
         elif own:
             self.early[place] = [*self.early_at(place), (own, self.time)]
 
@@ -138,6 +149,15 @@ class Node:
     def early_at(self, place):
         """The accepts that wait at a place for their connects, which they do for a tick."""
         return [it for it in self.early.get(place, []) if self.time <= it[1] + TICK]
+
+    def wait_at(self, place):
+        """The connects that wait at a place, which they do for twenty seconds since the first of them: their name, how many they are, and when the first came."""
+        wait = self.waits.get(place)
+        return wait if wait and self.time <= wait[2] + PATIENCE else None
+
+    def base(self, call):
+        """What the names of a call are relative to, if it is known."""
+        return self.directory(call) if call['asks'] and call['asks'][0] == 'at' else call['cwd']
 
     def directory(self, call):
         what = call['asks'] and call['asks'][0] == 'at' and self.held.get((call['pid'], call['asks'][1]))
@@ -181,9 +201,19 @@ class Node:
         if not call or not call['silent'] or '--no-join' in leaves_out or '--shared-connections' in leaves_out:
             return False
         door = self.answered(call, BLANK_PEER)
-        return bool(door) and (door in self.waits or own_name(door, key, BLANK_PEER) is not None)
+        return bool(door) and (bool(self.wait_at(door)) or own_name(door, key, BLANK_PEER) is not None)
 
     # ---- what becomes of a line
+
+    def copied(self, key, kind, fields, rest):
+        """What of the record of a call is that of a copy, if it has opened a descriptor by its name, which was seen before it."""
+        own = self.call.get('own') if self.call and self.call['key'] == key else None
+        stands = BEFORE_THIRD.match(rest)
+        if kind != 'SYSCALL' or not own or not stands or not fields['success'] or fields['arch'] != X86_64 or fields['syscall'] not in OPENS or own[1] not in (None, fields['pid']):
+            return None
+        number, flags = fields['syscall'], OPENS[fields['syscall']]
+        stays = number == 85 or number != 437 and not fields[f'a{flags}'] & LEAVES
+        return stands[0], b': arch=c000003e syscall=72 success=yes exit=%b a0=%02x a1=%b' % (stands[1], own[0], b'0' if stays else b'406')
 
     def value(self, key, kind, fields, leaves_out):
         """The value that the first field of a line gets, if it is known."""
@@ -200,11 +230,21 @@ class Node:
         target, door, inet = self.knocked(call, saddr), self.answered(call, saddr), inet_of(saddr)
         if apart and target:
             place, stem = target
-            return self.waits[place][0] if place in self.waits else self.early_at(place)[0][0] if self.early_at(place) else name_of(stem, key)
+            return self.wait_at(place)[0] if self.wait_at(place) else self.early_at(place)[0][0] if self.early_at(place) else name_of(stem, key)
         if apart and door:
-            return self.waits[door][0] if door in self.waits else own_name(door, key, saddr)
+            return self.wait_at(door)[0] if self.wait_at(door) else own_name(door, key, saddr)
         port = self.own_port(call, inet) if self.is_local(inet) else None
         return port and address_of(inet[0], port)
+
+
+def own_in(line):
+    """The descriptor below 256 that the first text between quotes names, and whose it is if it isn't that of the process itself."""
+    name = line.split(b'"')[1] if b'"' in line else b''
+    found = OWN.fullmatch(name)
+    if name in STANDARD:
+        return STANDARD[name], None
+    fd, pid = (int(found[1] or found[3]), found[2] and int(found[2])) if found else (256, None)
+    return (fd, pid) if fd < 256 and (pid is None or pid < 2**32) else None
 
 
 def name_of(stem, key):
@@ -255,9 +295,12 @@ class Rules:
         node.time = max(node.time, time)
         if kind != 'used':
             return None
+        copied = node.copied(*about[:3], rest) if '--no-descriptors' not in self.leaves_out else None
         value = node.value(*about[:3], self.leaves_out)
         node.hear(*about[:3], line)
         stands = VALUE.match(rest)
+        if copied:
+            return copied
         if not value or not stands or stands[2].decode() != {'CWD': 'cwd', 'SOCKADDR': 'saddr'}[about[1]] or stands[3] == value:
             return None
         return stands[0], stands[1] + stands[2] + b'=' + value

@@ -110,29 +110,29 @@ no_rewrite : (found : Option Stamp) → takes_rewrite None found ≡ false
 no_rewrite None = refl
 no_rewrite (Some s) = refl
 
-no_change : (switches : Switches) (before : List (List ℕ)) (line : List ℕ) → switches.join ≡ false → switches.names ≡ false → switches.compat ≡ false
+no_change : (switches : Switches) (before : List (List ℕ)) (line : List ℕ) → switches.join ≡ false → switches.names ≡ false → switches.own ≡ false → switches.compat ≡ false
     → takes_rewrite (change_after switches before line) (stamp_of line) ≡ false
-no_change switches before line join names compat =
+no_change switches before line join names own compat =
     ap (λ (change : Option Rewrite). takes_rewrite (or_else change (rewrite_of (rules_of switches) before line)) (stamp_of line)) (none_alone switches (stamp_of line) join compat)
-    ∙ ap (λ (change : Option Rewrite). takes_rewrite change (stamp_of line)) (rewrite_off (rules_of switches) before line names join)
+    ∙ ap (λ (change : Option Rewrite). takes_rewrite change (stamp_of line)) (rewrite_off (rules_of switches) before line names own join)
     ∙ no_rewrite (stamp_of line)
 
 none_rewritten : (out : List ℕ) (outs : List (List ℕ)) → is_rewritten out ≡ false → rewritten_in outs ≡ 0 → rewritten_in (out ∷ outs) ≡ 0
 none_rewritten out outs isnt none = rw isnt none
 
-plain_lines : (switches : Switches) (before lines : List (List ℕ)) → switches.join ≡ false → switches.names ≡ false → switches.compat ≡ false
+plain_lines : (switches : Switches) (before lines : List (List ℕ)) → switches.join ≡ false → switches.names ≡ false → switches.own ≡ false → switches.compat ≡ false
     → rewritten_in (shown_after switches before lines) ≡ 0
-plain_lines switches before [] join names compat = refl
-plain_lines switches before (line ∷ lines) join names compat =
+plain_lines switches before [] join names own compat = refl
+plain_lines switches before (line ∷ lines) join names own compat =
     let t = latest before in
     none_rewritten (shown switches before line) (shown_after switches (line ∷ before) lines)
-    (written_told t.time t.ms line (change_after switches before line) (latest_timed before) ∙ no_change switches before line join names compat)
-    (plain_lines switches (line ∷ before) lines join names compat)
+    (written_told t.time t.ms line (change_after switches before line) (latest_timed before) ∙ no_change switches before line join names own compat)
+    (plain_lines switches (line ∷ before) lines join names own compat)
 
 pub rewrites_by_rules : (bounds : Bounds) (switches : Switches) (bytes : List ℕ) (before now : Option (List ℕ)) (counts : Counts)
-    → switches.join ≡ false → switches.names ≡ false → switches.compat ≡ false → Orders bounds switches bytes before now counts → counts.rewrites ≡ 0
-rewrites_by_rules bounds switches bytes before now counts join names compat o =
-    o.counts_rewritten ∙ ap rewritten_in o.exact ∙ plain_lines switches [] (map undone o.outs) join names compat
+    → switches.join ≡ false → switches.names ≡ false → switches.own ≡ false → switches.compat ≡ false → Orders bounds switches bytes before now counts → counts.rewrites ≡ 0
+rewrites_by_rules bounds switches bytes before now counts join names own compat o =
+    o.counts_rewritten ∙ ap rewritten_in o.exact ∙ plain_lines switches [] (map undone o.outs) join names own compat
 
 -- ---- without connections that are apart
 

@@ -96,7 +96,7 @@ TextHasLines = (lines : List (List ℕ)) → All IsOneLine lines → log_lines (
 abbrev pub RewritesByRules : Type 0
 RewritesByRules =
     (bounds : Bounds) (switches : Switches) (bytes : List ℕ) (before now : Option (List ℕ)) (counts : Counts)
-    → switches.join ≡ false → switches.names ≡ false → switches.compat ≡ false → Orders bounds switches bytes before now counts → counts.rewrites ≡ 0
+    → switches.join ≡ false → switches.names ≡ false → switches.own ≡ false → switches.compat ≡ false → Orders bounds switches bytes before now counts → counts.rewrites ≡ 0
 
 -- without connections that are apart no peer is added
 abbrev pub AddsPeersByRules : Type 0

@@ -33,7 +33,7 @@ abbrev pub alone_of : Switches → alone.Settings
 alone_of switches = record { join = switches.join; compat = switches.compat }
 
 abbrev pub rules_of : Switches → rules.Settings
-rules_of switches = record { names = switches.names; join = switches.join; apart = switches.apart }
+rules_of switches = record { names = switches.names; own = switches.own; join = switches.join; apart = switches.apart }
 
 -- how a line of this stamp is rewritten by what it says alone
 abbrev pub change_alone : Switches → Option Stamp → Option Rewrite

@@ -1,7 +1,7 @@
 -- The words of the program.
 --
--- `--undo` alone, or `--no-join`, `--shared-connections`, `--no-names`, `--no-compat`, `--report`, `--window SECONDS` and
--- `--memory MB`, each of which may be left out, in this order.
+-- `--undo` alone, or `--no-join`, `--shared-connections`, `--no-names`, `--no-compat`, `--no-descriptors`, `--report`,
+-- `--window SECONDS` and `--memory MB`, each of which may be left out, in this order.
 use Rattle.std.specs.Prelude.{ℕ, ◌*◌, Bool, true, false, List, [], ◌∷◌, Option, None, Some, codes, not, option_map, if◌then◌else◌}
 use Rattle.std.specs.Option.{option_and_then}
 use Rattle.std.specs.Str.{bytes_eq}
@@ -62,9 +62,13 @@ abbrev pub with_report : Switches → Bool × Words → Option Job
 with_report switches found = with_window switches found.0 found.1
 
 -- a job that orders, by what the words leave out, and the words from the next switch on
+abbrev pub with_own : Bool → Bool → Bool → Bool → Bool × Words → Option Job
+with_own no_join shared no_names no_compat found =
+    with_report (record { join = not no_join; apart = not shared; names = not no_names; own = not found.0; compat = not no_compat })
+    (has_word (codes "--report") found.1)
+
 abbrev pub with_compat : Bool → Bool → Bool → Bool × Words → Option Job
-with_compat no_join shared no_names found =
-    with_report (record { join = not no_join; apart = not shared; names = not no_names; compat = not found.0 }) (has_word (codes "--report") found.1)
+with_compat no_join shared no_names found = with_own no_join shared no_names found.0 (has_word (codes "--no-descriptors") found.1)
 
 abbrev pub with_names : Bool → Bool → Bool × Words → Option Job
 with_names no_join shared found = with_compat no_join shared found.0 (has_word (codes "--no-compat") found.1)

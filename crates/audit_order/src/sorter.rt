@@ -167,7 +167,7 @@ fn turn_to(sorter: &mut Sorter, item: &Waiting) -> Result<(), NoMemory>
     ensures bounds { sorter.new.bounds ≡ sorter.old.bounds }
 {
     if is_of(&sorter.turn, item) {
-        if item.rank > 0 {
+        if item.rank > 1 {
             return write_peer(sorter);
         }
         return Ok(());
@@ -195,7 +195,7 @@ fn is_of(turn: &Turn, item: &Waiting) -> bool
 fn note_end(turn: &mut Turn, rank: u8, calls: bool, line: Noted)
     ensures { turn.new ≡ record turn.old { call = turn.new.call } }
 {
-    if rank > 0 {
+    if rank > 1 {
         turn.call = None;
     } else if calls {
         turn.call = Some(line);

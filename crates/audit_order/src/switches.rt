@@ -11,6 +11,8 @@ pub struct Switches {
     pub apart: bool,
     /// The directories of names that are relative to a descriptor.
     pub names: bool,
+    /// Opens of descriptors by their names.
+    pub own: bool,
     /// Calls of the 32-bit gate.
     pub compat: bool,
 }
@@ -32,6 +34,7 @@ impl Switches {
     {
         order_rules::Settings {
             names: self.names,
+            own: self.own,
             join: self.join,
             apart: self.apart,
         }

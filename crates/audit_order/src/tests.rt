@@ -9,6 +9,7 @@ const ON: Switches = Switches {
     join: true,
     apart: true,
     names: true,
+    own: true,
     compat: true,
 };
 
@@ -375,6 +376,7 @@ fn lines_are_rewritten_as_the_switches_allow(rt: HostRuntime) -> Result<(), Fail
             join,
             apart: true,
             names: join,
+            own: join,
             compat,
         };
         let (ended, written, counts) = order(&rt, Bounds::of(20, 64), switches, FOREIGN)?;
@@ -418,6 +420,7 @@ fn lines_are_rewritten_by_those_before(rt: HostRuntime) -> Result<(), Fail> {
             join,
             apart,
             names,
+            own: false,
             compat: false,
         };
         let (_, written, _) = order(&rt, Bounds::of(20, 64), switches, MET)?;

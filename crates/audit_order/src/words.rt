@@ -1,6 +1,6 @@
 //! The words of the program, and what they ask for.
 //!
-//!     audit_order [--no-join] [--shared-connections] [--no-names] [--no-compat] [--report] [--window SECONDS] [--memory MB]
+//!     audit_order [--no-join] [--shared-connections] [--no-names] [--no-compat] [--no-descriptors] [--report] [--window SECONDS] [--memory MB]
 //!     audit_order --undo
 ghost use Rattle.std.specs.Prelude.{◌≡◌, map, option_map, string_bytes};
 ghost use Rattle.audit_order.specs.Words.{job_of, is_undo, order_of, with_window, with_memory, has_word, switch_value, number_first, is_word};
@@ -51,11 +51,13 @@ fn order_of(words: &[String]) -> Option<Job>
     let (shared, rest) = has_word(b"--shared-connections", rest);
     let (no_names, rest) = has_word(b"--no-names", rest);
     let (no_compat, rest) = has_word(b"--no-compat", rest);
+    let (no_own, rest) = has_word(b"--no-descriptors", rest);
     let (report, rest) = has_word(b"--report", rest);
     let switches = Switches {
         join: !no_join,
         apart: !shared,
         names: !no_names,
+        own: !no_own,
         compat: !no_compat,
     };
     with_window(switches, report, rest)

@@ -7,7 +7,7 @@ use Rattle.order_calls.specs.declared.deed.Deed.{Deed}
 use Rattle.order_calls.specs.declared.deed.Deed.TheVariants as deed
 use Rattle.order_calls.specs.declared.held.Thing.{Thing}
 use Rattle.order_calls.specs.declared.held.Thing.TheVariants as thing
-use Rattle.order_calls.specs.Deeds.{Event, Said, Holding, is_same, is_at, is_event, opened_after, told, named, copy_of, given, born, held_after, opened_in, held_in}
+use Rattle.order_calls.specs.Deeds.{Event, Said, Holding, is_same, is_at, is_event, opened_after, told, named, copy_of, given, born, closed_in, held_after, opened_in, held_in}
 use Rattle.order_calls.specs.Known.{Fds, no_fds, Known, thing_of, fds_at, held_at, opened_at, Keeps, Becomes, Hears, StandsFor}
 
 pub one_same : (a b : ℕ) → is_same a b ≡ true → a ≡ b
@@ -91,6 +91,16 @@ has_run old mid new pid was now is sets others opens keeps =
     (sets n ∙ ap (λ (f : Fds). if is_same 0 n then thing_of f 0 else Some thing.Other) is))
     (λ p n isnt. all_there (is_same pid p) (if is_same 0 n then held_at old pid 0 else Some thing.Other) (held_at old p n) isnt)
 
+pub has_closed : (old mid new : Known) (pid first last : ℕ) (was now : Fds) → was ≡ fds_at old pid
+    → ((n : ℕ) → thing_of now n ≡ closed_in first last n (thing_of was n))
+    → ((p : ℕ) → is_same pid p ≡ false → fds_at mid p ≡ fds_at old p) → mid.opens ≡ old.opens → Keeps mid new pid now
+    → Becomes old new (λ p n. if is_same pid p then closed_in first last n (held_at old pid n) else held_at old p n)
+has_closed old mid new pid first last was now is sets others opens keeps =
+    becomes old mid new pid now (λ p n. if is_same pid p then closed_in first last n (held_at old pid n) else held_at old p n) others opens keeps
+    (λ p n same. all_here (is_same pid p) (closed_in first last n (held_at old pid n)) (held_at old p n) (thing_of now n) same
+    (sets n ∙ ap (λ (f : Fds). closed_in first last n (thing_of f n)) is))
+    (λ p n isnt. all_there (is_same pid p) (closed_in first last n (held_at old pid n)) (held_at old p n) isnt)
+
 -- what a child holds
 abbrev child_holds : Known → ℕ → ℕ → Option ℕ → ℕ → ℕ → Option Thing
 child_holds old ms pid parent child n = born ms (held_at old child n) (given ms pid parent (held_at old pid n))
@@ -114,6 +124,11 @@ same_opens old new other same = ap (λ (o : List (Event × (ℕ × ℕ))). looku
 pub closed : (old new : Known) (event : Event) (pid fd : ℕ) → Becomes old new (λ p n. if is_at pid fd p n then Some thing.Other else held_at old p n)
     → Hears old new event (deed.Closes pid fd)
 closed old new event pid fd b = record { opens = λ other. same_opens old new other b.opens; held = b.each }
+
+pub ranged : (old new : Known) (event : Event) (pid first last : ℕ)
+    → Becomes old new (λ p n. if is_same pid p then closed_in first last n (held_at old pid n) else held_at old p n)
+    → Hears old new event (deed.ClosesRange pid first last)
+ranged old new event pid first last b = record { opens = λ other. same_opens old new other b.opens; held = b.each }
 
 pub copied : (old new : Known) (ms serial pid from to : ℕ) (found : Option Thing) (what : Thing) → found ≡ held_at old pid from → what ≡ copy_of ms found
     → Becomes old new (λ p n. if is_at pid to p n then Some what else held_at old p n)

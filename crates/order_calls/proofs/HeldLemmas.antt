@@ -11,7 +11,7 @@ use Rattle.std.proofs.lemmas.Map.Entries.{none_past_head, lookup-filter-keys}
 use Rattle.std.proofs.lemmas.Map.Made.{update_all_distinct}
 use Rattle.order_calls.specs.declared.held.Thing.{Thing}
 use Rattle.order_calls.specs.declared.held.Thing.TheVariants as thing
-use Rattle.order_calls.specs.Deeds.{is_same, gift_of, given, since, born}
+use Rattle.order_calls.specs.Deeds.{is_same, gift_of, given, since, born, in_range, not_file, closed_in}
 use Rattle.order_calls.specs.Known.{Fds, at_run, thing_of, left_by}
 use Rattle.order_calls.proofs.FileLemmas.{one_same}
 
@@ -101,6 +101,48 @@ given_by ms pid parent false None = refl
 pub all_since : (ms : ℕ) (found : Option Thing) → option_and_then (λ (t : Thing). Some (since ms t)) found ≡ option_map (since ms) found
 all_since ms None = refl
 all_since ms (Some held) = refl
+
+-- ---- the descriptors of a range are closed
+
+-- what stands at a key becomes another thing by that key, and nothing is left out
+pub all_kept : {F : Type 0} (T : F → ℕ → Thing → Bool → Thing → F → Type 0) (g : ℕ → Thing → Thing) (f : F)
+    → ((k : ℕ) (v : Thing) (b : Bool) (w : Thing) (h : F) → T f k v b w h → (b ≡ true) × (w ≡ g k v) × (h ≡ f))
+    → (es kept : List (ℕ × Thing)) (q : ℕ) → RetainsPairs T f es kept
+    → lookup (is_same q) kept ≡ option_map (g q) (lookup (is_same q) es)
+all_kept T g f step [] kept q retains = ap (λ (l : List (ℕ × Thing)). lookup (is_same q) l) retains
+all_kept {F} T g f step (e ∷ es) kept q (b, w, h, rest, call, more, all) =
+    let says = step e.0 e.1 b w h call in
+    let later = all_kept T g f step es rest q (subst (λ (x : F). RetainsPairs T x es rest) says.2 more) in
+    let whole = all ∙ ap (λ (x : Bool). cond x ((e.0, w) ∷ rest) rest) says.0 in
+    ap (λ (l : List (ℕ × Thing)). lookup (is_same q) l) whole
+    ∙ by_test (is_same q e.0)
+    (λ same. ap (λ (x : Bool). cond x (Some w) (lookup (is_same q) rest)) same
+    ∙ ap (λ (x : Thing). Some x) (says.1 ∙ ap (λ (k : ℕ). g k e.1) (sym (one_same q e.0 same)))
+    ∙ ap (λ (x : Bool). option_map (g q) (cond x (Some e.1) (lookup (is_same q) es))) (sym same))
+    (λ isnt. ap (λ (x : Bool). cond x (Some w) (lookup (is_same q) rest)) isnt ∙ later
+    ∙ ap (λ (x : Bool). option_map (g q) (cond x (Some e.1) (lookup (is_same q) es))) (sym isnt))
+
+-- a thing of a range that is closed
+abbrev pub closed_thing : ℕ → ℕ → ℕ → Thing → Thing
+closed_thing first last n held = if in_range first last n then thing.Other else held
+
+closed_by : (b ran : Bool) (held : Option Thing)
+    → option_or (option_map (λ (t : Thing). if b then thing.Other else t) held) (if ran then Some thing.Other else None)
+    ≡ (if b then not_file (option_or held (if ran then Some thing.Other else None)) else option_or held (if ran then Some thing.Other else None))
+closed_by true true None = refl
+closed_by true false None = refl
+closed_by true ran (Some held) = refl
+closed_by false true None = refl
+closed_by false false None = refl
+closed_by false ran (Some held) = refl
+
+pub range_closed : (inside old : Fds) (after : List (ℕ × Thing)) (first last n : ℕ) → inside ≡ old
+    → lookup (is_same n) after ≡ option_map (closed_thing first last n) (lookup (is_same n) inside.said)
+    → thing_of (record inside { said = after }) n ≡ closed_in first last n (thing_of old n)
+range_closed inside old after first last n same moved =
+    ap (λ (o : Option Thing). option_or o (at_run inside.ran n)) moved
+    ∙ closed_by (in_range first last n) (inside.ran && not (is_same 0 n)) (lookup (is_same n) inside.said)
+    ∙ ap (λ (f : Fds). closed_in first last n (thing_of f n)) same
 
 -- ---- what is left
 

@@ -19,7 +19,7 @@ use Rattle.audit_lex.specs.declared.fields.Kind.TheVariants as kind
 use Rattle.order_calls.specs.declared.deed.Deed.{Deed}
 use Rattle.order_calls.specs.declared.deed.Deed.TheVariants as deed
 use Rattle.order_calls.specs.Deeds.{Event, Said, is_event, told, named}
-use Rattle.order_calls.specs.Known.{Known, opened_at, held_at, is_file_at, Hears, StandsFor}
+use Rattle.order_calls.specs.Known.{Known, opened_at, held_at, is_file_at, StandsFor}
 use Rattle.order_calls.specs.Lines.{Files, has_file_mode, path_deed, call_of_class, deed_of_class, deed_of, HearsIt, HearsLine, saying}
 use Rattle.order_calls.specs.Minor.{is_minor}
 use Rattle.order_calls.proofs.FileLemmas.{heard}
@@ -197,6 +197,7 @@ little_heard known event (Some (deed.Names file)) little none = record {
 little_heard known event (Some deed.Ends) little none = record { opens = λ other. left known event other none; held = λ p n. refl }
 little_heard known event (Some (deed.Opens pid fd)) little none = absurd little
 little_heard known event (Some (deed.Closes pid fd)) little none = absurd little
+little_heard known event (Some (deed.ClosesRange pid first last)) little none = absurd little
 little_heard known event (Some (deed.Copies pid from to)) little none = absurd little
 little_heard known event (Some (deed.Runs pid)) little none = absurd little
 little_heard known event (Some (deed.Begins pid)) little none = absurd little

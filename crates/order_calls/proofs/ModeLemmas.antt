@@ -1,13 +1,12 @@
 -- The mode is looked for word by word.
-use Rattle.std.proofs.Common.{◌≡◌, ◌<◌, ◌∙◌, ◌==◌, ◌||◌, arith, sym, refl, ap, ℕ, Bool, true, false, List, [], ◌∷◌, Option, None, Some, option_map, length, nat_eq, codes, if◌then◌else◌}
-use Rattle.std.specs.List.{starts_with}
+use Rattle.std.proofs.Common.{◌≡◌, ◌<◌, ◌∙◌, ◌==◌, ◌||◌, arith, sym, refl, ap, ℕ, Bool, true, false, List, [], ◌∷◌, Option, None, Some, option_map, length, if◌then◌else◌}
 use Rattle.std.proofs.lemmas.Option.{same_Some}
 use Rattle.order_text.specs.Cut.{Parts, with_byte, first_cut}
-use Rattle.order_calls.specs.Lines.{mode_at, has_file_mode}
+use Rattle.order_calls.specs.Lines.{mode_at, is_file_mode, has_file_mode}
 
 -- the word after a blank, or a later one
 abbrev from_word : List ℕ → Bool
-from_word rest = starts_with nat_eq rest (codes "mode=0100") || has_file_mode rest
+from_word rest = is_file_mode rest || has_file_mode rest
 
 cut_step : (blank : Bool) (b : ℕ) (text : List ℕ) (cut : Option Parts) (before rest : List ℕ)
     → ((x y : List ℕ) → cut ≡ Some (x, y) → has_file_mode text ≡ from_word y)
@@ -21,12 +20,12 @@ mode_cut [] before rest e = absurd (cc e)
 mode_cut (b ∷ text) before rest e = cut_step (b == 32) b text (first_cut 32 text) before rest (λ x y is. mode_cut text x y is) e
 
 pub mode_found : (text before rest : List ℕ) (passes : Bool) → first_cut 32 text ≡ Some (before, rest)
-    → passes ≡ starts_with nat_eq rest (codes "mode=0100") → passes ≡ true → has_file_mode text ≡ true
+    → passes ≡ is_file_mode rest → passes ≡ true → has_file_mode text ≡ true
 mode_found text before rest passes cut is passed =
     mode_cut text before rest cut ∙ ap (λ (b : Bool). b || has_file_mode rest) (sym is ∙ passed)
 
 pub mode_missed : (text before rest : List ℕ) (passes : Bool) → first_cut 32 text ≡ Some (before, rest)
-    → passes ≡ starts_with nat_eq rest (codes "mode=0100") → passes ≡ false → has_file_mode text ≡ has_file_mode rest
+    → passes ≡ is_file_mode rest → passes ≡ false → has_file_mode text ≡ has_file_mode rest
 mode_missed text before rest passes cut is failed =
     mode_cut text before rest cut ∙ ap (λ (b : Bool). b || has_file_mode rest) (sym is ∙ failed)
 

@@ -86,6 +86,17 @@ abbrev pub born : ℕ → Option Thing → Option Thing → Option Thing
 born ms None gift = gift
 born ms (Some own) gift = Some (since ms own)
 
+-- what was said of the descriptors of a range holds no longer, since they were closed
+abbrev pub in_range : ℕ → ℕ → ℕ → Bool
+in_range first last n = nat_le first n && nat_le n last
+
+abbrev pub not_file : Option Thing → Option Thing
+not_file None = None
+not_file (Some held) = Some thing.Other
+
+abbrev pub closed_in : ℕ → ℕ → ℕ → Option Thing → Option Thing
+closed_in first last n held = if in_range first last n then not_file held else held
+
 -- What was last said of a descriptor of a process, after a line too. A process that runs another program is known to keep its
 -- standard input alone, and of one that ended nothing is known.
 abbrev pub held_after : (Event → Option (ℕ × ℕ)) → Holding → Event → Deed → Holding
@@ -93,6 +104,7 @@ held_after opened held event (deed.Opens pid fd) p n = if is_at pid fd p n then 
 held_after opened held event (deed.Names file) p n = named (opened event) (told event.0 file) p n (held p n)
 held_after opened held event deed.Ends p n = held p n
 held_after opened held event (deed.Closes pid fd) p n = if is_at pid fd p n then Some thing.Other else held p n
+held_after opened held event (deed.ClosesRange pid first last) p n = if is_same pid p then closed_in first last n (held pid n) else held p n
 held_after opened held event (deed.Copies pid from to) p n = if is_at pid to p n then Some (copy_of event.0 (held pid from)) else held p n
 held_after opened held event (deed.Runs pid) p n = if is_same pid p then (if is_same 0 n then held pid 0 else Some thing.Other) else held p n
 held_after opened held event (deed.Begins pid) p n = if is_same pid p then None else held p n

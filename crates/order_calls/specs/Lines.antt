@@ -1,11 +1,12 @@
 -- What a line says of its call and of descriptors.
-use Rattle.std.specs.Prelude.{◌≡◌, ℕ, ◌/◌, ◌%◌, ◌==◌, ◌&&◌, ◌||◌, Bool, false, List, [], ◌∷◌, Option, None, Some, option_map, nat_eq, codes, if◌then◌else◌}
-use Rattle.std.specs.List.{list_any, starts_with}
+use Rattle.std.specs.Prelude.{◌≡◌, ℕ, ◌/◌, ◌%◌, ◌^◌, ◌==◌, ◌&&◌, ◌||◌, Bool, true, false, List, [], ◌∷◌, Option, None, Some, option_map, nat_eq, nat_le, codes, if◌then◌else◌}
+use Rattle.std.specs.List.{list_any}
 use Rattle.std.specs.Option.{option_and_then}
 use Rattle.std.specs.Str.{bytes_eq}
 use Rattle.audit_lex.specs.LineClass.{Class, Used, class_of}
 use Rattle.audit_lex.specs.LineFields.{field_in_line}
-use Rattle.audit_lex.specs.Values.{dec32_of, hex32_of}
+use Rattle.audit_lex.specs.Header.{behind}
+use Rattle.audit_lex.specs.Values.{dec32_of, hex32_of, hex64_of}
 use Rattle.audit_lex.specs.declared.fields.Kind.{Kind}
 use Rattle.audit_lex.specs.declared.fields.Kind.TheVariants as kind
 use Rattle.order_calls.specs.declared.call.Call.{Call}
@@ -16,9 +17,32 @@ use Rattle.order_calls.specs.declared.deed.Deed.TheVariants as deed
 use Rattle.order_calls.specs.Deeds.{Event, Said}
 use Rattle.order_calls.specs.Known.{Known, Hears, is_file_at}
 
--- whether a word of a line begins as the mode of a regular file does
+-- an octal digit
+abbrev pub is_octal : ℕ → Bool
+is_octal byte = nat_le 48 byte && nat_le byte 55
+
+-- the end of a word
+abbrev pub ends_word : List ℕ → Bool
+ends_word [] = true
+ends_word (byte ∷ rest) = byte == 32
+
+-- the rest of a word is four octal digits: what a mode allows
+abbrev pub allows_after : List ℕ → Bool
+allows_after (a ∷ b ∷ c ∷ d ∷ rest) = is_octal a && is_octal b && is_octal c && is_octal d && ends_word rest
+allows_after _ = false
+
+abbrev pub if_allows : Option (List ℕ) → Bool
+if_allows None = false
+if_allows (Some text) = allows_after text
+
+-- A text begins with the mode of a regular file. A mode is written as 0 and its octal digits, and the type of a regular file is 10 before
+-- the last four of them.
+abbrev pub is_file_mode : List ℕ → Bool
+is_file_mode text = if_allows (behind (codes "mode=010") text)
+
+-- whether a word of a line is the mode of a regular file
 abbrev pub mode_at : Bool → List ℕ → Bool → Bool
-mode_at blank rest later = if blank then starts_with nat_eq rest (codes "mode=0100") || later else later
+mode_at blank rest later = if blank then is_file_mode rest || later else later
 
 abbrev pub has_file_mode : List ℕ → Bool
 has_file_mode [] = false
@@ -39,6 +63,13 @@ number_in line name = option_and_then dec32_of (field_in_line line name)
 abbrev pub hex_in : List ℕ → List ℕ → Option ℕ
 hex_in line name = option_and_then hex32_of (field_in_line line name)
 
+-- the low 32 bits of such a number
+abbrev pub low_bits : ℕ → ℕ
+low_bits number = number % 2 ^ 32
+
+abbrev pub low_in : List ℕ → List ℕ → Option ℕ
+low_in line name = option_map low_bits (option_and_then hex64_of (field_in_line line name))
+
 -- a call of x86-64, and one that has succeeded
 abbrev pub is_native : List ℕ → Bool
 is_native line = text_in line (codes "arch") (codes "c000003e")
@@ -46,9 +77,10 @@ is_native line = text_in line (codes "arch") (codes "c000003e")
 abbrev pub is_done : List ℕ → Bool
 is_done line = text_in line (codes "success") (codes "yes")
 
--- the calls of x86-64 that may wait for what they take: read, readv, accept, recvfrom, recvmsg, accept4, recvmmsg
+-- the calls of x86-64 that may wait for what they take from the descriptor of their first argument: read, readv, accept, recvfrom,
+-- recvmsg, splice, tee, accept4, recvmmsg, preadv2
 abbrev pub waiting : List ℕ
-waiting = 0 ∷ 19 ∷ 43 ∷ 45 ∷ 47 ∷ 288 ∷ 299 ∷ []
+waiting = 0 ∷ 19 ∷ 43 ∷ 45 ∷ 47 ∷ 275 ∷ 276 ∷ 288 ∷ 299 ∷ 327 ∷ []
 
 -- open, creat, openat, openat2
 abbrev pub opens : ℕ → Bool
@@ -57,6 +89,10 @@ opens number = list_any (nat_eq number) (2 ∷ 85 ∷ 257 ∷ 437 ∷ [])
 -- close
 abbrev pub closes : ℕ → Bool
 closes number = number == 3
+
+-- close_range
+abbrev pub closes_range : ℕ → Bool
+closes_range number = number == 436
 
 -- the commands of fcntl that copy a descriptor
 abbrev pub is_copy : Option ℕ → Bool
@@ -92,6 +128,16 @@ begins number = list_any (nat_eq number) (56 ∷ 435 ∷ [])
 abbrev pub runs : ℕ → Bool
 runs number = list_any (nat_eq number) (59 ∷ 322 ∷ [])
 
+-- whether a close_range closes now: the flag 4 says that an exec will
+abbrev pub closes_now : Option ℕ → Bool
+closes_now None = true
+closes_now (Some flags) = lacks 4 flags
+
+-- the descriptors of a range are closed, if both its ends are there
+abbrev pub range_from : ℕ → Option ℕ → Option ℕ → Option ℕ → Option Deed
+range_from pid (Some first) (Some last) flags = if closes_now flags then Some (deed.ClosesRange pid first last) else None
+range_from pid _ _ flags = None
+
 -- a copy of one descriptor to another, if both are there
 abbrev pub copies_from : ℕ → Option ℕ → Option ℕ → Option Deed
 copies_from pid (Some from) (Some to) = Some (deed.Copies pid from to)
@@ -108,14 +154,22 @@ deed_with number pid parent answer first second =
     else if begins number then option_map deed.Begins answer
     else if runs number then Some (deed.Runs pid) else None
 
+-- what the record of a close_range says, of whose ends the low 32 bits count
+abbrev pub range_in : List ℕ → ℕ → Option Deed
+range_in line pid = range_from pid (low_in line (codes "a0")) (low_in line (codes "a1")) (hex_in line (codes "a2"))
+
+-- what the record of a call says that has succeeded
+abbrev pub deed_done : List ℕ → ℕ → ℕ → Option Deed
+deed_done line number pid =
+    if closes_range number then range_in line pid
+    else deed_with number pid (number_in line (codes "ppid")) (number_in line (codes "exit")) (hex_in line (codes "a0")) (hex_in line (codes "a1"))
+
 -- what the record of a call says, whose process and number are there: the end of a process has no answer
 abbrev pub deed_from : List ℕ → Option ℕ → Option ℕ → Option Deed
 deed_from line (Some pid) (Some number) =
     if is_native line then
     if number == 231 then Some (deed.Begins pid)
-    else if is_done line then
-    deed_with number pid (number_in line (codes "ppid")) (number_in line (codes "exit")) (hex_in line (codes "a0")) (hex_in line (codes "a1"))
-    else None
+    else if is_done line then deed_done line number pid else None
     else None
 deed_from line _ _ = None
 

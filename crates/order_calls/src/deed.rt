@@ -19,6 +19,12 @@ pub enum Deed {
         pid: u32,
         fd: u32,
     },
+    /// The descriptors from `first` to `last` were closed.
+    ClosesRange {
+        pid: u32,
+        first: u32,
+        last: u32,
+    },
     /// The descriptor `to` holds what `from` holds.
     Copies {
         pid: u32,

@@ -94,6 +94,7 @@ impl Files {
             Deed::Names { file } => self.name(ms, serial, file),
             Deed::Ends => self.end(ms, serial),
             Deed::Closes { pid, fd } => self.close(pid, fd),
+            Deed::ClosesRange { pid, first, last } => self.close_range(pid, first, last),
             Deed::Copies { pid, from, to } => self.copy(ms, pid, from, to),
             Deed::Runs { pid } => self.run(pid),
             Deed::Begins { pid } => self.begin(pid),
@@ -134,6 +135,16 @@ impl Files {
             Hears self.old self.new event (Deed.Closes pid fd)) }
     {
         self.set(pid, fd, Thing::Other)
+    }
+
+    // A process closed the descriptors of a range.
+    fn close_range(&mut self, pid: u32, first: u32, last: u32) -> Result<(), NoMemory>
+        ensures { OnOk result ((event : Event) →
+            Hears self.old self.new event (Deed.ClosesRange pid first last)) }
+    {
+        let mut held = self.take(pid);
+        held.close_range(first, last);
+        self.keep(pid, held)
     }
 
     // A process copied a descriptor.

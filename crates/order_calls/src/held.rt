@@ -1,7 +1,7 @@
 //! What is known of the descriptors of a process.
-ghost use Rattle.std.specs.Prelude.{◌≡◌, ℕ, None, Some, IfOk, OnOk, IfSome, option_map, is_some, if◌then◌else◌};
+ghost use Rattle.std.specs.Prelude.{◌≡◌, ℕ, None, Some, true, IfOk, OnOk, IfSome, option_map, is_some, if◌then◌else◌};
 ghost use Rattle.std.specs.Map.{lookup};
-ghost use Rattle.order_calls.specs.Deeds.{is_same, counts, gift_of, given, since, born, is_regular};
+ghost use Rattle.order_calls.specs.Deeds.{is_same, counts, gift_of, given, since, born, closed_in, is_regular};
 ghost use Rattle.order_calls.specs.Known.{no_fds, at_run, thing_of, left_by};
 
 use flow_base::NoMemory;
@@ -72,6 +72,14 @@ impl Held {
     {
         self.said.insert(fd, thing)?;
         Ok(())
+    }
+
+    /// What was said of the descriptors of a range holds no longer: they were closed.
+    pub fn close_range(&mut self, first: u32, last: u32)
+        ensures { (n : ℕ) → thing_of self.new n ≡ closed_in first last n (thing_of self.old n) }
+    {
+        self.said
+            .retain(|fd, thing| close_if(first <= *fd && *fd <= last, thing));
     }
 
     /// The process began to run another program: the standard input alone is known to stay.
@@ -197,6 +205,17 @@ fn since(ms: u64, thing: Thing) -> Thing
         Thing::Other => Thing::Other,
         Thing::File { since, from: _ } => { if ms <= since { thing } else { Thing::Other } }
     }
+}
+
+// A thing is no file any longer, if that is so. It stays in any case.
+fn close_if(closes: bool, thing: &mut Thing) -> bool
+    ensures kept { result ≡ true }
+    ensures now { thing.new ≡ (if closes then Thing.Other else thing.old) }
+{
+    if closes {
+        *thing = Thing::Other;
+    }
+    true
 }
 
 // A thing becomes another one, if there is one. Says whether there is.

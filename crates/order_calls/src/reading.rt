@@ -4,7 +4,7 @@ ghost use Rattle.std.specs.List.{list_any};
 ghost use Rattle.audit_lex.specs.FieldTable.{name_of};
 ghost use Rattle.order_calls.specs.Deeds.{Said};
 ghost use Rattle.order_calls.specs.Known.{is_file_at, StandsFor};
-ghost use Rattle.order_calls.specs.Lines.{text_in, number_in, hex_in, is_native, is_done, opens, closes, copies, copies_from, opens_socket, lacks, is_apart, forks, begins, runs, waiting, deed_with, deed_in, deed_of_path, deed_of_kind, call_in, call_of_kind, takes_from, HearsKind, HearsLine, saying, deed_of};
+ghost use Rattle.order_calls.specs.Lines.{text_in, number_in, hex_in, is_native, is_done, opens, closes, closes_range, closes_now, copies, copies_from, opens_socket, lacks, is_apart, forks, begins, runs, waiting, deed_with, deed_done, range_in, low_in, deed_in, deed_of_path, deed_of_kind, call_in, call_of_kind, takes_from, HearsKind, HearsLine, saying, deed_of};
 ghost use Rattle.order_calls.specs.Reads.{IsRead};
 
 use crate::call::{Call, Takes};
@@ -12,7 +12,7 @@ use crate::deed::Deed;
 use crate::files::Files;
 use crate::minor::is_minor;
 use crate::mode::has_file_mode;
-use audit_lex::{Field, Kind, Lexed, UsedLine, dec32, hex32, lex};
+use audit_lex::{Field, Kind, Lexed, UsedLine, dec32, hex32, hex64, lex};
 use flow_base::NoMemory;
 
 /// The longest line that is read for its call.
@@ -189,7 +189,40 @@ fn deed_in(used: &UsedLine<'_>) -> Option<Deed>
     if !is_done(used) {
         return None;
     }
+    deed_done(used, number, pid)
+}
+
+// What the record of a call says that has succeeded.
+fn deed_done(used: &UsedLine<'_>, number: u32, pid: u32) -> Option<Deed>
+    ensures { result ≡ deed_done used.now.line.now number pid }
+{
+    if closes_range(number) {
+        return range_in(used, pid);
+    }
     deed_with(used, number, pid)
+}
+
+// What the record of a close_range says.
+fn range_in(used: &UsedLine<'_>, pid: u32) -> Option<Deed>
+    ensures { result ≡ range_in used.now.line.now pid }
+{
+    let first = low_in(used, Field::A0)?;
+    let last = low_in(used, Field::A1)?;
+    if closes_now(hex_in(used, Field::A2)) {
+        Some(Deed::ClosesRange { pid, first, last })
+    } else {
+        None
+    }
+}
+
+// Whether a close_range closes now: the flag 4 says that an exec will.
+fn closes_now(flags: Option<u32>) -> bool
+    ensures { result ≡ closes_now flags }
+{
+    match flags {
+        None => true,
+        Some(flags) => lacks(4, flags),
+    }
 }
 
 // What a call did that has succeeded, by its number, its process, its answer and its arguments.
@@ -253,6 +286,13 @@ fn closes(number: u32) -> bool
     number == 3
 }
 
+// close_range
+fn closes_range(number: u32) -> bool
+    ensures { result ≡ closes_range number }
+{
+    number == 436
+}
+
 // dup, dup2, dup3, and fcntl with the commands that copy
 fn copies(number: u32, command: Option<u32>) -> bool
     ensures { result ≡ copies number command }
@@ -306,12 +346,12 @@ fn runs(number: u32) -> bool
     matches!(number, 59 | 322)
 }
 
-// Whether a call of this number of x86-64 takes what it may have waited for: read, readv, accept, recvfrom, recvmsg,
-// accept4, recvmmsg.
+// Whether a call of this number of x86-64 takes what it may have waited for, from the descriptor of its first argument: read,
+// readv, accept, recvfrom, recvmsg, splice, tee, accept4, recvmmsg, preadv2.
 fn may_wait(number: u32) -> bool
     ensures { result ≡ list_any (nat_eq number) waiting }
 {
-    matches!(number, 0 | 19 | 43 | 45 | 47 | 288 | 299)
+    matches!(number, 0 | 19 | 43 | 45 | 47 | 275 | 276 | 288 | 299 | 327)
 }
 
 // Whether a call is one of x86-64.
@@ -350,4 +390,12 @@ fn hex_in(used: &UsedLine<'_>, field: Field) -> Option<u32>
     ensures { result ≡ hex_in used.now.line.now (name_of field) }
 {
     hex32(used.field(field)?)
+}
+
+// The low 32 bits of the number that a field spells in hex digits.
+fn low_in(used: &UsedLine<'_>, field: Field) -> Option<u32>
+    ensures { result ≡ low_in used.now.line.now (name_of field) }
+{
+    let number = hex64(used.field(field)?)?;
+    Some((number % 0x1_0000_0000) as u32)
 }

@@ -75,6 +75,7 @@ CALLS =
     (378, 327) ∷  -- preadv2
     (379, 328) ∷  -- pwritev2
     (435, 435) ∷  -- clone3
+    (436, 436) ∷  -- close_range
     (437, 437) ∷  -- openat2
     []
 

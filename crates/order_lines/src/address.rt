@@ -56,8 +56,8 @@ fn value_at(text: &[u8]) -> &[u8]
     before_byte(0x1d, before_byte(b' ', text))
 }
 
-// What stands before the first such byte, or the whole text.
-fn before_byte(byte: u8, text: &[u8]) -> &[u8]
+/// What stands before the first such byte, or the whole text.
+pub fn before_byte(byte: u8, text: &[u8]) -> &[u8]
     ensures { result.now ≡ before_byte byte text.now }
 {
     match at_first(byte, text) {

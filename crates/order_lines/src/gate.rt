@@ -3,7 +3,7 @@ ghost use Rattle.std.specs.Prelude.{◌≡◌};
 ghost use Rattle.order_lines.specs.Gate.{native_in, native_of};
 
 // The number of a 32-bit call and that of the 64-bit call with the same arguments, as far as the main program reads them.
-static CALLS: [(u32, u32); 72] = [
+static CALLS: [(u32, u32); 73] = [
     (2, 57), // fork
     (3, 0), // read
     (4, 1), // write
@@ -75,6 +75,7 @@ static CALLS: [(u32, u32); 72] = [
     (378, 327), // preadv2
     (379, 328), // pwritev2
     (435, 435), // clone3
+    (436, 436), // close_range
     (437, 437), // openat2
 ];
 

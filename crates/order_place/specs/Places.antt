@@ -7,6 +7,7 @@ use Rattle.std.specs.Ordering.{nat_cmp, ordering_then, is_eq}
 use Rattle.order_text.specs.Cut.{first_cut}
 use Rattle.order_text.specs.Stamp.{Stamp, line_of}
 use Rattle.order_text.specs.declared.rewrite.Rewrite.{Rewrite}
+use Rattle.order_lines.specs.Own.{names_own}
 use Rattle.order_lines.specs.Rules.{change_of}
 use Rattle.order_calls.specs.declared.call.Call.{Call}
 use Rattle.order_calls.specs.declared.call.Takes.{Takes}
@@ -37,11 +38,13 @@ event_cmp a b = ordering_then (nat_cmp a.0 b.0) (nat_cmp a.1 b.1)
 abbrev pub is_event : ℕ × ℕ → ℕ × ℕ → Bool
 is_event a b = is_eq (event_cmp a b)
 
--- A PROCTITLE stands after the other lines of its event, and an EOE after that.
-abbrev pub rank_of : List ℕ → ℕ
-rank_of front =
-    if ends_with nat_eq front (codes "type=PROCTITLE msg=audit") then 1
-    else if ends_with nat_eq front (codes "type=EOE msg=audit") then 2 else 0
+-- A PROCTITLE stands after the other lines of its event, and an EOE after that. The record of a path that names a descriptor stands
+-- before them, so that it is known what the event's call opened when the call's record is seen.
+abbrev pub rank_of : Stamp → ℕ
+rank_of s =
+    if ends_with nat_eq s.front (codes "type=PROCTITLE msg=audit") then 2
+    else if ends_with nat_eq s.front (codes "type=EOE msg=audit") then 3
+    else if names_own s then 0 else 1
 
 -- the name of the node that a line is of, as `node=NAME`; none if the line doesn't begin so
 abbrev pub before_blank : Option (List ℕ × List ℕ) → List ℕ
@@ -61,7 +64,7 @@ pub record IsPlaceOf (s : Stamp) (p : Place) : Type 0 where
   pub node : p.node ≡ node_of s.front
   pub serial : p.serial ≡ s.number
   pub ms : p.ms ≡ s.ms
-  pub rank : p.rank ≡ rank_of s.front
+  pub rank : p.rank ≡ rank_of s
   pub starts : p.starts ≡ is_boot s.front
 
 -- the time before which no call of a process counts, if a call of it was seen

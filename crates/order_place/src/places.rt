@@ -10,13 +10,13 @@ use crate::node::Node;
 use crate::nodes::Nodes;
 use audit_lex::UsedLine;
 use flow_base::{Bytes, NoMemory};
-use order_lines::{Settings, rewrite_of};
+use order_lines::{Settings, names_own, rewrite_of};
 use order_text::{Rewrite, Stamp, at_first, read_stamp};
 use std::alloc::Global;
 use std::marker::Model;
 
-/// The place of a line: the time at which its event counts; the serial number, the time and the node of the event; 1 or 2
-/// if the line is one that ends an event; and whether the line says that its node was started.
+/// The place of a line: the time at which its event counts; the serial number, the time and the node of the event; its rank
+/// within that, which is 2 or 3 if the line is one that ends an event, 0 if it names a descriptor, and else 1; and whether the line says that its node was started.
 #[derive(Drop)]
 pub struct Place {
     pub time: u64,
@@ -152,7 +152,7 @@ impl Places {
             serial: stamp.number,
             ms: stamp.ms,
             node: name.copy()?,
-            rank: rank_of(stamp.front),
+            rank: rank_of(stamp),
             starts,
         };
         self.keep_node(name, node)
@@ -275,15 +275,17 @@ pub fn is_boot(front: &[u8]) -> bool
         || front.ends_with(b"type=DAEMON_START msg=audit")
 }
 
-// 1 and 2 for the lines that end an event, which stand last.
-fn rank_of(front: &[u8]) -> u8
-    ensures { result ≡ rank_of front.now }
+// 2 and 3 for the lines that end an event, which stand last, and 0 for the name of a descriptor, which stands first.
+fn rank_of(stamp: &Stamp<'_>) -> u8
+    ensures { result ≡ rank_of (stamp_seen stamp.now) }
 {
-    if front.ends_with(b"type=PROCTITLE msg=audit") {
-        1
-    } else if front.ends_with(b"type=EOE msg=audit") {
+    if stamp.front.ends_with(b"type=PROCTITLE msg=audit") {
         2
-    } else {
+    } else if stamp.front.ends_with(b"type=EOE msg=audit") {
+        3
+    } else if names_own(stamp) {
         0
+    } else {
+        1
     }
 }

@@ -1,6 +1,6 @@
 -- A path's record says nothing that changes what is known, unless the newest call opened what it names.
 use Rattle.std.proofs.Common.{◌≡◌, sym, refl, ap, subst, ℕ, Bool, true, false, List, Option, None, Some, if◌then◌else◌}
-use Rattle.std.specs.Prelude.{◌&&◌, not, is_some}
+use Rattle.std.specs.Prelude.{◌&&◌, not, is_none, is_some}
 use Rattle.audit_lex.specs.LineClass.{Class, Used, Other, Blank, Malformed}
 use Rattle.audit_lex.specs.declared.header.EventKey.{EventKey}
 use Rattle.audit_lex.specs.declared.fields.Kind.{Kind}
@@ -11,7 +11,9 @@ use Rattle.order_rules.specs.declared.under.Under.{Under}
 use Rattle.order_rules.specs.declared.under.Opened.{Opened}
 use Rattle.order_rules.specs.Deeds.{Said, Names, is_event, of_event, opened_in, named, base_in, path_from, under_in, under_after}
 use Rattle.order_rules.specs.Known.{Known, held_at, Hears, StandsFor}
-use Rattle.order_rules.specs.Lines.{is_path_opened, directory_name, deed_of_kind}
+use Rattle.order_lines.specs.Own.{own_in}
+use Rattle.order_lines.specs.declared.own.Own.{Own}
+use Rattle.order_rules.specs.Lines.{is_path_opened, directory_name, path_said, deed_of_kind}
 use Rattle.order_rules.specs.Quiet.{is_path}
 use Rattle.order_rules.specs.Rewrites.{Ends, ends_in, rewrite_kind, rewrite_class, class_in, saying, said_after, rewritten}
 use Rattle.order_rules.proofs.TableLemmas.{heard}
@@ -51,32 +53,35 @@ nothing_named known key name none = record {
   waits = λ place. refl;
 }
 
-path_stands : (known : Known) (said : List Said) (key : EventKey) (opened : Bool) (name : Option (List ℕ)) → is_some (opened_in known.under) ≡ false
-    → StandsFor known said → StandsFor known (saying key (if opened then Some (Names name) else None) said)
-path_stands known said key true name none stands = heard known known key (Names name) said (nothing_named known key name none) stands
-path_stands known said key false name none stands = stands
+path_stands : (known : Known) (said : List Said) (key : EventKey) (opened : Bool) (own : Option Own) (line : List ℕ) → is_some (opened_in known.under) ≡ false
+    → is_none own ≡ true → StandsFor known said → StandsFor known (saying key (if opened then Some (path_said own line) else None) said)
+path_stands known said key true None line none free stands = heard known known key (Names (directory_name line)) said (nothing_named known key (directory_name line) none) stands
+path_stands known said key true (Some own) line none free stands = absurd (cc free)
+path_stands known said key false own line none free stands = stands
 
 kind_said : (known : Known) (said : List Said) (line : List ℕ) (class : Class) → OfKind kind.Path class → is_some (opened_in known.under) ≡ false
-    → StandsFor known said → StandsFor known (said_after line class said)
-kind_said known said line (Used key of) is none stands =
+    → is_none (own_in line) ≡ true → StandsFor known said → StandsFor known (said_after line class said)
+kind_said known said line (Used key of) is none free stands =
     subst (λ (k : Kind). StandsFor known (saying key (deed_of_kind line k) said)) (sym is)
-    (path_stands known said key (is_path_opened line) (directory_name line) none stands)
-kind_said known said line Other of none stands = absurd of
-kind_said known said line Blank of none stands = absurd of
-kind_said known said line (Malformed fault) of none stands = stands
+    (path_stands known said key (is_path_opened line) (own_in line) line none free stands)
+kind_said known said line Other of none free stands = absurd of
+kind_said known said line Blank of none free stands = absurd of
+kind_said known said line (Malformed fault) of none free stands = stands
 
-both : (a b : Bool) → (a && not b) ≡ true → (a ≡ true) × (b ≡ false)
-both true true is = absurd (cc is)
-both true false is = (refl, refl)
-both false b is = absurd (cc is)
+both : (a b c : Bool) → (a && (not b && c)) ≡ true → (a ≡ true) × (b ≡ false) × (c ≡ true)
+both true true c is = absurd (cc is)
+both true false true is = (refl, refl, refl)
+both true false false is = absurd (cc is)
+both false b c is = absurd (cc is)
 
-pub passed_rewritten : (settings : Settings) (said : List Said) (known : Known) (line : List ℕ) → (is_path line && not (is_some (opened_in known.under))) ≡ true
-    → None ≡ rewritten settings said line
+pub passed_rewritten : (settings : Settings) (said : List Said) (known : Known) (line : List ℕ)
+    → (is_path line && (not (is_some (opened_in known.under)) && is_none (own_in line))) ≡ true → None ≡ rewritten settings said line
 passed_rewritten settings said known line passes = kind_rewritten settings (under_in said) (ends_in said) line (class_in line)
-    (begins_path line (both (is_path line) (is_some (opened_in known.under)) passes).0)
+    (begins_path line (both (is_path line) (is_some (opened_in known.under)) (is_none (own_in line)) passes).0)
 
-pub passed_said : (known : Known) (said : List Said) (line : List ℕ) → (is_path line && not (is_some (opened_in known.under))) ≡ true → StandsFor known said
+pub passed_said : (known : Known) (said : List Said) (line : List ℕ)
+    → (is_path line && (not (is_some (opened_in known.under)) && is_none (own_in line))) ≡ true → StandsFor known said
     → StandsFor known (said_after line (class_in line) said)
 passed_said known said line passes stands =
-    let is = both (is_path line) (is_some (opened_in known.under)) passes in
-    kind_said known said line (class_in line) (begins_path line is.0) is.1 stands
+    let is = both (is_path line) (is_some (opened_in known.under)) (is_none (own_in line)) passes in
+    kind_said known said line (class_in line) (begins_path line is.0) is.1 is.2 stands

@@ -8,7 +8,7 @@ use Rattle.audit_lex.specs.declared.header.EventKey.{EventKey}
 use Rattle.order_rules.specs.declared.held.Held.{Held}
 use Rattle.order_rules.specs.declared.under.Under.{Under}
 use Rattle.order_rules.specs.Addresses.{is_any}
-use Rattle.order_rules.specs.Deeds.{Deed, Said, Holding, Hosts, Places, Waits, is_same, is_one, changed, at_exec, clock_after, clock_in, under_after, held_after, hosts_after, places_after, waits_after, under_in, held_in, is_host_in, is_place_in, waits_in}
+use Rattle.order_rules.specs.Deeds.{Deed, Said, Holding, Hosts, Places, Waits, is_same, is_one, changed, at_exec, in_range, inherited, clock_after, clock_in, under_after, held_after, hosts_after, places_after, waits_after, under_in, held_in, is_host_in, is_place_in, waits_in}
 use Rattle.order_rules.specs.Known.{Fds, Known, no_fds, held_of, fds_at, held_at, is_host_at, is_place_at, waits_at, Leaves, Keeps, Becomes, AddsHost, Hears, StandsFor}
 
 pub one_same : (a b : ℕ) → is_same a b ≡ true → a ≡ b
@@ -109,12 +109,21 @@ has_run old mid new pid was now is sets leaves keeps =
     (sets n ∙ ap (λ (f : Fds). at_exec (held_of f n)) (is ∙ ap (fds_at old) (one_same pid p same))))
     (λ p n isnt. if_there (is_same pid p) (at_exec (held_at old p n)) (held_at old p n) isnt)
 
-pub has_begun : (old new : Known) (pid child : ℕ) (fds : Fds) → fds ≡ fds_at old pid → Keeps old new child fds
-    → Becomes old new (λ p n. if is_same child p then held_at old pid n else held_at old p n)
+pub has_begun : (old new : Known) (pid child : ℕ) (fds : Fds) → ((n : ℕ) → held_of fds n ≡ inherited n (held_at old pid n)) → Keeps old new child fds
+    → Becomes old new (λ p n. if is_same child p then inherited n (held_at old pid n) else held_at old p n)
 has_begun old new pid child fds is keeps =
-    becomes old old new child fds (λ p n. if is_same child p then held_at old pid n else held_at old p n) (λ p isnt. refl) refl refl refl keeps
-    (λ p n same. if_here (is_same child p) (held_at old pid n) (held_at old p n) (held_of fds n) same (ap (λ (f : Fds). held_of f n) is))
-    (λ p n isnt. if_there (is_same child p) (held_at old pid n) (held_at old p n) isnt)
+    becomes old old new child fds (λ p n. if is_same child p then inherited n (held_at old pid n) else held_at old p n) (λ p isnt. refl) refl refl refl keeps
+    (λ p n same. if_here (is_same child p) (inherited n (held_at old pid n)) (held_at old p n) (held_of fds n) same (is n))
+    (λ p n isnt. if_there (is_same child p) (inherited n (held_at old pid n)) (held_at old p n) isnt)
+
+pub has_closed : (old mid new : Known) (pid first last : ℕ) (was now : Fds) → was ≡ fds_at old pid
+    → ((n : ℕ) → held_of now n ≡ (if in_range first last n then None else held_of was n)) → Leaves old mid pid → Keeps mid new pid now
+    → Becomes old new (λ p n. if is_same pid p && in_range first last n then None else held_at old p n)
+has_closed old mid new pid first last was now is sets leaves keeps =
+    becomes old mid new pid now (λ p n. if is_same pid p && in_range first last n then None else held_at old p n) leaves.others leaves.under leaves.hosts leaves.doors keeps
+    (λ p n same. set_here (is_same pid p) (in_range first last n) None (held_at old p n) (held_of now n) same
+    (sets n ∙ ap (λ (f : Fds). if in_range first last n then None else held_of f n) (is ∙ ap (fds_at old) (one_same pid p same))))
+    (λ p n isnt. set_there (is_same pid p) (in_range first last n) None (held_at old p n) isnt)
 
 ended_held : (b : Bool) (n : ℕ) (before after : Option Fds) → after ≡ (if b then None else before)
     → held_of (unwrap_or after no_fds) n ≡ (if b then None else held_of (unwrap_or before no_fds) n)

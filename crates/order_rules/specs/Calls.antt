@@ -107,6 +107,19 @@ abbrev pub closed : Option ℕ → Act
 closed None = act.Nothing
 closed (Some fd) = act.Closes fd
 
+-- close_range
+abbrev pub closes_range : ℕ → Bool
+closes_range number = number == 436
+
+-- whether it closes now: the flag 4 says that an exec will
+abbrev pub closes_now : Option ℕ → Bool
+closes_now None = true
+closes_now (Some flags) = lacks 4 (Some flags)
+
+abbrev pub ranged : Option ℕ → Option ℕ → Option ℕ → Act
+ranged (Some first) (Some last) flags = if closes_now flags then act.ClosesRange first last else act.Nothing
+ranged _ _ flags = act.Nothing
+
 -- a copy of a descriptor onto itself does nothing
 abbrev pub copied : Option ℕ → Option ℕ → Bool → Act
 copied (Some from) (Some to) stays = if from == to then act.Nothing else act.Copies from to stays
@@ -127,6 +140,7 @@ act_with number answer args =
     if opens number then opened answer (open_stays number args)
     else if makes number then made answer (socket_stays number args) (makes_kind number args)
     else if number == 3 then closed args.first
+    else if closes_range number then ranged args.first args.second args.third
     else if copies number args.second then copied args.first answer (copy_stays number args)
     else if marks number args.second then marked args.first args.third
     else if begins number args.first then begun answer

@@ -1,5 +1,5 @@
 -- What is known by what lines said, looking back from the newest one.
-use Rattle.std.specs.Prelude.{ℕ, ◌==◌, ◌&&◌, ◌||◌, not, Bool, true, false, List, [], ◌∷◌, ◌++◌, Option, None, Some, option_map, length, max, nat_le, codes, decimal, if◌then◌else◌}
+use Rattle.std.specs.Prelude.{ℕ, ◌==◌, ◌&&◌, ◌||◌, not, Bool, true, false, List, [], ◌∷◌, ◌++◌, Option, None, Some, option_map, length, max, nat_le, nat_lt, codes, decimal, if◌then◌else◌}
 use Rattle.std.specs.Ordering.{nat_cmp, is_eq}
 use Rattle.std.specs.Cmp.Lexicographic.{slice_cmp}
 use Rattle.audit_lex.specs.declared.header.EventKey.{EventKey}
@@ -107,14 +107,23 @@ at_exec (Some held) = if held.stays then Some held else None
 abbrev pub socket : List ℕ → SocketKind → Bool → Held
 socket place kind stays = record { thing = thing.Socket place kind; stays = stays }
 
+-- a descriptor of a range
+abbrev pub in_range : ℕ → ℕ → ℕ → Bool
+in_range first last n = nat_le first n && nat_le n last
+
+-- what a process that begins is known to hold of what its parent does: the descriptors below 256
+abbrev pub inherited : ℕ → Option Held → Option Held
+inherited n held = if nat_lt n 256 then held else None
+
 -- what descriptors hold after a process has done this
 abbrev pub acted : Holding → ℕ → Act → Holding
 acted held pid act.Nothing p n = held p n
 acted held pid (act.Opens fd stays) p n = changed held pid fd None p n
 acted held pid (act.Makes fd stays kind) p n = changed held pid fd (Some (socket [] kind stays)) p n
 acted held pid (act.Closes fd) p n = changed held pid fd None p n
+acted held pid (act.ClosesRange first last) p n = if is_same pid p && in_range first last n then None else held p n
 acted held pid (act.Copies from to stays) p n = changed held pid to (copy_of stays (held pid from)) p n
-acted held pid (act.Begins child) p n = if is_same child p then held pid n else held p n
+acted held pid (act.Begins child) p n = if is_same child p then inherited n (held pid n) else held p n
 acted held pid act.Runs p n = if is_same pid p then at_exec (held p n) else held p n
 acted held pid act.Ends p n = if is_same pid p then None else held p n
 
@@ -152,13 +161,15 @@ abbrev pub or_else : Option (List ℕ) → Option (List ℕ) → Option (List �
 or_else None other = other
 or_else (Some text) other = Some text
 
-abbrev pub cwd_in : Option Under → Option (List ℕ)
-cwd_in None = None
-cwd_in (Some under) = under.cwd
+-- what the names of a call are relative to: the directory of its descriptor, if that is known, or the working directory if they are
+-- relative to no descriptor
+abbrev pub base_by : Holding → ℕ → Asks → Option (List ℕ) → Option (List ℕ)
+base_by held pid (asks.At fd) cwd = path_in (held pid fd)
+base_by held pid _ cwd = cwd
 
--- what the names of a call are relative to: that directory, or the working directory
 abbrev pub base_in : Holding → Option Under → Option (List ℕ)
-base_in held under = or_else (directory_in held under) (cwd_in under)
+base_in held None = None
+base_in held (Some under) = base_by held under.call.pid under.call.asks under.cwd
 
 -- an absolute path of at most 4,096 bytes
 abbrev pub kept_path : List ℕ → Option (List ℕ)
@@ -294,9 +305,13 @@ called hosts _ _ = None
 abbrev pub Places : Type 0
 Places = List ℕ → Bool
 
--- a socket was bound to this place
+-- a place that is known: a socket that is bound to port 0 gets another one, which the log doesn't say
+abbrev pub is_known : List ℕ → Bool
+is_known place = not (is_any place)
+
+-- a socket was bound to this place, if it is known
 abbrev pub placed : Places → Option (ℕ × ℕ) → Option (List ℕ) → Places
-placed places (Some socket) (Some new) place = if is_one new place then true else places place
+placed places (Some socket) (Some new) place = if is_known new && is_one new place then true else places place
 placed places _ _ place = places place
 
 abbrev pub places_after : Option Under → Places → EventKey → Deed → Places
@@ -430,9 +445,9 @@ knock_name now waits event None = None
 knock_name now waits event (Some target) = or_else (found_name now (waits target.0)) (Some (name_of target.1 event))
 
 -- the name of the connection that was accepted
-abbrev pub answer_name : Waits → EventKey → List ℕ → Option (List ℕ) → Option (List ℕ)
-answer_name waits event bytes None = None
-answer_name waits event bytes (Some at) = or_else (wait_name (waits at)) (own_name event at bytes)
+abbrev pub answer_name : ℕ → Waits → EventKey → List ℕ → Option (List ℕ) → Option (List ℕ)
+answer_name now waits event bytes None = None
+answer_name now waits event bytes (Some at) = or_else (wait_name now (waits at)) (own_name event at bytes)
 
 -- ---- accepts that didn't ask for the peer's address
 

@@ -9,6 +9,10 @@ use Rattle.order_rules.specs.declared.doors.Door.TheVariants as door
 abbrev pub is_fresh : ℕ → Early → Bool
 is_fresh now early = nat_le (now - early.time) 4
 
+-- connects that wait to be accepted do so for 20 seconds since the first of them
+abbrev pub is_waiting : ℕ → Wait → Bool
+is_waiting now wait = nat_le (now - wait.since) 20000
+
 -- the accepts of a place that wait still, the earliest first: older ones wait no more
 abbrev pub fresh : ℕ → List Early → List Early
 fresh now [] = []
@@ -34,23 +38,30 @@ first_name (early ∷ later) = Some early.name
 
 -- the name that a connect finds at a place: that of the connects which wait there, or of the first accept that waits still
 abbrev pub found_name : ℕ → Door → Option (List ℕ)
-found_name now (door.Connects wait) = Some wait.name
+found_name now (door.Connects wait) = if is_waiting now wait then Some wait.name else None
 found_name now (door.Accepts early) = first_name (fresh now early)
 
 -- the name that an accept finds at a place: that of the connects which wait there
-abbrev pub wait_name : Door → Option (List ℕ)
-wait_name (door.Connects wait) = Some wait.name
-wait_name (door.Accepts early) = None
+abbrev pub wait_name : ℕ → Door → Option (List ℕ)
+wait_name now (door.Connects wait) = if is_waiting now wait then Some wait.name else None
+wait_name now (door.Accepts early) = None
+
+-- the first connect that waits at a place gives its name to those that come to it
+abbrev pub first_wait : ℕ → List ℕ → Door
+first_wait now name = door.Connects (record { name = name; count = 1; since = now })
 
 -- a connect takes the first of these accepts, or waits itself by this name
-abbrev pub taken : List ℕ → List Early → Door
-taken name [] = door.Connects (record { name = name; count = 1 })
-taken name (early ∷ later) = door.Accepts later
+abbrev pub taken : ℕ → List ℕ → List Early → Door
+taken now name [] = first_wait now name
+taken now name (early ∷ later) = door.Accepts later
+
+abbrev pub joined : Wait → Door
+joined wait = door.Connects (record wait { count = wait.count + 1 })
 
 -- what waits at a place after one more connect
 abbrev pub one_more : ℕ → List ℕ → Door → Door
-one_more now name (door.Connects wait) = door.Connects (record wait { count = wait.count + 1 })
-one_more now name (door.Accepts early) = taken name (fresh now early)
+one_more now name (door.Connects wait) = if is_waiting now wait then joined wait else first_wait now name
+one_more now name (door.Accepts early) = taken now name (fresh now early)
 
 -- an accept takes one of the connects that wait
 abbrev pub one_less : Wait → Door
@@ -63,5 +74,5 @@ lined_up now (Some name) early = fresh now early ++ record { name = name; time =
 
 -- what waits at a place after one more accept, whose connection has this name if no connect waits
 abbrev pub one_in : ℕ → Option (List ℕ) → Door → Door
-one_in now own (door.Connects wait) = one_less wait
+one_in now own (door.Connects wait) = if is_waiting now wait then one_less wait else door.Accepts (lined_up now own [])
 one_in now own (door.Accepts early) = door.Accepts (lined_up now own early)

@@ -10,7 +10,7 @@ use Rattle.order_rules.specs.declared.doors.Door.{Door}
 use Rattle.order_rules.specs.declared.target.Target.{Target}
 use Rattle.order_rules.specs.Addresses.{Inet, is_any, inet_of, place_of}
 use Rattle.order_rules.specs.Doors.{nobody}
-use Rattle.order_rules.specs.Deeds.{Deed, Said, Holding, Hosts, Places, Waits, is_same, is_one, clock_after, clock_in, under_after, held_after, hosts_after, places_after, waits_after, under_in, held_in, is_host_in, is_place_in, waits_in, changed, bound_to, bound, hosted, placed, met, bound_in, of_event}
+use Rattle.order_rules.specs.Deeds.{Deed, Said, Holding, Hosts, Places, Waits, is_same, is_known, is_one, clock_after, clock_in, under_after, held_after, hosts_after, places_after, waits_after, under_in, held_in, is_host_in, is_place_in, waits_in, changed, bound_to, bound, hosted, placed, met, bound_in, of_event}
 
 -- what a process holds: what an exec leaves open, and what it closes
 pub record Fds : Type 0 where
@@ -117,7 +117,7 @@ AddsHostOf old new (Some inet) = AddsHost old new inet.0
 -- a socket was bound to a place
 pub record BindsPlace (old new : Known) (pid fd : ℕ) (place : List ℕ) : Type 0 where
   pub held : (p n : ℕ) → held_at new p n ≡ changed (held_at old) pid fd (Some (bound_to place (held_at old pid fd))) p n
-  pub places : (other : List ℕ) → is_place_at new.doors other ≡ (if is_one place other then true else is_place_at old.doors other)
+  pub places : (other : List ℕ) → is_place_at new.doors other ≡ (if is_known place && is_one place other then true else is_place_at old.doors other)
   pub waits : new.doors.waits ≡ old.doors.waits
   pub clock : new.doors.clock ≡ old.doors.clock
   pub hosts : new.hosts ≡ old.hosts

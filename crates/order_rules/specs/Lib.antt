@@ -1,5 +1,6 @@
 pub mod Addresses
 pub mod Calls
+pub mod Copies
 pub mod Deeds
 pub mod Doors
 pub mod Kept

@@ -12,6 +12,9 @@ use Rattle.order_rules.specs.declared.call.Act.{Act}
 use Rattle.order_rules.specs.declared.call.Act.TheVariants as act
 use Rattle.order_rules.specs.declared.call.Call.{Call}
 use Rattle.order_rules.specs.declared.call.Args.{Args}
+use Rattle.order_lines.specs.Own.{own_in}
+use Rattle.order_lines.specs.declared.own.Own.{Own}
+use Rattle.order_rules.specs.Copies.{owning}
 use Rattle.order_rules.specs.Calls.{act_with, asks_with}
 use Rattle.order_rules.specs.Deeds.{Deed, Calls, Stands, Names, Addresses}
 
@@ -101,9 +104,15 @@ directory_name line = if has_directory_mode line then text_in line (codes "name"
 abbrev pub is_path_opened : List ℕ → Bool
 is_path_opened line = has_text line (codes "nametype") (codes "NORMAL") || has_text line (codes "nametype") (codes "CREATE")
 
+-- What the record of a path says that was opened: a name of a descriptor is seen before the call's own record, and stands for it till then.
+-- Another path is what the call has opened.
+abbrev pub path_said : Option Own → List ℕ → Deed
+path_said None line = Names (directory_name line)
+path_said (Some own) line = Calls (owning own)
+
 -- what a path's record says
 abbrev pub path_deed : List ℕ → Option Deed
-path_deed line = if is_path_opened line then Some (Names (directory_name line)) else None
+path_deed line = if is_path_opened line then Some (path_said (own_in line) line) else None
 
 -- what a line of a kind says
 abbrev pub deed_of_kind : List ℕ → Kind → Option Deed

@@ -10,7 +10,9 @@ use Rattle.order_rules.specs.declared.settings.Settings.{Settings}
 use Rattle.order_rules.specs.declared.under.Under.{Under}
 use Rattle.order_rules.specs.Addresses.{inet_of}
 use Rattle.order_rules.specs.Deeds.{Deed, Holding, Hosts, Places, Waits, Said, directory_in, is_free, own_place_in, called, knocked, answered, knock_name, answer_name, is_silent, blank_peer, or_else, of_event, clock_in, under_in, held_in, is_host_in, is_place_in, waits_in}
-use Rattle.order_rules.specs.Lines.{bytes_in, deed_of_kind}
+use Rattle.order_lines.specs.declared.own.Own.{Own}
+use Rattle.order_rules.specs.Copies.{owned_by, rewrite_call}
+use Rattle.order_rules.specs.Lines.{bytes_in, call_in, deed_of_kind}
 use Rattle.order_rules.specs.Texts.{written_text, rewrite_line}
 
 -- the record of a working directory has the directory that the names of its call are relative to
@@ -35,7 +37,7 @@ pub record Ends : Type 0 where
 abbrev pub name_at : Ends → Option Under → EventKey → List ℕ → Option (List ℕ)
 name_at ends under event bytes = or_else
     (knock_name ends.clock ends.waits event (knocked ends.held ends.hosts ends.places under bytes))
-    (answer_name ends.waits event bytes (answered ends.held ends.hosts under bytes))
+    (answer_name ends.clock ends.waits event bytes (answered ends.held ends.hosts under bytes))
 
 -- the address that the peer of an accept or a datagram has called, or calls in answer to one
 abbrev pub called_at : Ends → Option Under → List ℕ → Option (List ℕ)
@@ -51,8 +53,14 @@ abbrev pub at_end : Bool → Ends → Option Under → EventKey → List ℕ →
 at_end apart ends under event line None = None
 at_end apart ends under event line (Some bytes) = at_address line (address_at apart ends under event bytes)
 
+-- the descriptor that records of an event have named before that of its call
+abbrev pub owned_in : Option Under → Option Own
+owned_in None = None
+owned_in (Some under) = owned_by under.call.asks
+
 -- what becomes of a line of a kind and an event, if the call that it belongs to is this
 abbrev pub rewrite_kind : Settings → Ends → Option Under → EventKey → List ℕ → Kind → Option Rewrite
+rewrite_kind settings ends under event line kind.Syscall = rewrite_call settings.own (owned_in under) line (call_in line)
 rewrite_kind settings ends under event line kind.Cwd =
     if settings.names then at_directory line (directory_in ends.held under) else None
 rewrite_kind settings ends under event line kind.Sockaddr =

@@ -32,6 +32,9 @@ pub fn act_with(number: u32, answer: Option<u32>, args: Args) -> Act
     if number == 3 {
         return closed(args.first);
     }
+    if closes_range(number) {
+        return ranged(args.first, args.second, args.third);
+    }
     if copies(number, args.second) {
         return copied(args.first, answer, copy_stays(number, args));
     }
@@ -218,6 +221,38 @@ fn closed(fd: Option<u32>) -> Act
     match fd {
         Some(fd) => Act::Closes { fd },
         None => Act::Nothing,
+    }
+}
+
+// close_range
+fn closes_range(number: u32) -> bool
+    ensures { result ≡ calls.closes_range number }
+{
+    number == 436
+}
+
+// Whether a close_range closes now: the flag 4 says that an exec will.
+fn closes_now(flags: Option<u32>) -> bool
+    ensures { result ≡ calls.closes_now flags }
+{
+    match flags {
+        None => true,
+        Some(_) => lacks(4, flags),
+    }
+}
+
+fn ranged(first: Option<u32>, last: Option<u32>, flags: Option<u32>) -> Act
+    ensures { result ≡ calls.ranged first last flags }
+{
+    match (first, last) {
+        (Some(first), Some(last)) => {
+            if closes_now(flags) {
+                Act::ClosesRange { first, last }
+            } else {
+                Act::Nothing
+            }
+        }
+        _ => Act::Nothing,
     }
 }
 

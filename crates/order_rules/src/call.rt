@@ -1,5 +1,7 @@
 //! Calls, as the rules ask for them.
 
+use order_lines::Own;
+
 /// What a call does to the descriptors of its process.
 #[derive(Clone, Copy, Debug, PartialEq, Eq)]
 pub enum Act {
@@ -20,13 +22,18 @@ pub enum Act {
     Closes {
         fd: u32,
     },
+    /// It closes the descriptors from `first` to `last`.
+    ClosesRange {
+        first: u32,
+        last: u32,
+    },
     /// The descriptor `to` holds what `from` holds.
     Copies {
         from: u32,
         to: u32,
         stays: bool,
     },
-    /// It begins a process that holds what its own process holds.
+    /// It begins a process that inherits what its own process holds.
     Begins {
         child: u32,
     },
@@ -64,6 +71,8 @@ pub enum Asks {
     Receives { fd: u32 },
     /// The peer to which something was sent by this descriptor.
     Sends { fd: u32 },
+    /// The call's own record: this was the name of a descriptor, which may be what the call opens.
+    Owns { own: Own },
 }
 
 /// A call: the process that made it, what it does, and what the records after it say.

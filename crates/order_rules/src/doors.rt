@@ -1,22 +1,28 @@
 //! The places that sockets were bound to, and what waits there: connects to be accepted, or accepts that were recorded before their
 //! connects. Both at once never wait at a place.
-ghost use Rattle.std.specs.Prelude.{◌≡◌, ℕ, List, Bool, true, false, max, option_map, IfOk, OnOk, if◌then◌else◌};
-ghost use Rattle.order_rules.specs.Deeds.{is_one};
+ghost use Rattle.std.specs.Prelude.{◌≡◌, ◌&&◌, ℕ, List, Bool, true, false, None, Some, max, option_map, IfOk, OnOk, if◌then◌else◌};
+ghost use Rattle.order_rules.specs.Deeds.{is_known, is_one};
 ghost use Rattle.order_rules.specs.Doors as doors;
-ghost use Rattle.order_rules.specs.Doors.{nobody, fresh, one_more, one_less, one_in, lined_up, found_name, wait_name};
+ghost use Rattle.order_rules.specs.Doors.{nobody, fresh, one_more, one_less, one_in, found_name, wait_name};
 ghost use Rattle.order_rules.specs.Known.{no_meetings, is_place_at, waits_at};
 
+use crate::address::is_any;
 use crate::early::{Early, Queue};
 use flow_base::{Bytes, NoMemory};
 use std::alloc::Global;
 use std::collections::{BTreeMap, BTreeSet};
 use std::marker::Model;
 
-/// Connects that wait at a place: the name that their connections share, and how many they are.
+/// For how many milliseconds connects wait, since the first of them. It has to be long, since a server may be busy; but one that nobody
+/// accepts isn't to give its name to others for ever.
+const PATIENCE: u64 = 20_000;
+
+/// Connects that wait at a place: the name that their connections share, how many they are, and the time of the node at the first.
 #[derive(Drop)]
 pub struct Wait {
     pub name: Bytes,
     pub count: u64,
+    pub since: u64,
 }
 
 /// What waits at a place.
@@ -83,13 +89,17 @@ impl Doors {
         self.places.contains(place)
     }
 
-    /// A socket was bound to a place.
+    /// A socket was bound to a place, unless it was to port 0: then the kernel has chosen one that the log doesn't say.
     pub fn add_place(&mut self, place: Bytes) -> Result<(), NoMemory>
         ensures places { OnOk result ((other : List ℕ) → is_place_at self.new other
-            ≡ (if is_one place other then true else is_place_at self.old other)) }
+            ≡ (if is_known place && is_one place other then true
+            else is_place_at self.old other)) }
         ensures waits { OnOk result (self.new.waits ≡ self.old.waits) }
         ensures clock { OnOk result (self.new.clock ≡ self.old.clock) }
     {
+        if is_any(place.as_slice()) {
+            return Ok(());
+        }
         self.places.insert(place)?;
         Ok(())
     }
@@ -100,17 +110,18 @@ impl Doors {
             ≡ found_name self.now.clock (waits_at self.now place.now) }
     {
         match self.waits.get(place)? {
-            Door::Connects(wait) => Some(wait.name.as_slice()),
+            Door::Connects(wait) => waiting_name(self.clock, wait),
             Door::Accepts(queue) => queue.first(self.clock),
         }
     }
 
     /// The name of the connects that wait at a place.
     pub fn name(&self, place: &Bytes) -> Option<&[u8]>
-        ensures { option_map (λ name. name.now) result ≡ wait_name (waits_at self.now place.now) }
+        ensures { option_map (λ name. name.now) result
+            ≡ wait_name self.now.clock (waits_at self.now place.now) }
     {
         match self.waits.get(place)? {
-            Door::Connects(wait) => Some(wait.name.as_slice()),
+            Door::Connects(wait) => waiting_name(self.clock, wait),
             Door::Accepts(_) => None,
         }
     }
@@ -171,6 +182,25 @@ impl Doors {
     }
 }
 
+// Whether connects wait still.
+fn is_waiting(now: u64, wait: &Wait) -> bool
+    ensures { result ≡ doors.is_waiting now wait.now }
+{
+    now.saturating_sub(wait.since) <= PATIENCE
+}
+
+// The name of connects, if they wait still.
+fn waiting_name(now: u64, wait: &Wait) -> Option<&[u8]>
+    ensures { option_map (λ name. name.now) result
+        ≡ (if doors.is_waiting now wait.now then Some wait.now.name else None) }
+{
+    if is_waiting(now, wait) {
+        Some(wait.name.as_slice())
+    } else {
+        None
+    }
+}
+
 // Whether nothing waits.
 fn is_empty(door: &Door) -> bool
     ensures { result ≡ true → door.now ≡ nobody }
@@ -186,25 +216,45 @@ fn with_connect(now: u64, name: Bytes, door: Door) -> Result<Door, NoMemory>
     ensures { IfOk result (λ made. made ≡ one_more now name door) }
 {
     match door {
-        Door::Connects(wait) => match wait.count.checked_add(1) {
-            Some(count) => Ok(Door::Connects(Wait {
-                name: wait.name,
-                count,
-            })),
-            None => Err(NoMemory),
-        },
+        Door::Connects(wait) if is_waiting(now, &wait) => with_one(wait),
+        Door::Connects(_) => Ok(first_wait(now, name)),
         Door::Accepts(queue) => Ok(taken(now, name, queue)),
     }
 }
 
+// One more connect waits with these.
+fn with_one(wait: Wait) -> Result<Door, NoMemory>
+    ensures { IfOk result (λ made. made ≡ doors.joined wait) }
+{
+    match wait.count.checked_add(1) {
+        Some(count) => Ok(Door::Connects(Wait {
+            name: wait.name,
+            count,
+            since: wait.since,
+        })),
+        None => Err(NoMemory),
+    }
+}
+
+// A connect is the first that waits.
+fn first_wait(now: u64, name: Bytes) -> Door
+    ensures { result ≡ doors.first_wait now name }
+{
+    Door::Connects(Wait {
+        name,
+        count: 1,
+        since: now,
+    })
+}
+
 // A connect takes the first accept that waits still, or waits itself.
 fn taken(now: u64, name: Bytes, mut queue: Queue) -> Door
-    ensures { result ≡ doors.taken name (fresh now queue) }
+    ensures { result ≡ doors.taken now name (fresh now queue) }
 {
     if queue.take(now) {
         return Door::Accepts(queue);
     }
-    Door::Connects(Wait { name, count: 1 })
+    first_wait(now, name)
 }
 
 // One more accept has come.
@@ -212,12 +262,18 @@ fn with_accept(alloc: Global, now: u64, own: Option<Bytes>, door: Door) -> Resul
     ensures { IfOk result (λ made. made ≡ one_in now own door) }
 {
     match door {
-        Door::Connects(wait) => Ok(without_one(alloc, wait)),
-        Door::Accepts(queue) => {
-            let queue = lined_up(now, own, queue)?;
-            Ok(Door::Accepts(queue))
-        }
+        Door::Connects(wait) if is_waiting(now, &wait) => Ok(without_one(alloc, wait)),
+        Door::Connects(_) => alone(now, own, Queue::new(alloc)),
+        Door::Accepts(queue) => alone(now, own, queue),
     }
+}
+
+// An accept finds no connect, but these accepts.
+fn alone(now: u64, own: Option<Bytes>, queue: Queue) -> Result<Door, NoMemory>
+    ensures { IfOk result (λ made. made ≡ Door.Accepts (doors.lined_up now own queue)) }
+{
+    let queue = lined_up(now, own, queue)?;
+    Ok(Door::Accepts(queue))
 }
 
 // An accept takes one of the connects that wait.
@@ -230,6 +286,7 @@ fn without_one(alloc: Global, wait: Wait) -> Door
     Door::Connects(Wait {
         name: wait.name,
         count: wait.count - 1,
+        since: wait.since,
     })
 }
 

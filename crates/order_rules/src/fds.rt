@@ -2,7 +2,7 @@
 //!
 //! What an exec leaves open stands in one map and what it closes in another, so that an exec clears one of them.
 ghost use Rattle.std.specs.Prelude.{◌≡◌, ℕ, None, Some, true, option_map, IfOk, OnOk, IsTrue, if◌then◌else◌};
-ghost use Rattle.order_rules.specs.Deeds.{is_same, at_exec};
+ghost use Rattle.order_rules.specs.Deeds.{is_same, at_exec, in_range, inherited};
 ghost use Rattle.order_rules.specs.Known.{no_fds, held_of, with_mark};
 
 use crate::held::{Held, Thing};
@@ -10,6 +10,9 @@ use flow_base::NoMemory;
 use std::alloc::Global;
 use std::collections::BTreeMap;
 use std::marker::Model;
+
+/// Of how many descriptors, by their numbers, a process that begins inherits what is known.
+const INHERITED: u32 = 256;
 
 /// What the descriptors of a process hold, as far as it is known.
 #[derive(Drop)]
@@ -102,12 +105,46 @@ impl Fds {
         self.marked.clear();
     }
 
-    /// A second value.
-    pub fn copy(&self) -> Result<Fds, NoMemory>
+    /// The descriptors of a range hold nothing that is known from now on.
+    pub fn close_range(&mut self, first: u32, last: u32)
+        ensures { (n : ℕ) → held_of self.new n
+            ≡ (if in_range first last n then None else held_of self.old n) }
+    {
+        self.kept.retain(|fd, _| !is_in_range(first, last, *fd));
+        self.marked.retain(|fd, _| !is_in_range(first, last, *fd));
+    }
+
+    /// What a process that begins inherits of it: what is known of the descriptors below 256, so that there is a bound to what a fork
+    /// copies.
+    pub fn inherit(&self) -> Result<Fds, NoMemory>
+        ensures { IfOk result (λ made. (n : ℕ) → held_of made n ≡ inherited n (held_of self.now n)) }
+    {
+        let mut made = self.copy()?;
+        made.keep_low();
+        Ok(made)
+    }
+
+    // What isn't inherited is left out.
+    fn keep_low(&mut self)
+        ensures { (n : ℕ) → held_of self.new n ≡ inherited n (held_of self.old n) }
+    {
+        self.kept.retain(|fd, _| *fd < INHERITED);
+        self.marked.retain(|fd, _| *fd < INHERITED);
+    }
+
+    // A second value.
+    fn copy(&self) -> Result<Fds, NoMemory>
         ensures { IfOk result (λ made. made ≡ self.now) }
     {
         let kept = self.kept.clone()?;
         let marked = self.marked.clone()?;
         Ok(Fds { kept, marked })
     }
+}
+
+// Whether a descriptor is in a range.
+fn is_in_range(first: u32, last: u32, fd: u32) -> bool
+    ensures { result ≡ in_range first last fd }
+{
+    first <= fd && fd <= last
 }

@@ -1,14 +1,17 @@
 //! What becomes of a line, and what is known after it.
-ghost use Rattle.std.specs.Prelude.{◌≡◌, ◌&&◌, not, is_some, List, IfOk, OnOk, option_map, codes};
+ghost use Rattle.std.specs.Prelude.{◌≡◌, ◌&&◌, not, is_none, is_some, List, IfOk, OnOk, option_map, codes};
 ghost use Rattle.std.specs.Option.{option_copied};
 ghost use Rattle.order_rules.specs.Deeds.{Said, Calls, Addresses, of_event, opened_in};
 ghost use Rattle.order_rules.specs.Quiet.{is_path};
-ghost use Rattle.order_rules.specs.Known.{HearsIt, StandsFor};
+ghost use Rattle.order_lines.specs.Own.{own_in};
+ghost use Rattle.order_rules.specs.Copies.{rewrite_call};
+ghost use Rattle.order_rules.specs.Known.{Hears, HearsIt, StandsFor};
 ghost use Rattle.order_rules.specs.Kept.{ends_of};
-ghost use Rattle.order_rules.specs.Lines.{call_in, bytes_in, deed_of_kind};
+ghost use Rattle.order_rules.specs.Lines.{call_in, bytes_in, path_said, deed_of_kind};
 ghost use Rattle.order_rules.specs.Notes.{IsNoted};
-ghost use Rattle.order_rules.specs.Rewrites.{class_in, said_after, rewritten, rewrite_kind, at_directory, at_address, at_end, address_at, lacks_peer};
+ghost use Rattle.order_rules.specs.Rewrites.{class_in, said_after, rewritten, owned_in, rewrite_kind, at_directory, at_address, at_end, address_at, lacks_peer};
 
+use crate::copies::{owning, rewrite_call};
 use crate::note::Note;
 use crate::quiet::{is_path, is_quiet};
 use crate::reading::{bytes_in, call_in, directory_name, is_path_opened, text_in};
@@ -17,6 +20,7 @@ use crate::settings::Settings;
 use crate::table::Table;
 use audit_lex::{EventKey, Field, Kind, Lexed, UsedLine, lex};
 use flow_base::{Bytes, NoMemory};
+use order_lines::own_in;
 use order_text::Rewrite;
 use std::alloc::Global;
 
@@ -42,12 +46,28 @@ impl Table {
             → StandsFor self.new (said_after line.now (class_in line.now) said)) }
     {
         match note {
-            Some(note) => {
-                self.hear_note(note)?;
-                Ok(None)
-            }
+            Some(note) => self.see_noted(alloc, settings, line, note),
             None => self.see_unread(alloc, settings, line),
         }
+    }
+
+    // What becomes of the record of a call, of which this was noted.
+    fn see_noted(
+        &mut self,
+        alloc: Global,
+        settings: Settings,
+        line: &[u8],
+        note: Note,
+    ) -> Result<Option<Rewrite>, NoMemory>
+        ensures rewrites { IfOk result (λ made. made ≡ rewrite_call settings.own
+            (owned_in (of_event self.old.under note.key)) line.now note.call) }
+        ensures hears { OnOk result
+            (HearsIt self.old self.new note.key (option_map Calls note.call)) }
+    {
+        let owned = self.owned(note.key);
+        let made = rewrite_call(alloc, settings.own, owned, line, note.call)?;
+        self.hear_note(note)?;
+        Ok(made)
     }
 
     // The record of a call was seen, with what was noted of it.
@@ -82,11 +102,12 @@ impl Table {
         }
     }
 
-    // Whether a line is the record of a path, which says nothing unless the newest call opened what it names.
+    // Whether a line is the record of a path, which says nothing unless the newest call opened what it names, or it names a descriptor.
     fn passes(&self, line: &[u8]) -> bool
-        ensures { result ≡ (is_path line.now && not (is_some (opened_in self.now.under))) }
+        ensures { result ≡ (is_path line.now
+            && (not (is_some (opened_in self.now.under)) && is_none (own_in line.now))) }
     {
-        is_path(line) && !self.opens()
+        is_path(line) && !self.opens() && own_in(line).is_none()
     }
 
     // What becomes of a used line.
@@ -119,6 +140,10 @@ impl Table {
             used.now.line.now used.now.kind) }
     {
         match used.kind {
+            Kind::Syscall => {
+                let owned = self.owned(used.key);
+                rewrite_call(alloc, settings.own, owned, used.line, call_in(used))
+            }
             Kind::Cwd if settings.names => at_directory(alloc, used.line, self.directory(used.key)),
             Kind::Sockaddr if settings.join => self.at_end(alloc, settings.apart, used),
             _ => Ok(None),
@@ -183,12 +208,23 @@ impl Table {
                 self.hear_cwd(used.key, cwd);
                 Ok(())
             }
-            Kind::Path if is_path_opened(used) => {
+            Kind::Path if is_path_opened(used) => self.hear_path(alloc, used),
+            Kind::Sockaddr => self.hear_saddr(alloc, used),
+            _ => Ok(()),
+        }
+    }
+
+    // The record of a path was seen that was opened.
+    fn hear_path(&mut self, alloc: Global, used: &UsedLine<'_>) -> Result<(), NoMemory>
+        ensures { OnOk result (Hears self.old self.new used.now.key
+            (path_said (own_in used.now.line.now) used.now.line.now)) }
+    {
+        match own_in(used.line) {
+            Some(own) => self.hear_call(used.key, owning(own)),
+            None => {
                 let name = directory_name(alloc, used)?;
                 self.hear_name(used.key, name)
             }
-            Kind::Sockaddr => self.hear_saddr(alloc, used),
-            _ => Ok(()),
         }
     }
 

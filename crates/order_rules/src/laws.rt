@@ -14,5 +14,6 @@ pub fn rewrites_fit_their_lines()
 /// Nothing is written otherwise if no rule holds.
 pub fn nothing_changes_without_a_rule()
     ensures { (settings : Settings) (lines : List (List ℕ)) (line : List ℕ)
-        → settings.names ≡ false → settings.join ≡ false → rewrite_of settings lines line ≡ None }
+        → settings.names ≡ false → settings.own ≡ false → settings.join ≡ false
+        → rewrite_of settings lines line ≡ None }
 {}

@@ -4,6 +4,7 @@
 //!     type=CWD msg=audit(1780992001.300:107): cwd="/home/alice"        becomes cwd="/srv", if the descriptor 5 is /srv
 //!
 //! - A name that is relative to a directory's descriptor is relative to that directory, and not to the working directory.
+//! - An open of a descriptor by its name, such as /dev/fd/63, is a copy of the descriptor.
 //! - A peer of this machine that was accepted has the address that it has called, as the record of its connect has.
 //! - Or each connection has a name of its own at both ends, an address of family 1 as 127.0.0.1:4444#1780992001300:107.
 //! - A peer of this machine from which a datagram was received, or to which one was sent in answer, has the address that it has called.
@@ -15,6 +16,7 @@
 mod acts;
 mod address;
 mod call;
+mod copies;
 mod doors;
 mod early;
 mod fds;

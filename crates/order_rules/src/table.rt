@@ -1,17 +1,18 @@
 //! What lines said of the processes of a node.
-ghost use Rattle.std.specs.Prelude.{◌≡◌, ◌∷◌, ℕ, [], None, Some, not, is_some, option_map, IfOk, OnOk, if◌then◌else◌};
+ghost use Rattle.std.specs.Prelude.{◌≡◌, ◌∷◌, ◌&&◌, ℕ, [], None, Some, not, is_some, option_map, IfOk, OnOk, if◌then◌else◌};
 ghost use Rattle.order_rules.specs.Deeds as deeds;
-ghost use Rattle.order_rules.specs.Deeds.{Passes, Calls, Stands, Names, Addresses, is_same, is_local, changed, acted, copy_of, at_exec, directory, directory_in, cwd_in, base_in, path_from, path_in, place_at, kept_path, opened_in, bound_in, of_event, listening_in, own_place_in, socket, bound_to, datagram_place, knocked, if_placed, is_connect, connects, is_silent, accepts_silently, kind_in, kind_at, met_at, target_by, inet_target, answered, is_near, name_of, or_else, stem_by, stem_from, own_name, answer_name, waited, left};
+ghost use Rattle.order_rules.specs.Deeds.{Passes, Calls, Stands, Names, Addresses, is_same, is_local, changed, acted, copy_of, at_exec, in_range, inherited, directory, directory_in, base_in, path_from, path_in, place_at, kept_path, opened_in, bound_in, of_event, listening_in, own_place_in, socket, bound_to, datagram_place, knocked, if_placed, is_connect, connects, is_silent, accepts_silently, kind_in, kind_at, met_at, target_by, inet_target, answered, is_near, name_of, or_else, stem_by, stem_from, own_name, answer_name, waited, left};
 ghost use Rattle.order_rules.specs.Doors.{found_name, wait_name};
 ghost use Rattle.name_text.specs.Addresses.{text_of};
 ghost use Rattle.order_rules.specs.Addresses as addresses;
 ghost use Rattle.order_rules.specs.Addresses.{inet_of, is_unix};
-ghost use Rattle.order_rules.specs.Known.{nothing, fds_at, held_at, is_host_at, is_place_at, waits_at, with_mark, target_seen, Leaves, Keeps, Becomes, AddsHost, AddsHostOf, Binds, BindsPlace, Meets, NowWait, Hears, StandsFor};
+ghost use Rattle.order_rules.specs.Known.{nothing, fds_at, held_at, held_of, is_host_at, is_place_at, waits_at, with_mark, target_seen, Leaves, Keeps, Becomes, AddsHost, AddsHostOf, Binds, BindsPlace, Meets, NowWait, Hears, StandsFor};
 ghost use Rattle.order_rules.specs.Kept.{ends_of};
-ghost use Rattle.order_rules.specs.Rewrites.{name_at, called_at};
+ghost use Rattle.order_rules.specs.Rewrites.{name_at, called_at, owned_in};
 
 use crate::address::{address_of, inet_key, inet_of, is_any, is_loopback, is_unix, place_of};
 use crate::call::{Act, Asks, Call, SocketKind};
+use crate::copies::owned_by;
 use crate::doors::Doors;
 use crate::fds::Fds;
 use crate::held::{Held, Thing};
@@ -21,6 +22,7 @@ use crate::under::{Opened, Under, is_event, met_at, stood};
 use audit_lex::EventKey;
 use flow_base::{Bytes, NoMemory};
 use name_text::{address_key, address_text, join_path};
+use order_lines::Own;
 use std::alloc::Global;
 use std::collections::{BTreeMap, BTreeSet};
 use std::marker::Model;
@@ -298,8 +300,8 @@ impl Table {
 
     // The name of the connection that was accepted.
     fn answer_name(&self, key: EventKey, bytes: &[u8]) -> Result<Option<Bytes>, NoMemory>
-        ensures { IfOk result (λ made. made ≡ answer_name (waits_at self.now.doors)
-            key bytes.now (answered (held_at self.now) (is_host_at self.now)
+        ensures { IfOk result (λ made. made ≡ answer_name self.now.doors.clock
+            (waits_at self.now.doors) key bytes.now (answered (held_at self.now) (is_host_at self.now)
             (of_event self.now.under key) bytes.now)) }
     {
         match self.answered(key, bytes)? {
@@ -311,7 +313,7 @@ impl Table {
     // The name of a connection that was accepted at a place.
     fn name_at(&self, key: EventKey, place: &Bytes, bytes: &[u8]) -> Result<Option<Bytes>, NoMemory>
         ensures { IfOk result (λ made. made ≡ or_else
-            (wait_name (waits_at self.now.doors place.now)) (own_name key place.now bytes.now)) }
+            (wait_name self.now.doors.clock (waits_at self.now.doors place.now)) (own_name key place.now bytes.now)) }
     {
         match self.doors.name(place) {
             Some(name) => {
@@ -564,6 +566,16 @@ impl Table {
         }
     }
 
+    /// The descriptor that records of an event have named before that of its call.
+    pub fn owned(&self, key: EventKey) -> Option<Own>
+        ensures { result ≡ owned_in (of_event self.now.under key) }
+    {
+        match self.under_of(key) {
+            Some(under) => owned_by(under.call.asks),
+            None => None,
+        }
+    }
+
     /// Whether the newest call opened a descriptor.
     pub fn opens(&self) -> bool
         ensures { result ≡ is_some (opened_in self.now.under) }
@@ -605,20 +617,10 @@ impl Table {
         ensures { option_map (λ path. path.now) result
             ≡ base_in (held_at self.now) (of_event self.now.under key) }
     {
-        match self.directory(key) {
-            Some(path) => Some(path),
-            None => self.cwd(key),
-        }
-    }
-
-    // The working directory that an event's records named.
-    fn cwd(&self, key: EventKey) -> Option<&[u8]>
-        ensures { option_map (λ path. path.now) result
-            ≡ cwd_in (of_event self.now.under key) }
-    {
-        match &self.under_of(key)?.cwd {
-            Some(cwd) => Some(cwd.as_slice()),
-            None => None,
+        let under = self.under_of(key)?;
+        match under.call.asks {
+            Asks::At { fd: directory } => self.path_at(under.call.pid, directory),
+            _ => cwd_of(under),
         }
     }
 
@@ -648,6 +650,7 @@ impl Table {
                 self.set(pid, fd, Some(made))
             }
             Act::Closes { fd } => self.set(pid, fd, None),
+            Act::ClosesRange { first, last } => self.close_range(pid, first, last),
             Act::Copies { from, to, stays } => self.copy(pid, from, to, stays),
             Act::Begins { child } => self.begin(pid, child),
             Act::Runs => self.run(pid),
@@ -656,6 +659,16 @@ impl Table {
                 Ok(())
             }
         }
+    }
+
+    // The descriptors of a range are closed.
+    fn close_range(&mut self, pid: u32, first: u32, last: u32) -> Result<(), NoMemory>
+        ensures { OnOk result (Becomes self.old self.new (λ p n.
+            if is_same pid p && in_range first last n then None else held_at self.old p n)) }
+    {
+        let mut fds = self.take(pid);
+        fds.close_range(first, last);
+        self.keep(pid, fds)
     }
 
     // A descriptor holds what another does.
@@ -680,21 +693,22 @@ impl Table {
         }
     }
 
-    // A process begins that holds what another does.
+    // A process begins that inherits what another holds.
     fn begin(&mut self, pid: u32, child: u32) -> Result<(), NoMemory>
-        ensures { OnOk result (Becomes self.old self.new (λ p n.
-            if is_same child p then held_at self.old pid n else held_at self.old p n)) }
+        ensures { OnOk result (Becomes self.old self.new (λ p n. if is_same child p
+            then inherited n (held_at self.old pid n) else held_at self.old p n)) }
     {
-        let fds = self.copy_fds(pid)?;
+        let fds = self.inherited(pid)?;
         self.keep(child, fds)
     }
 
-    // What a process holds, a second time.
-    fn copy_fds(&self, pid: u32) -> Result<Fds, NoMemory>
-        ensures { IfOk result (λ made. made ≡ fds_at self.now pid) }
+    // What a process that begins inherits of another.
+    fn inherited(&self, pid: u32) -> Result<Fds, NoMemory>
+        ensures { IfOk result (λ made.
+            (n : ℕ) → held_of made n ≡ inherited n (held_at self.now pid n)) }
     {
         match self.processes.get(&pid) {
-            Some(fds) => fds.copy(),
+            Some(fds) => fds.inherit(),
             None => Ok(Fds::new(self.alloc)),
         }
     }
@@ -769,6 +783,16 @@ impl Table {
         }
         self.processes.insert(pid, fds)?;
         Ok(())
+    }
+}
+
+// The working directory that records of a call's event named.
+fn cwd_of(under: &Under) -> Option<&[u8]>
+    ensures { option_map (λ path. path.now) result ≡ under.now.cwd }
+{
+    match &under.cwd {
+        Some(cwd) => Some(cwd.as_slice()),
+        None => None,
     }
 }
 

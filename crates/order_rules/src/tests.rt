@@ -292,8 +292,41 @@ const OWN: &[u8] = b": saddr=020000357F0000010000000000000000\n\
 : saddr=020000357F0000010000000000000000\n\
 : saddr=0A0014B4000000000000000000000000000000000000000100000000\n";
 
+// A process opens its descriptors 63, by two names, 0 and 200, each by a record that stands before the call's own, and one that an exec closes.
+// Names of another process's descriptor, of one above 255 and of another thing, a call that failed, one that is no open, and a record of
+// another event say nothing.
+const COPIES: &[u8] =
+    b"type=PATH msg=audit(1.000:1): item=0 name=\"/dev/fd/63\" inode=5 dev=00:0d mode=010600 nametype=NORMAL\n\
+type=SYSCALL msg=audit(1.000:1): arch=c000003e syscall=257 success=yes exit=3 a0=ffffff9c a1=7ffc a2=0 a3=0 items=1 ppid=1 pid=10\n\
+type=PATH msg=audit(1.000:2): item=0 name=\"/proc/10/fd/63\" inode=5 dev=00:0d mode=010600 nametype=NORMAL\n\
+type=SYSCALL msg=audit(1.000:2): arch=c000003e syscall=2 success=yes exit=4 a0=7ffc a1=80000 a2=0 a3=0 items=1 ppid=1 pid=10\n\
+type=PATH msg=audit(1.000:3): item=0 name=\"/dev/stdin\" inode=5 dev=00:0d mode=010600 nametype=NORMAL\n\
+type=SYSCALL msg=audit(1.000:3): arch=c000003e syscall=257 success=yes exit=5 a0=ffffff9c a1=7ffc a2=0 a3=0 items=1 ppid=1 pid=10\n\
+type=PATH msg=audit(1.000:4): item=0 name=\"/proc/thread-self/fd/200\" inode=5 dev=00:0d mode=010600 nametype=NORMAL\n\
+type=SYSCALL msg=audit(1.000:4): arch=c000003e syscall=85 success=yes exit=6 a0=7ffc a1=1a4 a2=0 a3=0 items=1 ppid=1 pid=10\n\
+type=PATH msg=audit(1.000:5): item=0 name=\"/proc/11/fd/63\" inode=5 dev=00:0d mode=010600 nametype=NORMAL\n\
+type=SYSCALL msg=audit(1.000:5): arch=c000003e syscall=257 success=yes exit=7 a0=ffffff9c a1=7ffc a2=0 a3=0 items=1 ppid=1 pid=10\n\
+type=PATH msg=audit(1.000:6): item=0 name=\"/dev/fd/256\" inode=5 dev=00:0d mode=010600 nametype=NORMAL\n\
+type=SYSCALL msg=audit(1.000:6): arch=c000003e syscall=257 success=yes exit=7 a0=ffffff9c a1=7ffc a2=0 a3=0 items=1 ppid=1 pid=10\n\
+type=PATH msg=audit(1.000:7): item=0 name=\"/dev/fd/63x\" inode=5 dev=00:0d mode=010600 nametype=NORMAL\n\
+type=SYSCALL msg=audit(1.000:7): arch=c000003e syscall=257 success=yes exit=7 a0=ffffff9c a1=7ffc a2=0 a3=0 items=1 ppid=1 pid=10\n\
+type=PATH msg=audit(1.000:8): item=0 name=\"/dev/fd/63\" inode=5 dev=00:0d mode=010600 nametype=NORMAL\n\
+type=SYSCALL msg=audit(1.000:8): arch=c000003e syscall=257 success=no exit=-13 a0=ffffff9c a1=7ffc a2=0 a3=0 items=1 ppid=1 pid=10\n\
+type=PATH msg=audit(1.000:9): item=0 name=\"/dev/fd/63\" inode=5 dev=00:0d mode=010600 nametype=NORMAL\n\
+type=SYSCALL msg=audit(1.000:9): arch=c000003e syscall=90 success=yes exit=0 a0=7ffc a1=1a4 a2=0 a3=0 items=1 ppid=1 pid=10\n\
+type=PATH msg=audit(1.000:10): item=0 name=\"/dev/fd/63\" inode=5 dev=00:0d mode=010600 nametype=NORMAL\n\
+type=SYSCALL msg=audit(1.000:11): arch=c000003e syscall=257 success=yes exit=7 a0=ffffff9c a1=7ffc a2=0 a3=0 items=1 ppid=1 pid=10\n";
+
+// What stands after the stamps of those that are copies.
+const COPIED: &[u8] =
+    b": arch=c000003e syscall=72 success=yes exit=3 a0=3f a1=0 a2=0 a3=0 items=1 ppid=1 pid=10\n\
+: arch=c000003e syscall=72 success=yes exit=4 a0=3f a1=406 a2=0 a3=0 items=1 ppid=1 pid=10\n\
+: arch=c000003e syscall=72 success=yes exit=5 a0=00 a1=0 a2=0 a3=0 items=1 ppid=1 pid=10\n\
+: arch=c000003e syscall=72 success=yes exit=6 a0=c8 a1=0 a2=0 a3=0 items=1 ppid=1 pid=10\n";
+
 const ALL: Settings = Settings {
     names: true,
+    own: true,
     join: true,
     apart: true,
 };
@@ -324,6 +357,7 @@ fn lines_are_written_otherwise(rt: HostRuntime) -> Result<(), Fail> {
         (CALLS, APART),
         (EARLY, MET),
         (DATAGRAMS, OWN),
+        (COPIES, COPIED),
     ] {
         let made = rewritten(&rt, ALL, log)?;
         assert_eq!(rt; made.as_slice(), text);
@@ -348,10 +382,11 @@ fn connections_of_a_port_are_shared_if_they_are_not_apart(rt: HostRuntime) -> Re
 fn nothing_is_written_otherwise_without_its_switch(rt: HostRuntime) -> Result<(), Fail> {
     let settings = Settings {
         names: false,
+        own: false,
         join: false,
         apart: true,
     };
-    for log in [NAMES, PEERS, CALLS, EARLY, DATAGRAMS] {
+    for log in [NAMES, PEERS, CALLS, EARLY, DATAGRAMS, COPIES] {
         let made = rewritten(&rt, settings, log)?;
         assert!(rt; made.as_slice().is_empty());
     }

@@ -10,7 +10,7 @@ use Rattle.audit_order.proofs.run.undo.Goals as goal
 pub returns-clause-undone : goal.returns-clause-undone
 returns-clause-undone g c = λ bytes told.
     let written = g.O.Sink.written c.args.out.now in
-    let before : Start = record { written = written; bounds = record { window = 0; memory = 0 }; switches = record { join = false; apart = false; names = false; compat = false } } in
+    let before : Start = record { written = written; bounds = record { window = 0; memory = 0 }; switches = record { join = false; apart = false; names = false; own = false; compat = false } } in
     let start : Took Undid before written c.new-cut.result c.new-undoer.result [] = record { cuts = c.new-cut.ensures.nothing; takes = rw c.new-undoer.ensures (undoes_none before) } in
     let log = c.in_ok-take_log.ensures.takes bytes told before [] start in
     let all = c.in_ok-take_tail.ensures.takes before (map Byte bytes) log in
