@@ -8,4 +8,5 @@ pub mod RipeLemmas
 pub mod TurnLemmas
 pub mod SortLemmas
 pub mod LesserLemmas
+pub mod DueLemmas
 pub mod CauseLemmas

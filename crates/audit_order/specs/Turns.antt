@@ -1,5 +1,5 @@
 -- In which order lines are written, and when.
-use Rattle.std.specs.Prelude.{◌≡◌, ◌⊎◌, ◌<◌, ◌+◌, ◌%◌, ◌^◌, ◌==◌, ◌&&◌, ⊤, ℕ, Bool, true, false, List, [], ◌∷◌, ◌++◌, length, nat_eq, IsPermutation, if◌then◌else◌}
+use Rattle.std.specs.Prelude.{◌≡◌, ◌⊎◌, ◌<◌, ◌≤◌, ◌+◌, ◌%◌, ◌^◌, ◌==◌, ◌&&◌, ⊤, ℕ, Bool, true, false, List, [], ◌∷◌, ◌++◌, length, nat_eq, IsPermutation, if◌then◌else◌}
 use Rattle.std.specs.List.{All, Contains}
 use Rattle.std.specs.Ordering.{is_lt}
 use Rattle.std.specs.Cmp.Lexicographic.{pointwise}
@@ -122,6 +122,17 @@ pub record IsNext (bounds : Bounds) (all : AllSeen) (before : List Motion) (item
   pub least : IsLeast item others
   pub due : IsDue bounds all (phase before) item others
 
+-- none of these lines that wait is due
+abbrev pub AreEarly : Bounds → AllSeen → Phase → List Waiting → Type 0
+AreEarly bounds all now waits =
+    (item : Waiting) (others : List Waiting) → IsPermutation waits (item ∷ others) → IsDue bounds all now item others → ⊥
+
+-- of the lines that had come and had not gone, none was due
+pub record NoneIsDue (bounds : Bounds) (all : AllSeen) (before : List Motion) : Type 0 where
+  pub waits : List Waiting
+  pub are : IsPermutation (came before) (went before ++ waits)
+  pub early : AreEarly bounds all (phase before) waits
+
 -- an event is held no longer once a line of another one goes
 abbrev pub Leaves : Bool → Event → AllSeen → AllSeen → Type 0
 Leaves true event old new = new ≡ old
@@ -131,15 +142,16 @@ abbrev pub Passes : Event → Waiting → AllSeen → AllSeen → Type 0
 Passes event item old new = Leaves (is_one event item) event old new
 
 -- Each line had its place by what was seen when it was read, each that went was the least of those that had come and had not gone,
--- and was due; and this is what was seen at last.
+-- and was due; no line was read, came, or was the last while one waited that was due; and this is what was seen at last.
 abbrev pub InTurn : Bool → Bounds → AllSeen → List Motion → Type 0
 InTurn compat bounds all [] = IsFresh compat all
 InTurn compat bounds all (Read place line ∷ before) =
-    (old : AllSeen) × InTurn compat bounds old before × (phase before ≡ Between) × IsRead old all place line
-InTurn compat bounds all (Came item ∷ before) = InTurn compat bounds all before × IsComing (phase before) (number_in before) item
+    (old : AllSeen) × InTurn compat bounds old before × (phase before ≡ Between) × IsRead old all place line × NoneIsDue bounds old before
+InTurn compat bounds all (Came item ∷ before) =
+    InTurn compat bounds all before × IsComing (phase before) (number_in before) item × NoneIsDue bounds all before
 InTurn compat bounds all (Went item ∷ before) =
     (old : AllSeen) × InTurn compat bounds old before × IsNext bounds old before item × Passes (event_in before) item old all
-InTurn compat bounds all (Ended ∷ before) = InTurn compat bounds all before × (phase before ≡ Between)
+InTurn compat bounds all (Ended ∷ before) = InTurn compat bounds all before × (phase before ≡ Between) × NoneIsDue bounds all before
 
 -- Whenever a line went, each of those that had come and have a lesser place had gone.
 abbrev pub LesserGoFirst : Type 0
@@ -147,6 +159,29 @@ LesserGoFirst =
     (compat : Bool) (bounds : Bounds) (all : AllSeen) (later before : List Motion) (item : Waiting)
     → InTurn compat bounds all (later ++ Went item ∷ before)
     → All (λ other. (is_lt (place_cmp other item) ≡ false) ⊎ Contains (went before) other) (came before)
+
+-- Whenever a line was read, each of those that had come and whose place the clock was past by more than the window had gone.
+abbrev pub PastHaveGone : Type 0
+PastHaveGone =
+    (compat : Bool) (bounds : Bounds) (all : AllSeen) (later before : List Motion) (place : Place) (line : List ℕ)
+    → InTurn compat bounds all (later ++ Read place line ∷ before)
+    → (seen : AllSeen) × InTurn compat bounds seen before
+    × All (λ item. (seen.clock ≤ item.time + bounds.window) ⊎ Contains (went before) item) (came before)
+
+-- Whenever a line came, all those had gone that had come before, or it and those that waited were within the memory.
+abbrev pub FullMemoryHasGone : Type 0
+FullMemoryHasGone =
+    (compat : Bool) (bounds : Bounds) (all : AllSeen) (later before : List Motion) (item : Waiting)
+    → InTurn compat bounds all (later ++ Came item ∷ before)
+    → (waits : List Waiting) × IsPermutation (came before) (went before ++ waits)
+    × ((waits ≡ []) ⊎ (bytes_of waits + length item.line ≤ bounds.memory))
+
+-- Whenever a line came that says that its node was started, all those that had come before had gone.
+abbrev pub AllHaveGone : Type 0
+AllHaveGone =
+    (compat : Bool) (bounds : Bounds) (all : AllSeen) (later before : List Motion) (item : Waiting) (place : Place) (line : List ℕ)
+    → InTurn compat bounds all (later ++ Came item ∷ before) → phase before ≡ Next place line → place.starts ≡ true
+    → IsPermutation (came before) (went before)
 
 -- ---- what a sorter has of that
 

@@ -1,5 +1,5 @@
 //! What ordering and undoing promise together. The functions do nothing; their contracts are laws.
-ghost use Rattle.audit_order.specs.Turns.{LesserGoFirst};
+ghost use Rattle.audit_order.specs.Turns.{LesserGoFirst, PastHaveGone, FullMemoryHasGone, AllHaveGone};
 ghost use Rattle.audit_order.specs.Reads.{UndoesOrders, TextHasLines, RewritesByRules, AddsPeersByRules};
 
 /// Undoing what orders a log gives the lines of the log and the ends and peers that were added, in some order.
@@ -25,4 +25,12 @@ pub fn nothing_is_rewritten_without_rules()
 /// Whenever a line of an ordered log was written, each line that had come and has a lesser place had been written before.
 pub fn lesser_places_go_first()
     ensures { LesserGoFirst }
+{}
+
+/// Lines of an ordered log were written as soon as they were due: those whose places were past before a further line was read, and
+/// those for which there was no memory, or that came before a node was started, before the line came that said so.
+pub fn due_lines_have_gone()
+    ensures past { PastHaveGone }
+    ensures memory { FullMemoryHasGone }
+    ensures starts { AllHaveGone }
 {}

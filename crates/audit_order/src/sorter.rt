@@ -9,7 +9,7 @@ ghost use Rattle.audit_order.specs.Start.{Start};
 ghost use Rattle.audit_order.specs.Course.{Gives, Keeps};
 ghost use Rattle.order_queue.specs.Queue.{bytes_of};
 ghost use Rattle.audit_order.specs.Turns.{Turned};
-ghost use Rattle.audit_order.specs.Sorted.{Sorts, Moves, Holds, state_of, counts_of, is_past, any_is_past};
+ghost use Rattle.audit_order.specs.Sorted.{Sorts, Moves, Holds, HasRoom, state_of, counts_of, is_past, any_is_past};
 ghost use Rattle.audit_order.specs.Tally.{is_of, tally_with};
 
 use crate::added::{end_of_call, is_accept, is_call, peer_of_call};
@@ -295,9 +295,10 @@ pub fn is_over(queue: &Queue, memory: u64, more: u64) -> bool
     ensures some { result ≡ true → 0 < length queue.now.waits }
     ensures over { result ≡ true → memory < bytes_of queue.now.waits + more }
     ensures room { result ≡ false → queue.now.bytes ≤ memory }
+    ensures early { result ≡ false → HasRoom memory more queue.now.waits }
     ensures fits { result ≡ false → queue.now.bytes + more < 2 ^ 64 }
 {
-    queue.len() > 0 && queue.bytes() > memory - more.min(memory)
+    queue.len() > 0 && (more > memory || queue.bytes() > memory - more)
 }
 
 /// Whether a line waits whose place is more than the window past.
