@@ -5,6 +5,7 @@ pub mod FeedLemmas
 pub mod ReadLemmas
 pub mod UndoneLemmas
 pub mod RipeLemmas
+pub mod SpotLemmas
 pub mod TurnLemmas
 pub mod SortLemmas
 pub mod LesserLemmas

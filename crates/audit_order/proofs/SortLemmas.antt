@@ -10,16 +10,17 @@ use Rattle.audit_order.specs.Lines.{Written, IsBlank}
 use Rattle.audit_order.specs.Course.{Course, Keeps}
 use Rattle.audit_order.specs.Turns.{Phase, Between, Next, AtEnd, State, Turns, IsFresh, IsRead, MayGo, IsOfBytes, no_event}
 use Rattle.audit_order.specs.Sorted.{SortsAt, Sorts, Moves, Holds, HasRoom, state_of, any_is_past}
+use Rattle.audit_order.specs.Tally.{no_tally}
 use Rattle.audit_order.proofs.CourseLemmas.{starts, flushed}
 use Rattle.audit_order.proofs.TurnLemmas.{turns_none, turns_read, turns_come, turns_go, turns_end, over_may, past_may, past_early, next_early}
 
 pub sorts_none : (before : Start) (s : Sorter) → IsBlank before.switches s.writer → (state_of s).event ≡ no_event → s.number ≡ 0 → s.queue.waits ≡ []
-    → IsFresh before.switches.compat s.places → s.bounds ≡ before.bounds → Sorts before before.written s []
-sorts_none before s blank event number waits fresh bounds = record {
+    → s.tally ≡ no_tally → IsFresh before.switches.compat s.places → s.bounds ≡ before.bounds → Sorts before before.written s []
+sorts_none before s blank event number waits tally fresh bounds = record {
   at = record {
     given = [];
     course = starts before s.writer blank;
-    turns = turns_none before.switches.compat (state_of s) event number waits fresh;
+    turns = turns_none before.switches.compat (state_of s) event number waits tally fresh;
     bounds_are = bounds;
   };
   past = ap (any_is_past s.bounds.window s.places.clock) waits;

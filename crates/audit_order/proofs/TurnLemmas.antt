@@ -13,12 +13,18 @@ use Rattle.order_place.specs.declared.places.Place.{Place}
 use Rattle.order_queue.specs.declared.waiting.Waiting.{Waiting}
 use Rattle.order_queue.specs.Queue.{text_of, bytes_of}
 use Rattle.order_queue.specs.Order.{place_cmp, IsLeast}
-use Rattle.audit_order.specs.Turns.{Motion, Read, Came, Went, Ended, Phase, Between, Next, AtEnd, Event, no_event, State, Turns, IsFresh, IsRead, IsComing, IsNext, IsDue, Passes, Comes, GoesLeast, MayGo, IsFree, AreEarly, NoneIsDue, phase, came, went, next_event, number_in, waiting_of}
+use Rattle.audit_order.specs.Turns.{Motion, Read, Came, Went, Ended, Phase, Between, Next, AtEnd, Event, no_event, State, Turns, IsFresh, IsRead, IsComing, IsNext, IsDue, Passes, Comes, GoesLeast, MayGo, IsFree, AreEarly, NoneIsDue, Counted, begun_with, tally_with, phase, came, went, next_event, number_in, waiting_of}
 use Rattle.audit_order.specs.Sorted.{any_is_past, HasRoom}
+use Rattle.audit_order.specs.declared.counts.Tally.{Tally}
+use Rattle.audit_order.specs.Tally.{spot_of, no_tally}
 use Rattle.audit_order.proofs.RipeLemmas.{none_past}
+use Rattle.audit_order.proofs.SpotLemmas.{least_spot, counts_more}
 
-pub turns_none : (compat : Bool) (s : State) → s.event ≡ no_event → s.number ≡ 0 → s.waits ≡ [] → IsFresh compat s.places → Turns compat Between s [] []
-turns_none compat s event number waits fresh = record {
+counts_none : Counted no_tally []
+counts_none = record { events = refl; late = refl; greatest = λ item. sym (least_spot (spot_of item)) }
+
+pub turns_none : (compat : Bool) (s : State) → s.event ≡ no_event → s.number ≡ 0 → s.waits ≡ [] → s.tally ≡ no_tally → IsFresh compat s.places → Turns compat Between s [] []
+turns_none compat s event number waits tally fresh = record {
   motions = [];
   phase_is = refl;
   event_is = sym event;
@@ -27,6 +33,7 @@ turns_none compat s event number waits fresh = record {
   given_are = refl;
   rest = subst (λ (l : List Waiting). IsPermutation [] l) (sym waits) (IsPermutation-refl []);
   turns = fresh;
+  counts = subst (λ (t : Tally). Counted t []) (sym tally) counts_none;
 }
 
 -- none of those that wait is due
@@ -53,6 +60,7 @@ turns_read compat old new place line given lines is reads early t =
       given_are = t.given_are;
       rest = t.rest;
       turns = (old.places, t.turns, t.phase_is, reads, none_due compat Between old given lines early t);
+      counts = record { events = t.counts.events; late = t.counts.late; greatest = t.counts.greatest };
     })
 
 -- one more line waits
@@ -85,6 +93,7 @@ turns_come compat old new place line given lines c early t =
       given_are = t.given_are;
       rest = came_more t.motions old.waits new.waits item c.come t.rest;
       turns = (t.turns, is_read, none_due compat (Next place line) old given lines early t);
+      counts = record { events = t.counts.events; late = t.counts.late; greatest = t.counts.greatest };
     })
 
 -- the line of the least place goes
@@ -110,6 +119,7 @@ turns_go compat now old new item given lines may g t =
       given_are = map-append text_of (went t.motions) (item ∷ []) ∙ ap (λ (l : List (List ℕ)). l ++ item.line ∷ []) t.given_are;
       rest = subst (λ (l : List Waiting). IsPermutation (came t.motions) l) (sym (append_assoc (went t.motions) (item ∷ []) new.waits)) are;
       turns = (old.places, t.turns, next, subst (λ (e : Event). Passes e item old.places new.places) (sym t.event_is) g.turned.passes);
+      counts = subst (λ (e : Event). Counted (tally_with e old.tally item) (Went item ∷ t.motions)) t.event_is (counts_more old.tally t.motions item t.counts);
     })
 
 -- the log ends
@@ -124,6 +134,7 @@ turns_end compat s given lines early t = record {
   given_are = t.given_are;
   rest = t.rest;
   turns = (t.turns, t.phase_is, none_due compat Between s given lines early t);
+  counts = record { events = t.counts.events; late = t.counts.late; greatest = t.counts.greatest };
 }
 
 -- ---- which lines are due

@@ -6,19 +6,25 @@ use Rattle.order_queue.specs.Queue.{bytes_of}
 use Rattle.order_place.specs.declared.places.Place.{Place}
 use Rattle.audit_order.specs.Start.{Start}
 use Rattle.audit_order.specs.Course.{Course, Gives}
-use Rattle.audit_order.specs.Turns.{State, Turns, Phase, Between, AtEnd, Comes, GoesLeast, waiting_of}
+use Rattle.audit_order.specs.Turns.{Event, State, Turns, Phase, Between, AtEnd, Comes, GoesLeast, waiting_of}
 use Rattle.audit_order.specs.Taken.{Stays}
 use Rattle.audit_order.specs.declared.counts.Counts.{Counts}
 use Rattle.audit_order.specs.declared.sorter.Sorter.{Sorter}
+use Rattle.audit_order.specs.declared.sorter.Turn.{Turn}
+
+-- the event whose lines are written
+abbrev pub event_of : Turn → Event
+event_of turn = record { node = turn.node; ms = turn.ms; serial = turn.serial }
 
 -- what a sorter has of the turns of lines
 abbrev pub state_of : Sorter → State
 state_of s = record {
   bounds = s.bounds;
   places = s.places;
-  event = record { node = s.turn.node; ms = s.turn.ms; serial = s.turn.serial };
+  event = event_of s.turn;
   number = s.number;
   waits = s.queue.waits;
+  tally = s.tally;
 }
 
 -- of these lines of the log, some were given to be written when it was their turn, and the sorter holds the others

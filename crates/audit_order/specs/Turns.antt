@@ -10,6 +10,8 @@ use Rattle.order_queue.specs.declared.waiting.Waiting.{Waiting}
 use Rattle.order_queue.specs.Queue.{bytes_of, texts_of}
 use Rattle.order_queue.specs.Order.{place_cmp, IsLeast}
 use Rattle.audit_order.specs.declared.bounds.Bounds.{Bounds}
+use Rattle.audit_order.specs.declared.counts.Tally.{Tally}
+use Rattle.audit_order.specs.Tally.{spot_of, is_less, is_late, tally_after}
 
 -- ---- what happens to lines, newest first
 
@@ -82,6 +84,22 @@ event_in (Read place line ∷ before) = event_in before
 event_in (Came item ∷ before) = event_in before
 event_in (Went item ∷ before) = next_event (event_in before) item
 event_in (Ended ∷ before) = event_in before
+
+-- how many events went: one more whenever a line went that isn't of the event of the line before it
+abbrev pub events_in : List Motion → ℕ
+events_in [] = 0
+events_in (Read place line ∷ before) = events_in before
+events_in (Came item ∷ before) = events_in before
+events_in (Went item ∷ before) = if is_one (event_in before) item then events_in before else events_in before + 1
+events_in (Ended ∷ before) = events_in before
+
+-- how many lines went late, that is, after one of a greater place
+abbrev pub late_in : List Motion → ℕ
+late_in [] = 0
+late_in (Read place line ∷ before) = late_in before
+late_in (Came item ∷ before) = late_in before
+late_in (Went item ∷ before) = if is_late (went before) item then late_in before + 1 else late_in before
+late_in (Ended ∷ before) = late_in before
 
 -- ---- by which rules that happens
 
@@ -185,13 +203,21 @@ AllHaveGone =
 
 -- ---- what a sorter has of that
 
--- its bounds, what it has seen, the event of the newest line that went, how many lines came, and which of them wait
+-- its bounds, what it has seen, the event of the newest line that went, how many lines came, which of them wait, and what was
+-- counted of those that went
 pub record State : Type 0 where
   pub bounds : Bounds
   pub places : AllSeen
   pub event : Event
   pub number : ℕ
   pub waits : List Waiting
+  pub tally : Tally
+
+-- what was counted is what went: a line would be late if its place is less than the greatest
+pub record Counted (tally : Tally) (motions : List Motion) : Type 0 where
+  pub events : tally.events ≡ events_in motions
+  pub late : tally.late ≡ late_in motions
+  pub greatest : (item : Waiting) → is_late (went motions) item ≡ is_less (spot_of item) tally.greatest
 
 -- lines of a log came and went in turn, so that this is the phase and this the state
 pub record Turns (compat : Bool) (now : Phase) (s : State) (given lines : List (List ℕ)) : Type 0 where
@@ -203,22 +229,31 @@ pub record Turns (compat : Bool) (now : Phase) (s : State) (given lines : List (
   pub given_are : texts_of (went motions) ≡ given
   pub rest : IsPermutation (came motions) (went motions ++ s.waits)
   pub turns : InTurn compat s.bounds s.places motions
+  pub counts : Counted s.tally motions
 
 -- the line that was read waits
 pub record Comes (old new : State) (item : Waiting) : Type 0 where
   pub come : IsPermutation (item ∷ old.waits) new.waits
   pub is : new ≡ record old { number = (old.number + 1) % 2 ^ 64; waits = new.waits }
 
--- a line goes, and of the state only what was seen and the event change by that
-pub record Turned (old new : State) (item : Waiting) : Type 0 where
+-- one more event goes, if the line isn't of the one before it
+abbrev pub begun_with : Event → Tally → Waiting → Tally
+begun_with event tally item = if is_one event item then tally else record tally { events = tally.events + 1 }
+
+-- what is counted after a line that went
+abbrev pub tally_with : Event → Tally → Waiting → Tally
+tally_with event tally item = tally_after (begun_with event tally item) (spot_of item)
+
+-- a line goes, and of the state only what was seen, the event and what is counted change by that
+pub record Turned (old new : State) (item : Waiting) (tally : Tally) : Type 0 where
   pub passes : Passes old.event item old.places new.places
-  pub is : new ≡ record old { places = new.places; event = next_event old.event item }
+  pub is : new ≡ record old { places = new.places; event = next_event old.event item; tally = tally }
 
 -- the line of the least place goes
 pub record GoesLeast (old new : State) (item : Waiting) : Type 0 where
   pub were : IsPermutation old.waits (item ∷ new.waits)
   pub least : IsLeast item new.waits
-  pub turned : Turned (record old { waits = new.waits }) new item
+  pub turned : Turned (record old { waits = new.waits }) new item (tally_with old.event old.tally item)
 
 -- whichever of the lines that wait is the least, it is due
 abbrev pub MayGo : State → Phase → Type 0
