@@ -10,4 +10,5 @@ pub mod TurnLemmas
 pub mod SortLemmas
 pub mod LesserLemmas
 pub mod DueLemmas
+pub mod TogetherLemmas
 pub mod CauseLemmas

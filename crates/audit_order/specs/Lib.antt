@@ -6,6 +6,7 @@ pub mod Woven
 pub mod Course
 pub mod Tally
 pub mod Turns
+pub mod Together
 pub mod Taken
 pub mod Sorted
 pub mod Undone

@@ -1,5 +1,6 @@
 //! What ordering and undoing promise together. The functions do nothing; their contracts are laws.
 ghost use Rattle.audit_order.specs.Turns.{LesserGoFirst, PastHaveGone, FullMemoryHasGone, AllHaveGone};
+ghost use Rattle.audit_order.specs.Together.{EventsGoTogether};
 ghost use Rattle.audit_order.specs.Reads.{UndoesOrders, TextHasLines, RewritesByRules, AddsPeersByRules};
 
 /// Undoing what orders a log gives the lines of the log and the ends and peers that were added, in some order.
@@ -33,4 +34,10 @@ pub fn due_lines_have_gone()
     ensures past { PastHaveGone }
     ensures memory { FullMemoryHasGone }
     ensures starts { AllHaveGone }
+{}
+
+/// Once the first line of an event was written, only lines of that event were, and late ones, as long as a line waited that had come
+/// by then.
+pub fn events_go_together()
+    ensures { EventsGoTogether }
 {}
