@@ -11,4 +11,5 @@ pub mod SortLemmas
 pub mod LesserLemmas
 pub mod DueLemmas
 pub mod TogetherLemmas
+pub mod OwnLemmas
 pub mod CauseLemmas

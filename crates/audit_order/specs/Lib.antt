@@ -7,6 +7,7 @@ pub mod Course
 pub mod Tally
 pub mod Turns
 pub mod Together
+pub mod Own
 pub mod Taken
 pub mod Sorted
 pub mod Undone

@@ -1,6 +1,7 @@
 //! What ordering and undoing promise together. The functions do nothing; their contracts are laws.
 ghost use Rattle.audit_order.specs.Turns.{LesserGoFirst, PastHaveGone, FullMemoryHasGone, AllHaveGone};
 ghost use Rattle.audit_order.specs.Together.{EventsGoTogether};
+ghost use Rattle.audit_order.specs.Own.{CallsCountInOrder, SerialsGoInOrder};
 ghost use Rattle.audit_order.specs.Reads.{UndoesOrders, TextHasLines, RewritesByRules, AddsPeersByRules};
 
 /// Undoing what orders a log gives the lines of the log and the ends and peers that were added, in some order.
@@ -40,4 +41,11 @@ pub fn due_lines_have_gone()
 /// by then.
 pub fn events_go_together()
     ensures { EventsGoTogether }
+{}
+
+/// A call counts no earlier than the newest call of its process that was read before, as far as the clock had come with that; and of
+/// two lines the one that counts no later and has the lesser serial number was written first, unless it was late.
+pub fn calls_keep_their_order()
+    ensures counts { CallsCountInOrder }
+    ensures goes { SerialsGoInOrder }
 {}
