@@ -153,7 +153,7 @@ not_less Less rest not = not
 not_less Equal rest not = refl
 not_less Greater rest not = refl
 
-not_later : (a b : ℕ) (rest : Ordering) → is_lt (ordering_then (nat_cmp a b) rest) ≡ false → b ≤ a
+pub not_later : (a b : ℕ) (rest : Ordering) → is_lt (ordering_then (nat_cmp a b) rest) ≡ false → b ≤ a
 not_later a b rest not = All-head (λ (y : ℕ). y ≤ a) b [] (le_from_greatest a (b ∷ []) (not_less (nat_cmp a b) rest not, tt))
 
 -- no line counts before the least one

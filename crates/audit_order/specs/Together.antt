@@ -1,5 +1,5 @@
 -- What follows for events from the places of their lines.
-use Rattle.std.specs.Prelude.{◌≡◌, ◌⊎◌, ◌×◌, Bool, true, false, is_some, List, ◌∷◌, ◌++◌}
+use Rattle.std.specs.Prelude.{◌≡◌, ◌⊎◌, Bool, true, false, is_some, List, ◌∷◌, ◌++◌}
 use Rattle.std.specs.List.{All, Contains}
 use Rattle.order_text.specs.Stamp.{stamp_of}
 use Rattle.order_place.specs.Nodes.{AllSeen}

@@ -19,7 +19,7 @@ returns-in-Some-clause-moves c =
         were = subst (λ (q : Held). IsPermutation c.args.sorter.now.queue.waits (c.in-Some.item ∷ q.waits)) waits c.in-Some.ensures.some;
         least = subst (λ (q : Held). IsLeast c.in-Some.item q.waits) waits c.in-Some.ensures.least;
         turned = subst (λ (q : Held). Turned (record (state_of c.args.sorter.now) { waits = q.waits }) (state_of c.write_item.new.sorter) c.in-Some.item
-        (tally_with (event_of c.args.sorter.now.turn) c.args.sorter.now.tally c.in-Some.item)) waits turned;
+            (tally_with (event_of c.args.sorter.now.turn) c.args.sorter.now.tally c.in-Some.item)) waits turned;
       };
       gives = gives;
     }))
