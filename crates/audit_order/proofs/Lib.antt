@@ -5,7 +5,11 @@ pub mod FeedLemmas
 pub mod ReadLemmas
 pub mod UndoneLemmas
 pub mod RipeLemmas
+pub mod SpotLemmas
 pub mod TurnLemmas
 pub mod SortLemmas
 pub mod LesserLemmas
+pub mod DueLemmas
+pub mod TogetherLemmas
+pub mod OwnLemmas
 pub mod CauseLemmas

@@ -110,8 +110,8 @@ ends_log stands bytes left later was now cut cut2 s s2 piece empty log read ende
 -- what was written at the end orders the log
 pub orders : (bytes : List ℕ) (before : Start) (now : Option (List ℕ)) (s : Sorter) (lines : List (List ℕ)) (counts : Counts) → s.writer.pending ≡ [] → s.queue.waits ≡ []
     → lines ≡ log_lines bytes → counts.times_raised ≡ s.writer.raised → counts.added_ends ≡ s.writer.added → counts.added_peers ≡ s.writer.peers → counts.rewrites ≡ s.writer.rewritten
-    → SortsAt AtEnd before now s lines → Orders before.bounds before.switches bytes before.written now counts
-orders bytes before now sorter lines counts flushed none are raised added peers rewritten s =
+    → counts.events ≡ s.tally.events → counts.late ≡ s.tally.late → SortsAt AtEnd before now s lines → Orders before.bounds before.switches bytes before.written now counts
+orders bytes before now sorter lines counts flushed none are raised added peers rewritten events late s =
     let c = s.course in
     let t = s.turns in
     let all : IsPermutation (came t.motions) (went t.motions) =
@@ -145,6 +145,8 @@ orders bytes before now sorter lines counts flushed none are raised added peers 
       all_went = all;
       in_turn = subst (λ (b : Bounds). InTurn before.switches.compat b sorter.places t.motions) s.bounds_are t.turns;
       order = subst (λ (g : List (List ℕ)). IsWoven c.added c.peers g (map undone c.outs)) (sym t.given_are) c.woven;
+      counts_events = events ∙ t.counts.events;
+      counts_late = late ∙ t.counts.late;
     }
 
 -- ---- slices, and results

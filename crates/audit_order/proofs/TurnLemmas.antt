@@ -1,5 +1,5 @@
 -- How lines come and go in turn.
-use Rattle.std.proofs.Common.{◌≡◌, ◌≤◌, ◌<◌, ◌+◌, ◌%◌, ◌^◌, ◌∙◌, inl, inr, sym, refl, ap, subst, arith, ℕ, Bool, true, false, List, [], ◌∷◌, ◌++◌, length, append_assoc, nat_lt, nat_cmp}
+use Rattle.std.proofs.Common.{◌≡◌, ◌≤◌, ◌<◌, ◌+◌, ◌%◌, ◌^◌, ◌||◌, ◌∙◌, inl, inr, sym, refl, ap, subst, arith, ℕ, Bool, true, false, List, [], ◌∷◌, ◌++◌, length, append_assoc, nat_lt, nat_cmp}
 use Rattle.std.specs.List.{All}
 use Rattle.std.specs.declared.cmp.Ordering.{Ordering}
 use Rattle.std.specs.declared.cmp.Ordering.TheVariants.{Less, Equal, Greater}
@@ -8,17 +8,23 @@ use Rattle.std.specs.List.Sorted.{IsPermutation}
 use Rattle.std.proofs.lemmas.Bool.Decides.{nat_tests}
 use Rattle.std.proofs.lemmas.List.{map-append}
 use Rattle.std.proofs.lemmas.List.Elements.{All-cons, All-head, All-weaker}
-use Rattle.std.proofs.lemmas.List.Sorted.{IsPermutation-refl, IsPermutation-sym, IsPermutation-trans, IsPermutation-cons, IsPermutation-to_front, IsPermutation-middle, IsPermutation-append_right, le_from_greatest, list_any-IsPermutation, sum_by-IsPermutation}
+use Rattle.std.proofs.lemmas.List.Sorted.{IsPermutation-refl, IsPermutation-sym, IsPermutation-trans, IsPermutation-cons, IsPermutation-to_front, IsPermutation-middle, IsPermutation-append_right, le_from_greatest, list_any-IsPermutation, sum_by-IsPermutation, length_permutation}
 use Rattle.order_place.specs.declared.places.Place.{Place}
 use Rattle.order_queue.specs.declared.waiting.Waiting.{Waiting}
 use Rattle.order_queue.specs.Queue.{text_of, bytes_of}
 use Rattle.order_queue.specs.Order.{place_cmp, IsLeast}
-use Rattle.audit_order.specs.Turns.{Motion, Read, Came, Went, Ended, Phase, Between, Next, AtEnd, Event, no_event, State, Turns, IsFresh, IsRead, IsComing, IsNext, IsDue, Passes, Comes, GoesLeast, MayGo, IsFree, phase, came, went, next_event, number_in, waiting_of}
-use Rattle.audit_order.specs.Sorted.{any_is_past}
+use Rattle.audit_order.specs.Turns.{Motion, Read, Came, Went, Ended, Phase, Between, Next, AtEnd, Event, no_event, State, Turns, IsFresh, IsRead, IsComing, IsNext, IsDue, Passes, Comes, GoesLeast, MayGo, IsFree, AreEarly, NoneIsDue, Counted, begun_with, tally_with, phase, came, went, next_event, number_in, waiting_of}
+use Rattle.audit_order.specs.Sorted.{any_is_past, HasRoom}
+use Rattle.audit_order.specs.declared.counts.Tally.{Tally}
+use Rattle.audit_order.specs.Tally.{spot_of, no_tally}
 use Rattle.audit_order.proofs.RipeLemmas.{none_past}
+use Rattle.audit_order.proofs.SpotLemmas.{least_spot, counts_more}
 
-pub turns_none : (compat : Bool) (s : State) → s.event ≡ no_event → s.number ≡ 0 → s.waits ≡ [] → IsFresh compat s.places → Turns compat Between s [] []
-turns_none compat s event number waits fresh = record {
+counts_none : Counted no_tally []
+counts_none = record { events = refl; late = refl; greatest = λ item. sym (least_spot (spot_of item)) }
+
+pub turns_none : (compat : Bool) (s : State) → s.event ≡ no_event → s.number ≡ 0 → s.waits ≡ [] → s.tally ≡ no_tally → IsFresh compat s.places → Turns compat Between s [] []
+turns_none compat s event number waits tally fresh = record {
   motions = [];
   phase_is = refl;
   event_is = sym event;
@@ -27,12 +33,23 @@ turns_none compat s event number waits fresh = record {
   given_are = refl;
   rest = subst (λ (l : List Waiting). IsPermutation [] l) (sym waits) (IsPermutation-refl []);
   turns = fresh;
+  counts = subst (λ (t : Tally). Counted t []) (sym tally) counts_none;
+}
+
+-- none of those that wait is due
+none_due : (compat : Bool) (now : Phase) (s : State) (given lines : List (List ℕ)) → AreEarly s.bounds s.places now s.waits
+    → (t : Turns compat now s given lines) → NoneIsDue s.bounds s.places t.motions
+none_due compat now s given lines early t = record {
+  waits = s.waits;
+  are = t.rest;
+  early = subst (λ (m : Phase). AreEarly s.bounds s.places m s.waits) (sym t.phase_is) early;
 }
 
 -- a line is read
 pub turns_read : (compat : Bool) (old new : State) (place : Place) (line : List ℕ) (given lines : List (List ℕ)) → new ≡ record old { places = new.places }
-    → IsRead old.places new.places place line → Turns compat Between old given lines → Turns compat (Next place line) new given lines
-turns_read compat old new place line given lines is reads t =
+    → IsRead old.places new.places place line → AreEarly old.bounds old.places Between old.waits → Turns compat Between old given lines
+    → Turns compat (Next place line) new given lines
+turns_read compat old new place line given lines is reads early t =
     subst (λ (s : State). Turns compat (Next place line) s given lines) (sym is)
     (record {
       motions = Read place line ∷ t.motions;
@@ -42,7 +59,8 @@ turns_read compat old new place line given lines is reads t =
       lines_are = t.lines_are;
       given_are = t.given_are;
       rest = t.rest;
-      turns = (old.places, t.turns, t.phase_is, reads);
+      turns = (old.places, t.turns, t.phase_is, reads, none_due compat Between old given lines early t);
+      counts = record { events = t.counts.events; late = t.counts.late; greatest = t.counts.greatest };
     })
 
 -- one more line waits
@@ -60,8 +78,9 @@ came_more motions old new item come rest =
 
 -- the line that was read comes
 pub turns_come : (compat : Bool) (old new : State) (place : Place) (line : List ℕ) (given lines : List (List ℕ)) → Comes old new (waiting_of place old.number line)
-    → Turns compat (Next place line) old given lines → Turns compat Between new given (lines ++ line ∷ [])
-turns_come compat old new place line given lines c t =
+    → AreEarly old.bounds old.places (Next place line) old.waits → Turns compat (Next place line) old given lines
+    → Turns compat Between new given (lines ++ line ∷ [])
+turns_come compat old new place line given lines c early t =
     let item = waiting_of place old.number line in
     let is_read : IsComing (phase t.motions) (number_in t.motions) item = rw (t.phase_is, t.number_is) refl in
     subst (λ (s : State). Turns compat Between s given (lines ++ line ∷ [])) (sym c.is)
@@ -73,7 +92,8 @@ turns_come compat old new place line given lines c t =
       lines_are = map-append text_of (came t.motions) (item ∷ []) ∙ ap (λ (l : List (List ℕ)). l ++ line ∷ []) t.lines_are;
       given_are = t.given_are;
       rest = came_more t.motions old.waits new.waits item c.come t.rest;
-      turns = (t.turns, is_read);
+      turns = (t.turns, is_read, none_due compat (Next place line) old given lines early t);
+      counts = record { events = t.counts.events; late = t.counts.late; greatest = t.counts.greatest };
     })
 
 -- the line of the least place goes
@@ -99,11 +119,13 @@ turns_go compat now old new item given lines may g t =
       given_are = map-append text_of (went t.motions) (item ∷ []) ∙ ap (λ (l : List (List ℕ)). l ++ item.line ∷ []) t.given_are;
       rest = subst (λ (l : List Waiting). IsPermutation (came t.motions) l) (sym (append_assoc (went t.motions) (item ∷ []) new.waits)) are;
       turns = (old.places, t.turns, next, subst (λ (e : Event). Passes e item old.places new.places) (sym t.event_is) g.turned.passes);
+      counts = subst (λ (e : Event). Counted (tally_with e old.tally item) (Went item ∷ t.motions)) t.event_is (counts_more old.tally t.motions item t.counts);
     })
 
 -- the log ends
-pub turns_end : (compat : Bool) (s : State) (given lines : List (List ℕ)) → Turns compat Between s given lines → Turns compat AtEnd s given lines
-turns_end compat s given lines t = record {
+pub turns_end : (compat : Bool) (s : State) (given lines : List (List ℕ)) → AreEarly s.bounds s.places Between s.waits → Turns compat Between s given lines
+    → Turns compat AtEnd s given lines
+turns_end compat s given lines early t = record {
   motions = Ended ∷ t.motions;
   phase_is = refl;
   event_is = t.event_is;
@@ -111,7 +133,8 @@ turns_end compat s given lines t = record {
   lines_are = t.lines_are;
   given_are = t.given_are;
   rest = t.rest;
-  turns = (t.turns, t.phase_is);
+  turns = (t.turns, t.phase_is, none_due compat Between s given lines early t);
+  counts = record { events = t.counts.events; late = t.counts.late; greatest = t.counts.greatest };
 }
 
 -- ---- which lines are due
@@ -130,7 +153,7 @@ not_less Less rest not = not
 not_less Equal rest not = refl
 not_less Greater rest not = refl
 
-not_later : (a b : ℕ) (rest : Ordering) → is_lt (ordering_then (nat_cmp a b) rest) ≡ false → b ≤ a
+pub not_later : (a b : ℕ) (rest : Ordering) → is_lt (ordering_then (nat_cmp a b) rest) ≡ false → b ≤ a
 not_later a b rest not = All-head (λ (y : ℕ). y ≤ a) b [] (le_from_greatest a (b ∷ []) (not_less (nat_cmp a b) rest not, tt))
 
 -- no line counts before the least one
@@ -150,3 +173,30 @@ pub past_may : (s : State) → any_is_past s.bounds.window s.places.clock s.wait
 past_may s any item others were least =
     past_by (nat_lt (item.time + s.bounds.window) s.places.clock) s.bounds.window s.places.clock item others refl least
     (sym (list_any-IsPermutation (λ (w : Waiting). nat_lt (w.time + s.bounds.window) s.places.clock) s.waits (item ∷ others) were) ∙ any)
+
+-- ---- which lines are early
+
+-- no line is one of none
+none_of : (item : Waiting) (others : List Waiting) → IsPermutation [] (item ∷ others) → ⊥
+none_of item others are = let same = length_permutation [] (item ∷ others) are in omega (arith, same)
+
+one_early : (here more : Bool) (time clock : ℕ) → nat_lt time clock ≡ here → (here || more) ≡ false → time < clock → ⊥
+one_early true more time clock is none due = absurd (cc none)
+one_early false more time clock is none due = grind (arith, nat_tests, is, due)
+
+pub past_early : (s : State) → any_is_past s.bounds.window s.places.clock s.waits ≡ false → AreEarly s.bounds s.places Between s.waits
+past_early s none item others are due =
+    let any = list_any-IsPermutation (λ (w : Waiting). nat_lt (w.time + s.bounds.window) s.places.clock) s.waits (item ∷ others) are in
+    one_early (nat_lt (item.time + s.bounds.window) s.places.clock) (any_is_past s.bounds.window s.places.clock others) (item.time + s.bounds.window)
+    s.places.clock refl (sym any ∙ none) due
+
+-- with room for it, and none left if it says that its node was started
+pub next_early : (s : State) (place : Place) (line : List ℕ) → (place.starts ≡ true → s.waits ≡ []) → HasRoom s.bounds.memory (length line) s.waits
+    → AreEarly s.bounds s.places (Next place line) s.waits
+next_early s place line starts room item others are (inl boots) =
+    none_of item others (subst (λ (l : List Waiting). IsPermutation l (item ∷ others)) (starts boots) are)
+next_early s place line starts (inl none) item others are (inr over) =
+    none_of item others (subst (λ (l : List Waiting). IsPermutation l (item ∷ others)) none are)
+next_early s place line starts (inr room) item others are (inr over) =
+    let same = sum_by-IsPermutation (λ (w : Waiting). length w.line) s.waits (item ∷ others) are in
+    omega (arith, same, room, over)

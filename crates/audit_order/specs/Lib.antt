@@ -4,8 +4,10 @@ pub mod Shown
 pub mod Lines
 pub mod Woven
 pub mod Course
-pub mod Turns
 pub mod Tally
+pub mod Turns
+pub mod Together
+pub mod Own
 pub mod Taken
 pub mod Sorted
 pub mod Undone

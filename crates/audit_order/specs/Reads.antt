@@ -15,7 +15,7 @@ use Rattle.order_queue.specs.Queue.{texts_of}
 use Rattle.audit_order.specs.declared.bounds.Bounds.{Bounds}
 use Rattle.audit_order.specs.Start.{Start}
 use Rattle.audit_order.specs.Woven.{IsWoven}
-use Rattle.audit_order.specs.Turns.{Motion, came, went, InTurn}
+use Rattle.audit_order.specs.Turns.{Motion, came, went, events_in, late_in, InTurn}
 use Rattle.audit_order.specs.Shown.{WasLacking, shown_after}
 use Rattle.audit_order.specs.Lines.{text_of, times_of, raised_in, rewritten_in, IsEnd, IsPeer}
 use Rattle.audit_order.specs.Taken.{Standing, Stays, Takes}
@@ -42,7 +42,8 @@ log_lines bytes = lines_of (with_bytes [] bytes ++ Settle ∷ [])
 -- What was written orders a log: with what was changed undone it is the lines of the log and the ends and peers that were added, in
 -- some order, none of them lost, doubled or made up, and each peer was lacking; the times in it don't fall; and each of its lines is
 -- one line. The lines are changed exactly as the greatest time before each and the rules say. Raised times, rewritten lines, and
--- added ends and peers are counted. The lines of the log came in their order and went in turn, and in that order they are written.
+-- added ends and peers are counted. The lines of the log came in their order and went in turn, and in that order they are written;
+-- the events among them are counted, and those that went late.
 pub record Orders (bounds : Bounds) (switches : Switches) (bytes : List ℕ) (before now : Option (List ℕ)) (counts : Counts) : Type 0 where
   pub outs : List (List ℕ)
   pub added : List (List ℕ)
@@ -65,6 +66,8 @@ pub record Orders (bounds : Bounds) (switches : Switches) (bytes : List ℕ) (be
   pub all_went : IsPermutation (came motions) (went motions)
   pub in_turn : InTurn switches.compat bounds seen motions
   pub order : IsWoven added peers (texts_of (went motions)) (map undone outs)
+  pub counts_events : counts.events ≡ events_in motions
+  pub counts_late : counts.late ≡ late_in motions
 
 -- What was written is the lines of the log, each as it was before it was changed, in their order.
 abbrev pub Undoes : List ℕ → (before now : Option (List ℕ)) → Type 0

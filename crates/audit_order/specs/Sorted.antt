@@ -1,23 +1,30 @@
 -- What a sorter stands for.
-use Rattle.std.specs.Prelude.{◌≡◌, ◌⊎◌, ℕ, ◌+◌, Bool, false, List, Option, None, Some, nat_lt}
+use Rattle.std.specs.Prelude.{◌≡◌, ◌⊎◌, ◌≤◌, ℕ, ◌+◌, Bool, false, List, [], Option, None, Some, nat_lt}
 use Rattle.std.specs.List.{list_any}
 use Rattle.order_queue.specs.declared.waiting.Waiting.{Waiting}
+use Rattle.order_queue.specs.Queue.{bytes_of}
 use Rattle.order_place.specs.declared.places.Place.{Place}
 use Rattle.audit_order.specs.Start.{Start}
 use Rattle.audit_order.specs.Course.{Course, Gives}
-use Rattle.audit_order.specs.Turns.{State, Turns, Phase, Between, AtEnd, Comes, GoesLeast, waiting_of}
+use Rattle.audit_order.specs.Turns.{Event, State, Turns, Phase, Between, AtEnd, Comes, GoesLeast, waiting_of}
 use Rattle.audit_order.specs.Taken.{Stays}
 use Rattle.audit_order.specs.declared.counts.Counts.{Counts}
 use Rattle.audit_order.specs.declared.sorter.Sorter.{Sorter}
+use Rattle.audit_order.specs.declared.sorter.Turn.{Turn}
+
+-- the event whose lines are written
+abbrev pub event_of : Turn → Event
+event_of turn = record { node = turn.node; ms = turn.ms; serial = turn.serial }
 
 -- what a sorter has of the turns of lines
 abbrev pub state_of : Sorter → State
 state_of s = record {
   bounds = s.bounds;
   places = s.places;
-  event = record { node = s.turn.node; ms = s.turn.ms; serial = s.turn.serial };
+  event = event_of s.turn;
   number = s.number;
   waits = s.queue.waits;
+  tally = s.tally;
 }
 
 -- of these lines of the log, some were given to be written when it was their turn, and the sorter holds the others
@@ -27,9 +34,23 @@ pub record SortsAt (at : Phase) (before : Start) (now : Option (List ℕ)) (s : 
   pub turns : Turns before.switches.compat at (state_of s) given lines
   pub bounds_are : s.bounds ≡ before.bounds
 
--- the same between two lines of the log
-abbrev pub Sorts : (before : Start) (now : Option (List ℕ)) → Sorter → List (List ℕ) → Type 0
-Sorts before now s lines = SortsAt Between before now s lines
+-- the clock is more than the window past a time, if there is one
+abbrev pub is_past : ℕ → Option ℕ → ℕ → Bool
+is_past window None clock = false
+is_past window (Some time) clock = nat_lt (time + window) clock
+
+-- a line waits whose place is past
+abbrev pub any_is_past : ℕ → ℕ → List Waiting → Bool
+any_is_past window clock waits = list_any (λ item. is_past window (Some item.time) clock) waits
+
+-- the same between two lines of the log, and no line waits whose place is past
+pub record Sorts (before : Start) (now : Option (List ℕ)) (s : Sorter) (lines : List (List ℕ)) : Type 0 where
+  pub at : SortsAt Between before now s lines
+  pub past : any_is_past s.bounds.window s.places.clock s.queue.waits ≡ false
+
+-- no line waits, or those that do are within the memory with this many bytes more
+abbrev pub HasRoom : ℕ → ℕ → List Waiting → Type 0
+HasRoom memory more waits = (waits ≡ []) ⊎ (bytes_of waits + more ≤ memory)
 
 -- the line of the least place is written
 pub record GivesLeast (old new : Sorter) : Type 0 where
@@ -57,18 +78,9 @@ GoesIf may was old now new = (at : Phase) → may at → Goes at was old now new
 -- the same up to the end of the log
 abbrev pub Finishes : (was : Option (List ℕ)) → Sorter → (now : Option (List ℕ)) → Sorter → Type 0
 Finishes was old now new =
-    (before : Start) (lines : List (List ℕ)) → SortsAt Between before was old lines → SortsAt AtEnd before now new lines
+    (before : Start) (lines : List (List ℕ)) → Sorts before was old lines → SortsAt AtEnd before now new lines
 
 -- what a sorter has done
 abbrev pub counts_of : Sorter → Counts
 counts_of s =
     record { added_ends = s.writer.added; added_peers = s.writer.peers; events = s.tally.events; late = s.tally.late; rewrites = s.writer.rewritten; times_raised = s.writer.raised }
-
--- the clock is more than the window past a time, if there is one
-abbrev pub is_past : ℕ → Option ℕ → ℕ → Bool
-is_past window None clock = false
-is_past window (Some time) clock = nat_lt (time + window) clock
-
--- a line waits whose place is past
-abbrev pub any_is_past : ℕ → ℕ → List Waiting → Bool
-any_is_past window clock waits = list_any (λ item. is_past window (Some item.time) clock) waits

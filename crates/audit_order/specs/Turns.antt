@@ -1,5 +1,5 @@
 -- In which order lines are written, and when.
-use Rattle.std.specs.Prelude.{◌≡◌, ◌⊎◌, ◌<◌, ◌+◌, ◌%◌, ◌^◌, ◌==◌, ◌&&◌, ⊤, ℕ, Bool, true, false, List, [], ◌∷◌, ◌++◌, length, nat_eq, IsPermutation, if◌then◌else◌}
+use Rattle.std.specs.Prelude.{◌≡◌, ◌⊎◌, ◌<◌, ◌≤◌, ◌+◌, ◌%◌, ◌^◌, ◌==◌, ◌&&◌, ⊤, ℕ, Bool, true, false, List, [], ◌∷◌, ◌++◌, length, nat_eq, IsPermutation, if◌then◌else◌}
 use Rattle.std.specs.List.{All, Contains}
 use Rattle.std.specs.Ordering.{is_lt}
 use Rattle.std.specs.Cmp.Lexicographic.{pointwise}
@@ -10,6 +10,8 @@ use Rattle.order_queue.specs.declared.waiting.Waiting.{Waiting}
 use Rattle.order_queue.specs.Queue.{bytes_of, texts_of}
 use Rattle.order_queue.specs.Order.{place_cmp, IsLeast}
 use Rattle.audit_order.specs.declared.bounds.Bounds.{Bounds}
+use Rattle.audit_order.specs.declared.counts.Tally.{Tally}
+use Rattle.audit_order.specs.Tally.{spot_of, is_less, is_late, tally_after}
 
 -- ---- what happens to lines, newest first
 
@@ -83,6 +85,22 @@ event_in (Came item ∷ before) = event_in before
 event_in (Went item ∷ before) = next_event (event_in before) item
 event_in (Ended ∷ before) = event_in before
 
+-- how many events went: one more whenever a line went that isn't of the event of the line before it
+abbrev pub events_in : List Motion → ℕ
+events_in [] = 0
+events_in (Read place line ∷ before) = events_in before
+events_in (Came item ∷ before) = events_in before
+events_in (Went item ∷ before) = if is_one (event_in before) item then events_in before else events_in before + 1
+events_in (Ended ∷ before) = events_in before
+
+-- how many lines went late, that is, after one of a greater place
+abbrev pub late_in : List Motion → ℕ
+late_in [] = 0
+late_in (Read place line ∷ before) = late_in before
+late_in (Came item ∷ before) = late_in before
+late_in (Went item ∷ before) = if is_late (went before) item then late_in before + 1 else late_in before
+late_in (Ended ∷ before) = late_in before
+
 -- ---- by which rules that happens
 
 -- nothing was seen of a log
@@ -122,6 +140,17 @@ pub record IsNext (bounds : Bounds) (all : AllSeen) (before : List Motion) (item
   pub least : IsLeast item others
   pub due : IsDue bounds all (phase before) item others
 
+-- none of these lines that wait is due
+abbrev pub AreEarly : Bounds → AllSeen → Phase → List Waiting → Type 0
+AreEarly bounds all now waits =
+    (item : Waiting) (others : List Waiting) → IsPermutation waits (item ∷ others) → IsDue bounds all now item others → ⊥
+
+-- of the lines that had come and had not gone, none was due
+pub record NoneIsDue (bounds : Bounds) (all : AllSeen) (before : List Motion) : Type 0 where
+  pub waits : List Waiting
+  pub are : IsPermutation (came before) (went before ++ waits)
+  pub early : AreEarly bounds all (phase before) waits
+
 -- an event is held no longer once a line of another one goes
 abbrev pub Leaves : Bool → Event → AllSeen → AllSeen → Type 0
 Leaves true event old new = new ≡ old
@@ -131,15 +160,16 @@ abbrev pub Passes : Event → Waiting → AllSeen → AllSeen → Type 0
 Passes event item old new = Leaves (is_one event item) event old new
 
 -- Each line had its place by what was seen when it was read, each that went was the least of those that had come and had not gone,
--- and was due; and this is what was seen at last.
+-- and was due; no line was read, came, or was the last while one waited that was due; and this is what was seen at last.
 abbrev pub InTurn : Bool → Bounds → AllSeen → List Motion → Type 0
 InTurn compat bounds all [] = IsFresh compat all
 InTurn compat bounds all (Read place line ∷ before) =
-    (old : AllSeen) × InTurn compat bounds old before × (phase before ≡ Between) × IsRead old all place line
-InTurn compat bounds all (Came item ∷ before) = InTurn compat bounds all before × IsComing (phase before) (number_in before) item
+    (old : AllSeen) × InTurn compat bounds old before × (phase before ≡ Between) × IsRead old all place line × NoneIsDue bounds old before
+InTurn compat bounds all (Came item ∷ before) =
+    InTurn compat bounds all before × IsComing (phase before) (number_in before) item × NoneIsDue bounds all before
 InTurn compat bounds all (Went item ∷ before) =
     (old : AllSeen) × InTurn compat bounds old before × IsNext bounds old before item × Passes (event_in before) item old all
-InTurn compat bounds all (Ended ∷ before) = InTurn compat bounds all before × (phase before ≡ Between)
+InTurn compat bounds all (Ended ∷ before) = InTurn compat bounds all before × (phase before ≡ Between) × NoneIsDue bounds all before
 
 -- Whenever a line went, each of those that had come and have a lesser place had gone.
 abbrev pub LesserGoFirst : Type 0
@@ -148,15 +178,46 @@ LesserGoFirst =
     → InTurn compat bounds all (later ++ Went item ∷ before)
     → All (λ other. (is_lt (place_cmp other item) ≡ false) ⊎ Contains (went before) other) (came before)
 
+-- Whenever a line was read, each of those that had come and whose place the clock was past by more than the window had gone.
+abbrev pub PastHaveGone : Type 0
+PastHaveGone =
+    (compat : Bool) (bounds : Bounds) (all : AllSeen) (later before : List Motion) (place : Place) (line : List ℕ)
+    → InTurn compat bounds all (later ++ Read place line ∷ before)
+    → (seen : AllSeen) × InTurn compat bounds seen before
+    × All (λ item. (seen.clock ≤ item.time + bounds.window) ⊎ Contains (went before) item) (came before)
+
+-- Whenever a line came, all those had gone that had come before, or it and those that waited were within the memory.
+abbrev pub FullMemoryHasGone : Type 0
+FullMemoryHasGone =
+    (compat : Bool) (bounds : Bounds) (all : AllSeen) (later before : List Motion) (item : Waiting)
+    → InTurn compat bounds all (later ++ Came item ∷ before)
+    → (waits : List Waiting) × IsPermutation (came before) (went before ++ waits)
+    × ((waits ≡ []) ⊎ (bytes_of waits + length item.line ≤ bounds.memory))
+
+-- Whenever a line came that says that its node was started, all those that had come before had gone.
+abbrev pub AllHaveGone : Type 0
+AllHaveGone =
+    (compat : Bool) (bounds : Bounds) (all : AllSeen) (later before : List Motion) (item : Waiting) (place : Place) (line : List ℕ)
+    → InTurn compat bounds all (later ++ Came item ∷ before) → phase before ≡ Next place line → place.starts ≡ true
+    → IsPermutation (came before) (went before)
+
 -- ---- what a sorter has of that
 
--- its bounds, what it has seen, the event of the newest line that went, how many lines came, and which of them wait
+-- its bounds, what it has seen, the event of the newest line that went, how many lines came, which of them wait, and what was
+-- counted of those that went
 pub record State : Type 0 where
   pub bounds : Bounds
   pub places : AllSeen
   pub event : Event
   pub number : ℕ
   pub waits : List Waiting
+  pub tally : Tally
+
+-- what was counted is what went: a line would be late if its place is less than the greatest
+pub record Counted (tally : Tally) (motions : List Motion) : Type 0 where
+  pub events : tally.events ≡ events_in motions
+  pub late : tally.late ≡ late_in motions
+  pub greatest : (item : Waiting) → is_late (went motions) item ≡ is_less (spot_of item) tally.greatest
 
 -- lines of a log came and went in turn, so that this is the phase and this the state
 pub record Turns (compat : Bool) (now : Phase) (s : State) (given lines : List (List ℕ)) : Type 0 where
@@ -168,22 +229,31 @@ pub record Turns (compat : Bool) (now : Phase) (s : State) (given lines : List (
   pub given_are : texts_of (went motions) ≡ given
   pub rest : IsPermutation (came motions) (went motions ++ s.waits)
   pub turns : InTurn compat s.bounds s.places motions
+  pub counts : Counted s.tally motions
 
 -- the line that was read waits
 pub record Comes (old new : State) (item : Waiting) : Type 0 where
   pub come : IsPermutation (item ∷ old.waits) new.waits
   pub is : new ≡ record old { number = (old.number + 1) % 2 ^ 64; waits = new.waits }
 
--- a line goes, and of the state only what was seen and the event change by that
-pub record Turned (old new : State) (item : Waiting) : Type 0 where
+-- one more event goes, if the line isn't of the one before it
+abbrev pub begun_with : Event → Tally → Waiting → Tally
+begun_with event tally item = if is_one event item then tally else record tally { events = tally.events + 1 }
+
+-- what is counted after a line that went
+abbrev pub tally_with : Event → Tally → Waiting → Tally
+tally_with event tally item = tally_after (begun_with event tally item) (spot_of item)
+
+-- a line goes, and of the state only what was seen, the event and what is counted change by that
+pub record Turned (old new : State) (item : Waiting) (tally : Tally) : Type 0 where
   pub passes : Passes old.event item old.places new.places
-  pub is : new ≡ record old { places = new.places; event = next_event old.event item }
+  pub is : new ≡ record old { places = new.places; event = next_event old.event item; tally = tally }
 
 -- the line of the least place goes
 pub record GoesLeast (old new : State) (item : Waiting) : Type 0 where
   pub were : IsPermutation old.waits (item ∷ new.waits)
   pub least : IsLeast item new.waits
-  pub turned : Turned (record old { waits = new.waits }) new item
+  pub turned : Turned (record old { waits = new.waits }) new item (tally_with old.event old.tally item)
 
 -- whichever of the lines that wait is the least, it is due
 abbrev pub MayGo : State → Phase → Type 0

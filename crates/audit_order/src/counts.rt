@@ -1,7 +1,7 @@
 //! What a run did to the lines, counted.
 ghost use Rattle.std.specs.Prelude.{◌≡◌, ◌+◌, ◌++◌, OnOk, IfOk};
 ghost use Rattle.audit_order.specs.Report.{report_of, number_text};
-ghost use Rattle.audit_order.specs.Tally.{tally_after};
+ghost use Rattle.audit_order.specs.Tally.{no_tally, tally_after};
 
 use flow_base::{Bytes, NoMemory};
 use itoa::Buffer;
@@ -16,7 +16,7 @@ pub struct Counts {
     pub added_peers: u64,
     /// The events that were written.
     pub events: u64,
-    /// The events that were written after one whose place is later.
+    /// The lines that were written after one of a greater place.
     pub late: u64,
     /// The lines of which a part was rewritten.
     pub rewrites: u64,
@@ -38,24 +38,51 @@ impl Counts {
     }
 }
 
-/// How many events were written so far, how many of them after one whose place is later, and the latest place of an event.
-#[derive(Clone, Copy, Debug, PartialEq, Eq)]
+/// Where a line stands among all: the time at which its event counts, the event's serial number, its own time and its node, and the
+/// rank of the line in it. Spots are compared in this order, as places are, of which only the number of the line is left out.
+#[derive(Drop, PartialEq, Eq, PartialOrd, Ord)]
+pub struct Spot {
+    pub time: u64,
+    pub serial: u32,
+    pub ms: u64,
+    pub node: Bytes,
+    pub rank: u8,
+}
+
+/// How many events were written so far, how many lines after one of a greater place, and the greatest place of a line.
+#[derive(Drop)]
 pub struct Tally {
     pub events: u64,
     pub late: u64,
-    pub latest: u64,
+    pub greatest: Spot,
 }
 
 impl Tally {
-    /// One more event is written, at this place.
-    pub fn note(&mut self, time: u64) -> Result<(), NoMemory>
-        ensures { OnOk result (self.new ≡ tally_after self.old time) }
+    /// Nothing was written.
+    pub fn new(alloc: Global) -> Tally
+        ensures { result ≡ no_tally }
     {
-        count_one(&mut self.events)?;
-        if time < self.latest {
+        Tally {
+            events: 0,
+            late: 0,
+            greatest: Spot {
+                time: 0,
+                serial: 0,
+                ms: 0,
+                node: Bytes::new(alloc),
+                rank: 0,
+            },
+        }
+    }
+
+    /// A line is written here.
+    pub fn note(&mut self, spot: Spot) -> Result<(), NoMemory>
+        ensures { OnOk result (self.new ≡ tally_after self.old spot) }
+    {
+        if spot.cmp(&self.greatest).is_lt() {
             return count_one(&mut self.late);
         }
-        self.latest = time;
+        self.greatest = spot;
         Ok(())
     }
 }

@@ -1,5 +1,7 @@
 //! What ordering and undoing promise together. The functions do nothing; their contracts are laws.
-ghost use Rattle.audit_order.specs.Turns.{LesserGoFirst};
+ghost use Rattle.audit_order.specs.Turns.{LesserGoFirst, PastHaveGone, FullMemoryHasGone, AllHaveGone};
+ghost use Rattle.audit_order.specs.Together.{EventsGoTogether};
+ghost use Rattle.audit_order.specs.Own.{CallsCountInOrder, SerialsGoInOrder};
 ghost use Rattle.audit_order.specs.Reads.{UndoesOrders, TextHasLines, RewritesByRules, AddsPeersByRules};
 
 /// Undoing what orders a log gives the lines of the log and the ends and peers that were added, in some order.
@@ -25,4 +27,25 @@ pub fn nothing_is_rewritten_without_rules()
 /// Whenever a line of an ordered log was written, each line that had come and has a lesser place had been written before.
 pub fn lesser_places_go_first()
     ensures { LesserGoFirst }
+{}
+
+/// Lines of an ordered log were written as soon as they were due: those whose places were past before a further line was read, and
+/// those for which there was no memory, or that came before a node was started, before the line came that said so.
+pub fn due_lines_have_gone()
+    ensures past { PastHaveGone }
+    ensures memory { FullMemoryHasGone }
+    ensures starts { AllHaveGone }
+{}
+
+/// Once the first line of an event was written, only lines of that event were, and late ones, as long as a line waited that had come
+/// by then.
+pub fn events_go_together()
+    ensures { EventsGoTogether }
+{}
+
+/// A call counts no earlier than the newest call of its process that was read before, as far as the clock had come with that; and of
+/// two lines the one that counts no later and has the lesser serial number was written first, unless it was late.
+pub fn calls_keep_their_order()
+    ensures counts { CallsCountInOrder }
+    ensures goes { SerialsGoInOrder }
 {}

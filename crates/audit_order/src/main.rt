@@ -34,6 +34,7 @@ mod writer;
 pub use bounds::Bounds;
 pub use counts::{Counts, report};
 pub use laws::{
+    calls_keep_their_order, due_lines_have_gone, events_go_together,
     no_peer_is_added_without_its_rule, nothing_is_rewritten_without_rules, ordered_logs_are_undone,
     written_lines_are_lines,
 };

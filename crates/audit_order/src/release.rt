@@ -1,9 +1,9 @@
 //! Lines that are written because it is their turn.
-ghost use Rattle.std.specs.Prelude.{◌≡◌, ◌+◌, ◌-◌, ◌<◌, ◌≤◌, ◌^◌, ◌∷◌, [], false, length, OnOk, IfErr};
+ghost use Rattle.std.specs.Prelude.{◌≡◌, ◌+◌, ◌-◌, ◌<◌, ◌≤◌, ◌^◌, ◌∷◌, [], true, false, length, OnOk, IfErr};
 ghost use Rattle.outside.specs.Cause.{Rose};
 ghost use Rattle.audit_order.specs.Halts.{HasCauses, GoesUp};
 ghost use Rattle.audit_order.specs.Turns.{Between, MayGo, IsAny, IsFree, IsOfBytes, StartsIf};
-ghost use Rattle.audit_order.specs.Sorted.{Sorts, Goes, GoesIf, Finishes, state_of, any_is_past};
+ghost use Rattle.audit_order.specs.Sorted.{Sorts, Goes, GoesIf, Finishes, HasRoom, state_of, any_is_past};
 
 use crate::halt::Halt;
 use crate::sorter::{Sorter, hold, is_over, is_ripe, read_line, write_end, write_least};
@@ -52,6 +52,8 @@ fn make_room<O: Sink>(sorter: &mut Sorter, sink: &mut O, more: u64) -> Result<()
     ensures goes { OnOk result (GoesIf (IsOfBytes more)
         (O.written sink.old) sorter.old (O.written sink.new) sorter.new) }
     ensures room { OnOk result (sorter.new.queue.bytes ≤ sorter.old.bounds.memory) }
+    ensures early { OnOk result (HasRoom sorter.old.bounds.memory more sorter.new.queue.waits) }
+    ensures none { OnOk result (sorter.old.queue.waits ≡ [] → sorter.new.queue.waits ≡ []) }
     ensures fits { OnOk result (sorter.new.queue.bytes + more < 2 ^ 64) }
     ensures bounds { sorter.new.bounds ≡ sorter.old.bounds }
     ensures causes { IfErr result (HasCauses ⊥
@@ -121,6 +123,7 @@ fn release_all<O: Sink>(sorter: &mut Sorter, sink: &mut O) -> Result<(), Halt>
 fn release_before<O: Sink>(sorter: &mut Sorter, sink: &mut O, starts: bool) -> Result<(), Halt>
     ensures goes { OnOk result (GoesIf (StartsIf starts)
         (O.written sink.old) sorter.old (O.written sink.new) sorter.new) }
+    ensures none { OnOk result (starts ≡ true → sorter.new.queue.waits ≡ []) }
     ensures bounds { sorter.new.bounds ≡ sorter.old.bounds }
     ensures causes { IfErr result (HasCauses ⊥
         (Rose (O.faults sink.old) (O.faults sink.new) (O.spent sink.new))) }

@@ -8,13 +8,13 @@ ghost use Rattle.order_queue.specs.Marks.{AreMarks};
 ghost use Rattle.audit_order.specs.Start.{Start};
 ghost use Rattle.audit_order.specs.Course.{Gives, Keeps};
 ghost use Rattle.order_queue.specs.Queue.{bytes_of};
-ghost use Rattle.audit_order.specs.Turns.{Turned};
-ghost use Rattle.audit_order.specs.Sorted.{Sorts, Moves, Holds, state_of, counts_of, is_past, any_is_past};
-ghost use Rattle.audit_order.specs.Tally.{is_of, tally_with};
+ghost use Rattle.audit_order.specs.Turns.{Turned, begun_with, tally_with};
+ghost use Rattle.audit_order.specs.Sorted.{Sorts, Moves, Holds, HasRoom, state_of, event_of, counts_of, is_past, any_is_past};
+ghost use Rattle.audit_order.specs.Tally.{is_of};
 
 use crate::added::{end_of_call, is_accept, is_call, peer_of_call};
 use crate::bounds::Bounds;
-use crate::counts::{Counts, Tally};
+use crate::counts::{Counts, Spot, Tally, count_one};
 use crate::switches::Switches;
 use crate::writer::Writer;
 use audit_lex::UsedLine;
@@ -58,8 +58,6 @@ impl Sorter {
             (record { written = written; bounds = bounds; switches = switches })
             written made []) }
         ensures bounds { IfOk result (λ made. made.bounds ≡ bounds) }
-        ensures tally { IfOk result (λ made.
-            made.tally ≡ record { events = 0; late = 0; latest = 0 }) }
     {
         let writer = Writer::new(alloc, switches)?;
         Ok(Sorter {
@@ -74,11 +72,7 @@ impl Sorter {
                 call: None,
                 accepts: false,
             },
-            tally: Tally {
-                events: 0,
-                late: 0,
-                latest: 0,
-            },
+            tally: Tally::new(alloc),
             number: 0,
             bounds,
         })
@@ -102,7 +96,6 @@ impl Sorter {
 // Writes the record of the peer that the event lacks whose lines are written, before its end.
 fn write_peer(sorter: &mut Sorter) -> Result<(), NoMemory>
     ensures keeps { OnOk result (Keeps sorter.old.writer sorter.new.writer) }
-    ensures tally { sorter.new.tally ≡ sorter.old.tally }
     ensures waits { sorter.new.queue ≡ sorter.old.queue }
     ensures state { state_of sorter.new ≡ state_of sorter.old }
     ensures bounds { sorter.new.bounds ≡ sorter.old.bounds }
@@ -130,7 +123,6 @@ fn write_peer_of(alloc: Global, writer: &mut Writer, call: &[u8]) -> Result<(), 
 /// Writes the line that ends the event whose lines are written, if it has no end so far.
 pub fn write_end(sorter: &mut Sorter) -> Result<(), NoMemory>
     ensures keeps { OnOk result (Keeps sorter.old.writer sorter.new.writer) }
-    ensures tally { sorter.new.tally ≡ sorter.old.tally }
     ensures waits { sorter.new.queue ≡ sorter.old.queue }
     ensures state { state_of sorter.new ≡ state_of sorter.old }
     ensures bounds { sorter.new.bounds ≡ sorter.old.bounds }
@@ -145,7 +137,6 @@ pub fn write_end(sorter: &mut Sorter) -> Result<(), NoMemory>
 // Writes the line that ends the event of a call, by the call's record.
 fn write_end_of(sorter: &mut Sorter, call: &[u8]) -> Result<(), NoMemory>
     ensures keeps { OnOk result (Keeps sorter.old.writer sorter.new.writer) }
-    ensures tally { sorter.new.tally ≡ sorter.old.tally }
     ensures waits { sorter.new.queue ≡ sorter.old.queue }
     ensures state { state_of sorter.new ≡ state_of sorter.old }
     ensures bounds { sorter.new.bounds ≡ sorter.old.bounds }
@@ -160,10 +151,9 @@ fn write_end_of(sorter: &mut Sorter, call: &[u8]) -> Result<(), NoMemory>
 // those, the peer that this lacks stands before it.
 fn turn_to(sorter: &mut Sorter, item: &Waiting) -> Result<(), NoMemory>
     ensures keeps { OnOk result (Keeps sorter.old.writer sorter.new.writer) }
-    ensures counts { OnOk result (sorter.new.tally
-        ≡ tally_with sorter.old.turn sorter.old.tally item.now) }
     ensures waits { sorter.new.queue ≡ sorter.old.queue }
-    ensures turned { OnOk result (Turned (state_of sorter.old) (state_of sorter.new) item.now) }
+    ensures turned { OnOk result (Turned (state_of sorter.old) (state_of sorter.new) item.now
+        (begun_with (event_of sorter.old.turn) sorter.old.tally item.now)) }
     ensures bounds { sorter.new.bounds ≡ sorter.old.bounds }
 {
     if is_of(&sorter.turn, item) {
@@ -172,7 +162,7 @@ fn turn_to(sorter: &mut Sorter, item: &Waiting) -> Result<(), NoMemory>
         }
         return Ok(());
     }
-    sorter.tally.note(item.time)?;
+    count_one(&mut sorter.tally.events)?;
     write_end(sorter)?;
     let before = sorter.turn.node.take();
     sorter
@@ -205,10 +195,9 @@ fn note_end(turn: &mut Turn, rank: u8, calls: bool, line: Noted)
 // Writes a line that waits no longer.
 fn write_item(sorter: &mut Sorter, item: Waiting) -> Result<(), NoMemory>
     ensures gives { OnOk result (Gives sorter.old.writer sorter.new.writer item.line) }
-    ensures counts { OnOk result (sorter.new.tally
-        ≡ tally_with sorter.old.turn sorter.old.tally item) }
     ensures waits { sorter.new.queue ≡ sorter.old.queue }
-    ensures turned { OnOk result (Turned (state_of sorter.old) (state_of sorter.new) item) }
+    ensures turned { OnOk result (Turned (state_of sorter.old) (state_of sorter.new) item
+        (tally_with (event_of sorter.old.turn) sorter.old.tally item)) }
     ensures bounds { sorter.new.bounds ≡ sorter.old.bounds }
 {
     turn_to(sorter, &item)?;
@@ -218,7 +207,13 @@ fn write_item(sorter: &mut Sorter, item: Waiting) -> Result<(), NoMemory>
     let calls = is_call(&stamp);
     sorter.turn.accepts = sorter.turn.accepts && !calls || is_accept(&stamp);
     note_end(&mut sorter.turn, item.rank, calls, item.line);
-    Ok(())
+    sorter.tally.note(Spot {
+        time: item.time,
+        serial: item.serial,
+        ms: item.ms,
+        node: item.node,
+        rank: item.rank,
+    })
 }
 
 /// Writes the line of the least place, if one waits.
@@ -295,9 +290,10 @@ pub fn is_over(queue: &Queue, memory: u64, more: u64) -> bool
     ensures some { result ≡ true → 0 < length queue.now.waits }
     ensures over { result ≡ true → memory < bytes_of queue.now.waits + more }
     ensures room { result ≡ false → queue.now.bytes ≤ memory }
+    ensures early { result ≡ false → HasRoom memory more queue.now.waits }
     ensures fits { result ≡ false → queue.now.bytes + more < 2 ^ 64 }
 {
-    queue.len() > 0 && queue.bytes() > memory - more.min(memory)
+    queue.len() > 0 && (more > memory || queue.bytes() > memory - more)
 }
 
 /// Whether a line waits whose place is more than the window past.

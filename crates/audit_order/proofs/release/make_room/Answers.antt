@@ -1,6 +1,6 @@
-use Rattle.std.proofs.Common.{rules, ◌∙◌, ap}
+use Rattle.std.proofs.Common.{rules, ◌∙◌, ap, arith}
 use Rattle.audit_order.specs.declared.bounds.Bounds.{Bounds}
-use Rattle.audit_order.proofs.SortLemmas.{over_goes}
+use Rattle.audit_order.proofs.SortLemmas.{over_goes, none_left}
 use Rattle.audit_order.proofs.release.make_room.Goals as goal
 
 pub loop-sorter-preserved : goal.loop-sorter-preserved
@@ -10,4 +10,8 @@ loop-sorter-preserved g c = record {
       before lines (c.loop-sorter.invariant.goes at of before lines s);
   counts = search rules;
   bounds = c.release_least.ensures.bounds ∙ c.loop-sorter.invariant.bounds;
+  fewer = omega (arith, c.in_ok-release_least.ensures.fewer, c.loop-sorter.invariant.fewer);
 }
+
+pub returns-clause-none : goal.returns-clause-none
+returns-clause-none g c = λ none. none_left _ _ none c.loop-sorter.invariant.fewer

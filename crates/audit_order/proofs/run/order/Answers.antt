@@ -19,6 +19,7 @@ returns-clause-ordered g c = λ bytes told.
     let all = c.in_ok-take_tail.ensures.takes before (map Byte bytes) log in
     orders bytes before (g.O.Sink.written c.finish.new.sink) _ (log_lines bytes) c.counts.result c.in_ok-finish.ensures.written c.in_ok-finish.ensures.none refl
     (ap (λ (k : Counts). k.times_raised) c.counts.ensures) (ap (λ (k : Counts). k.added_ends) c.counts.ensures) (ap (λ (k : Counts). k.added_peers) c.counts.ensures) (ap (λ (k : Counts). k.rewrites) c.counts.ensures)
+    (ap (λ (k : Counts). k.events) c.counts.ensures) (ap (λ (k : Counts). k.late) c.counts.ensures)
     (c.in_ok-finish.ensures.goes before (log_lines bytes) all.takes)
 
 pub returns-in_err-take_log-clause-causes : goal.returns-in_err-take_log-clause-causes

@@ -4,8 +4,8 @@ use Rattle.std.proofs.lemmas.Result.{on_ok_weaker}
 use Rattle.std.proofs.lemmas.List.Sorted.{length_permutation}
 use Rattle.order_queue.specs.Queue.{Held}
 use Rattle.order_queue.specs.Order.{IsLeast}
-use Rattle.audit_order.specs.Turns.{Turned}
-use Rattle.audit_order.specs.Sorted.{state_of}
+use Rattle.audit_order.specs.Turns.{Turned, tally_with}
+use Rattle.audit_order.specs.Sorted.{state_of, event_of}
 use Rattle.audit_order.proofs.ReadLemmas.{on_ok_two}
 use Rattle.audit_order.proofs.sorter.write_least.Goals as goal
 
@@ -18,7 +18,8 @@ returns-in-Some-clause-moves c =
       goes = record {
         were = subst (λ (q : Held). IsPermutation c.args.sorter.now.queue.waits (c.in-Some.item ∷ q.waits)) waits c.in-Some.ensures.some;
         least = subst (λ (q : Held). IsLeast c.in-Some.item q.waits) waits c.in-Some.ensures.least;
-        turned = subst (λ (q : Held). Turned (record (state_of c.args.sorter.now) { waits = q.waits }) (state_of c.write_item.new.sorter) c.in-Some.item) waits turned;
+        turned = subst (λ (q : Held). Turned (record (state_of c.args.sorter.now) { waits = q.waits }) (state_of c.write_item.new.sorter) c.in-Some.item
+            (tally_with (event_of c.args.sorter.now.turn) c.args.sorter.now.tally c.in-Some.item)) waits turned;
       };
       gives = gives;
     }))
