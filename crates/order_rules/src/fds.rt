@@ -117,7 +117,8 @@ impl Fds {
     /// What a process that begins inherits of it: what is known of the descriptors below 256, so that there is a bound to what a fork
     /// copies.
     pub fn inherit(&self) -> Result<Fds, NoMemory>
-        ensures { IfOk result (λ made. (n : ℕ) → held_of made n ≡ inherited n (held_of self.now n)) }
+        ensures { IfOk result (λ made. (n : ℕ) → held_of made n
+            ≡ inherited n (held_of self.now n)) }
     {
         let mut made = self.copy()?;
         made.keep_low();
