@@ -16,7 +16,8 @@ use std::alloc::Global;
 use std::marker::Model;
 
 /// The place of a line: the time at which its event counts; the serial number, the time and the node of the event; its rank
-/// within that, which is 2 or 3 if the line is one that ends an event, 0 if it names a descriptor, and else 1; and whether the line says that its node was started.
+/// within that, which is 2 or 3 if the line is one that ends an event, 0 if it names a descriptor, and else 1; and whether the
+/// line says that its node was started.
 #[derive(Drop)]
 pub struct Place {
     pub time: u64,

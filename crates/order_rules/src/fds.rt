@@ -114,8 +114,8 @@ impl Fds {
         self.marked.retain(|fd, _| !is_in_range(first, last, *fd));
     }
 
-    /// What a process that begins inherits of it: what is known of the descriptors below 256, so that there is a bound to what a fork
-    /// copies.
+    /// What a process that begins inherits of it: what is known of the descriptors below 256, so that there is a bound to what is kept
+    /// for each child.
     pub fn inherit(&self) -> Result<Fds, NoMemory>
         ensures { IfOk result (λ made. (n : ℕ) → held_of made n
             ≡ inherited n (held_of self.now n)) }
