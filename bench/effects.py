@@ -19,7 +19,7 @@ from pathlib import Path
 from runs import MODES, PROGRAM, TOP, lines_of, run
 
 ORDER = TOP / 'crates/audit_order/out/audit_order'
-READ, WRITE, CLOSE, PIPE, DUP2, SOCKET, CONNECT, ACCEPT, SEND, RECEIVE, BIND, FORK, EXIT, OPEN = 0, 1, 3, 22, 33, 41, 42, 43, 44, 45, 49, 57, 231, 257
+READ, WRITE, CLOSE, PIPE, DUP2, SOCKET, CONNECT, ACCEPT, SEND, RECEIVE, BIND, FORK, VFORK, EXIT, OPEN = 0, 1, 3, 22, 33, 41, 42, 43, 44, 45, 49, 57, 58, 231, 257
 FILE, FIFO = '0100644', '010600'
 # Lines that are no records: they pass, and change nothing.
 ODD_LINES = [b'', b'garbage', b' \t', b'type=SYSCALL msg=audit(x:1)', b'\xff\x00\xfe', b'type=SYSCALL msg=audit(1000.000:77: arch=c000003e', b'(((:)))']
@@ -40,7 +40,7 @@ class Log:
     """The records of calls, which are written as the calls return. Times are milliseconds after a moment, at which each call was entered."""
 
     def __init__(self, node='', begins=1000):
-        self.node, self.begins, self.serial, self.texts, self.inodes = f'node={node} ' if node else '', begins, 0, [], {}
+        self.node, self.begins, self.serial, self.texts, self.inodes, self.parents = f'node={node} ' if node else '', begins, 0, [], {}, {}
 
     def line(self, at, serial, kind, text):
         return f'{self.node}type={kind} msg=audit({self.begins + at // 1000}.{at % 1000:03}:{serial}): {text}\n'
@@ -51,7 +51,7 @@ class Log:
             self.serial += 1
             serial = self.serial
         record = (f'arch=c000003e syscall={number} success={"yes" if answer >= 0 else "no"} exit={answer} a0={a[0]:x} a1={a[1]:x} a2={a[2]:x} a3={a[3]:x} '
-                  f'items={len(more)} ppid=1 pid={pid} comm="p{pid}" exe="/bin/p{pid}"')
+                  f'items={len(more)} ppid={self.parents.get(pid, 1)} pid={pid} comm="p{pid}" exe="/bin/p{pid}"')
         title = [] if number == EXIT else [('PROCTITLE', 'proctitle="p"')]
         self.texts.append(''.join(self.line(at, serial, kind, text) for kind, text in [('SYSCALL', record), *more, *title]))
 
@@ -253,6 +253,21 @@ def inherited_copy():
     return log.text(), [('/secret', '/out')], []
 
 
+def child_first():
+    """A child reads and writes what it has from its parent, and ends, in the millisecond of its vfork, which is recorded after that."""
+    log = Log()
+    log.clock(0)
+    log.copies(10, 100, '/secret', '/out')
+    log.open(12, 100, 5, '/later')
+    log.read(20, 101, 3)
+    log.write(20, 101, 4)
+    log.end(20, 101)
+    log.call(20, VFORK, 100, 101)
+    log.read(24, 100, 5)
+    log.clock(100)
+    return log.text(), [('/secret', '/out')], [('/later', '/out')]
+
+
 def inherited_pipe():
     """A pipe is made just before two forks, one child writes into it, and the other reads; the writes and forks in one tick."""
     log = Log()
@@ -272,6 +287,27 @@ def inherited_pipe():
     log.write(36, 102, 4)
     log.clock(100)
     return log.text(), [('/secret', '/out')], [('/later', '/out')]
+
+
+def in_a_container(inside):
+    """A process reads a file, opens another one and forks a child, which writes to that; then it reads a third file and forks another child, which writes a fourth one. In a pid
+    namespace the forks are recorded with the numbers that the children have there."""
+    log = Log()
+    log.parents |= {102: 100, 103: 100}
+    log.clock(0)
+    log.copies(10, 100, '/secret', '/out')
+    log.read(20, 100, 3)
+    log.fork(28, 100, 7 if inside else 102)
+    log.write(32, 102, 4)
+    log.end(40, 102)
+    log.open(44, 100, 5, '/later')
+    log.read(48, 100, 5)
+    log.fork(52, 100, 8 if inside else 103)
+    log.open(56, 103, 6, '/other')
+    log.write(60, 103, 6)
+    log.end(64, 103)
+    log.clock(100)
+    return log.text(), [('/secret', '/out'), ('/later', '/other')], [('/later', '/out')]
 
 
 def clients_of_a_server(count, family, silent=False):
@@ -397,7 +433,10 @@ CASES = {
     'a read that waited': waited_read,
     'an accept just before a fork': inherited_accept,
     'a copy just before a fork': inherited_copy,
+    'a child that was recorded before its vfork': child_first,
     'a pipe just before two forks': inherited_pipe,
+    'a child outside a pid namespace': lambda: in_a_container(False),
+    'a child in a pid namespace': lambda: in_a_container(True),
     'forty clients over TCP': lambda: clients_of_a_server(40, 2),
     'forty clients over a unix socket': lambda: clients_of_a_server(40, 1),
     'forty clients of a silent server over TCP': lambda: clients_of_a_server(40, 2, silent=True),

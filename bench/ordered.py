@@ -41,6 +41,8 @@ RENAMED = {'mmap2': 'mmap', **{name: name.removesuffix('32') for name in ('chown
 # The words that turn rules off.
 RULES = ('--no-join', '--shared-connections', '--no-names', '--no-compat', '--no-descriptors')
 END = re.compile(rb'^(.*)type=EOE msg=audit\((\d+\.\d{3}):(\d+)\): $', re.S)
+FORK_ANSWER = re.compile(rb': arch=(?:c000003e syscall=(?:5[678]|435)|40000003 syscall=2) .*?exit=([^ ]*)')
+ANSWER = re.compile(rb'^: arch=[^ ]* syscall=[^ ]* (?:per=[^ ]* )?success=yes exit=([^ \x1d]*)', re.S)
 ADDED_PEER = re.compile(rb'^(.*)type=SOCKADDR msg=audit\((\d+\.\d{3}):(\d+)\): saddr=0100\x1dADDED=yes$', re.S)
 
 ODD = {
@@ -81,8 +83,8 @@ def torn(event, other):
 
 READ, WRITE, OPEN, CLOSE, DUP2, CONNECT, CLONE, FORK, VFORK, EXEC, EXIT, CLONE3, CLOSE_RANGE = 0, 1, 257, 3, 33, 42, 56, 57, 58, 59, 231, 435, 436
 SPLICE, TEE, PREADV2 = 275, 276, 327
-# The 32-bit gate, and its numbers of read, write, close and openat.
-GATE, READ_32, WRITE_32, CLOSE_32, OPEN_32 = '40000003', 3, 4, 6, 295
+# The 32-bit gate, and its numbers of fork, read, write, close and openat.
+GATE, FORK_32, READ_32, WRITE_32, CLOSE_32, OPEN_32 = '40000003', 2, 3, 4, 6, 295
 FILE, FIFO, FOLDER = '0100644', '010644', '040755'
 EARLY = call('1000.000', 1, WRITE, 9) + call('1000.000', 2, WRITE, 9)
 # Logs made by hand, and the serial numbers of their events in the order of effects.
@@ -103,6 +105,15 @@ ORDERS = {
                                           [1, 2, 4, 5, 3]),
     'two nodes with two clocks': (EARLY + call('1015.000', 4, READ, 5, node='node=b ') + call('1015.000', 6, READ, 5, node='node=b ')
                                   + call('1000.010', 3, READ, 5) + call('1000.020', 5, WRITE, 6), [1, 2, 3, 5, 4, 6]),
+    'a child that was recorded before its vfork': (EARLY + call('1000.020', 3, READ, 2, parent=5) + call('1000.020', 4, VFORK, 5, answer=2), [1, 2, 4, 3]),
+    'a vfork after a call of its process': (EARLY + call('1000.020', 3, WRITE, 5) + call('1000.020', 4, WRITE, 2, parent=5) + call('1000.020', 5, VFORK, 5, answer=2), [1, 2, 3, 5, 4]),
+    'two forks of one process': (EARLY + call('1000.020', 3, WRITE, 2, parent=5) + call('1000.020', 4, FORK, 5, answer=2) + call('1000.020', 5, WRITE, 6, parent=5)
+                                 + call('1000.020', 6, FORK, 5, answer=6), [1, 2, 4, 3, 6, 5]),
+    'a child whose serial number is less than that of its fork': (EARLY + call('1000.020', 4, CLONE, 5, a0='1200011', answer=2) + call('1000.020', 3, WRITE, 2, parent=5), [1, 2, 4, 3]),
+    'a child of a process that waited': (EARLY + call('1000.030', 3, WRITE, 1) + call('1000.010', 4, READ, 5) + call('1000.020', 6, CLONE3, 5, answer=2)
+                                         + call('1000.025', 5, WRITE, 2, parent=5), [1, 2, 3, 4, 6, 5]),
+    'a fork that failed': (EARLY + call('1000.020', 3, WRITE, 2) + call('1000.020', 4, FORK, 5, done='no', answer=-11), [1, 2, 3, 4]),
+    'a fork of the 32-bit gate': (EARLY + call('1000.020', 3, WRITE, 2, parent=5) + call('1000.020', 4, FORK_32, 5, answer=2, arch=GATE), [1, 2, 4, 3]),
     'two boots, the clock set back': (EARLY + call('1000.010', 3, WRITE, 5) + 'type=SYSTEM_BOOT msg=audit(500.000:4): pid=1\n' + call('500.010', 6, READ, 5)
                                       + call('500.020', 5, WRITE, 6), [1, 2, 3, 4, 6, 5]),
 }
@@ -225,6 +236,50 @@ MEETINGS = {
 }
 
 
+# Forks of the process 5 in a pid namespace, by their answers there, and its children 502 and 503, whose first calls these are.
+INSIDE, INSIDE_2 = call('1000.010', 3, FORK, 5, answer=7), call('1000.040', 5, FORK, 5, answer=8)
+OUTSIDE, OUTSIDE_2 = call('1000.014', 4, EXEC, 502, answer=0, parent=5), call('1000.044', 6, EXEC, 503, answer=0, parent=5)
+# Logs made by hand, and the answers of their forks as they are written, in the order of the events.
+NAMESPACES = {
+    'a fork in a pid namespace': (INSIDE + OUTSIDE, ['502']),
+    'a child that was recorded before its fork': (OUTSIDE.replace('1000.014', '1000.010') + INSIDE, ['502']),
+    'a vfork': (INSIDE.replace('syscall=57', 'syscall=58') + OUTSIDE, ['502']),
+    'a clone': (INSIDE.replace('syscall=57', 'syscall=56').replace('a0=3', 'a0=1200011') + OUTSIDE, ['502']),
+    'a clone that makes a thread': (INSIDE.replace('syscall=57', 'syscall=56').replace('a0=3', 'a0=3d0f00') + OUTSIDE, ['7']),
+    'a clone3': (INSIDE.replace('syscall=57', 'syscall=435') + OUTSIDE, ['502']),
+    'a 32-bit fork': (INSIDE.replace('c000003e syscall=57', f'{GATE} syscall=2 per=8') + OUTSIDE, ['502']),
+    'a fork with a personality': (INSIDE.replace('syscall=57', 'syscall=57 per=40000') + OUTSIDE, ['502']),
+    'a fork that failed': (INSIDE.replace('success=yes exit=7', 'success=no exit=-11') + OUTSIDE, ['-11']),
+    'a child of another process': (INSIDE + OUTSIDE.replace('ppid=5', 'ppid=6'), ['7']),
+    'a child of another node': (INSIDE + OUTSIDE.replace('type=', 'node=b type='), ['7']),
+    'a child that was there before the fork': (INSIDE + OUTSIDE.replace('1000.014', '1000.006'), ['7']),
+    'a child that comes after the window': (INSIDE + call('1030.000', 8, WRITE, 9) + call('1030.001', 9, WRITE, 8) + OUTSIDE.replace('1000.014', '1030.014'), ['7']),
+    'a child whose number was answered': (INSIDE.replace('exit=7', 'exit=502') + OUTSIDE, ['502']),
+    'a child whose number another fork has answered': (INSIDE + INSIDE_2.replace('exit=8', 'exit=502') + OUTSIDE, ['7', '502']),
+    'two children of one fork': (INSIDE + OUTSIDE + OUTSIDE_2, ['7']),
+    'two forks, one after the other': (INSIDE + OUTSIDE + INSIDE_2 + OUTSIDE_2, ['502', '503']),
+    'two forks in one tick': (INSIDE + INSIDE_2.replace('1000.040', '1000.010') + OUTSIDE + OUTSIDE_2, ['7', '8']),
+    'two forks whose children come after both': (INSIDE + INSIDE_2 + OUTSIDE.replace('1000.014', '1000.043') + OUTSIDE_2, ['7', '8']),
+    'a second fork whose child alone has come': (INSIDE + INSIDE_2 + OUTSIDE_2, ['7', '8']),
+    'a fork after two in one tick whose children have come': (INSIDE + INSIDE.replace(':3)', ':8)') + OUTSIDE + OUTSIDE.replace('pid=502', 'pid=504').replace(':4)', ':9)') + INSIDE_2 + OUTSIDE_2,
+                                                              ['7', '7', '503']),
+    'a process that another fork shows outside': (call('1000.006', 8, FORK, 5, answer=501) + call('1000.007', 9, EXEC, 501, answer=0, parent=5) + INSIDE + OUTSIDE, ['501', '7']),
+    'a child of a process that has ended': (INSIDE + OUTSIDE + call('1000.020', 8, EXIT, 5), ['7']),
+    'a child before a start': (OUTSIDE.replace('1000.014', '1000.010') + 'type=DAEMON_START msg=audit(1000.010:9): op=start\n' + INSIDE, ['7']),
+}
+
+
+def faults_of_namespaces():
+    """What isn't so of the answers of forks in pid namespaces; without the rule on them they stay."""
+    for name, (log, wanted) in NAMESPACES.items():
+        for words in ([], ['--no-compat']):
+            written = lines_of(subprocess.run([PROGRAM, *words], input=(EARLY + log).encode(), stdout=subprocess.PIPE, check=True).stdout)
+            stay = [it[1].decode() for line in map(undone, written) if (it := FORK_ANSWER.search(line))]
+            found = [it[1].decode() for line in written if (it := FORK_ANSWER.search(line))]
+            if found != (stay if words else wanted):
+                yield f'{name}: the answers {found} and not {wanted}, by {words}'
+
+
 # The names that connections get in some of these logs, one after the other.
 NAMES_MET = {
     'a connection': ['127.0.0.1:8080#1000020:4'] * 2,
@@ -249,7 +304,7 @@ def faults_of_names():
     for name, wanted in NAMES_MET.items():
         log = (EARLY + MEETINGS[name][0]).encode()
         written = subprocess.run([PROGRAM], input=log, stdout=subprocess.PIPE, check=True).stdout
-        for way, lines in [('the program', lines_of(written)), ('the plain reading', shown(map(undone, lines_of(written)), []))]:
+        for way, lines in [('the program', lines_of(written)), ('the plain reading', shown(lines_of(written), []))]:
             if (found := names_in(lines)) != wanted:
                 yield f'{name}: the names {found} and not {wanted}, by {way}'
 
@@ -321,10 +376,23 @@ def rewrite_alone(front, rest, leaves_out):
     return (address[0], b': saddr=0100') if address else None
 
 
-def shown(lines, leaves_out):
-    """Lines as they are to be written one after the other."""
+def child_in(line, leaves_out):
+    """The number of the child that is told of a line, as it is written: the answer of the fork, if that is another one than it was."""
+    answers = [stamp and ANSWER.match(stamp[4]) for stamp in (STAMP.match(line), STAMP.match(undone(line)))]
+    return answers[0][1] if all(answers) and answers[0][1] != answers[1][1] and '--no-compat' not in leaves_out and b'syscall=72 ' not in answers[0][0] else None
+
+
+def with_answer(rest, child, found):
+    """What of the text after a stamp is rewritten, and to what, if its call has this answer, beside another rewrite."""
+    old, new = found or (b'', b'')
+    stands = ANSWER.match(rest)
+    return (stands[0], new + stands[0][len(old):-len(stands[1])] + child) if stands else found
+
+
+def shown(written, leaves_out):
+    """Lines as they are to be written one after the other, of lines as they are written: which child is told of a fork is taken from them."""
     greatest, text, rules = 0, b'0.000', Rules(leaves_out)
-    for line in lines:
+    for line, child in ((undone(it), child_in(it, leaves_out)) for it in written):
         stamp = STAMP.match(line)
         if not stamp or int(stamp[3]) >= 2 ** 32:
             yield line
@@ -333,8 +401,11 @@ def shown(lines, leaves_out):
         if time > greatest:
             greatest, text = time, stamp[2]
         at = text if time < greatest else stamp[2]
-        by_others = rules.see(stamp[1], time, stamp[4], line)
+        answer = with_answer(stamp[4], child, None) if child else None
+        rest = answer[1] + stamp[4][len(answer[0]):] if answer else stamp[4]
+        by_others = rules.see(stamp[1], time, rest, b'%s(%s:%s)%s' % (stamp[1], stamp[2], stamp[3], rest))
         found = rewrite_alone(stamp[1], stamp[4], leaves_out) or by_others
+        found = with_answer(stamp[4], child, found) if answer else found
         if found:
             old, new = found
             yield b'%s(%s:%s)%s\x1dWAS={ audit(%s:%s) %d %s }' % (stamp[1], at, stamp[3], new + stamp[4][len(old):], stamp[2], stamp[3], len(new), old)
@@ -413,7 +484,7 @@ def faults_of(log, words=()):
         end = END.match(line) or ADDED_PEER.match(line)
         if end and end[2] + end[3] not in calls:
             yield f'an end or a peer of no call: {line!r}'
-    if TABLES_ARE_THERE and list(shown(map(undone, written), switches)) != written:
+    if TABLES_ARE_THERE and list(shown(written, switches)) != written:
         yield 'lines are written otherwise than the rules say'
     yield from faults_of_peers(map(undone, written), switches)
     yield from faults_of_undoing(ran.stdout)
@@ -464,9 +535,9 @@ def generated(seed):
 
 def main(names):
     logs = {name: Path(name).read_bytes() for name in names} if names else {
-        **ODD, **{name: log.encode() for name, (log, _) in (ORDERS | MEETINGS).items()}, **{path.name: path.read_bytes() for path in sorted((TOP / 'examples').glob('*.log'))},
+        **ODD, **{name: log.encode() for name, (log, _) in (ORDERS | MEETINGS | NAMESPACES).items()}, **{path.name: path.read_bytes() for path in sorted((TOP / 'examples').glob('*.log'))},
         **{f'generated log {seed}': generated(seed) for seed in range(1, 21)}}
-    faults = [('words', fault) for fault in faults_of_words()] + [('order', fault) for fault in (*faults_of_orders(), *faults_of_reads(), *faults_of_late_lines(), *faults_of_meetings(), *faults_of_names())]
+    faults = [('words', fault) for fault in faults_of_words()] + [('order', fault) for fault in (*faults_of_orders(), *faults_of_reads(), *faults_of_late_lines(), *faults_of_meetings(), *faults_of_names(), *faults_of_namespaces())]
     if TABLES_ARE_THERE:
         faults += [('calls', fault) for fault in faults_of_calls()]
     else:

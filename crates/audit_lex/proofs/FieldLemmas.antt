@@ -2,6 +2,7 @@
 use Rattle.std.proofs.Common.{◌≡◌, ◌≢◌, ◌↔◌, ◌∙◌, sym, refl, ap, ℕ, List, length, ◌==◌, Bool, true, false, Option, None, Some, if◌then◌else◌}
 use Rattle.std.specs.Str.{bytes_eq}
 use Rattle.std.proofs.lemmas.Slice.Eq.{bytes_eq-Decides}
+use Rattle.std.proofs.lemmas.Bool.{eq-eqb, false_from_ne_true}
 use Rattle.audit_lex.specs.FieldTable.{name_of}
 use Rattle.audit_lex.specs.FieldNames.{field_called, by_two, by_three, by_four, by_five, by_seven, by_eight}
 use Rattle.audit_lex.specs.declared.fields.Field.{Field}
@@ -86,3 +87,14 @@ same_name g f is = same_field g f (sym (called g) ∙ ap field_called is ∙ cal
 -- where no field has the name, none is found
 pub not_named : (name : List ℕ) → ((f : Field) → (None ≡ Some f) ↔ (name_of f ≡ name)) → (f : Field) → name_of f ≢ name
 not_named name never f is = let some = (never f).1 is in cc
+
+-- ---- names of other lengths
+
+apart : (test : Bool) → test ≡ true → test ≡ false → ⊥
+apart true is isnt = cc
+apart false is isnt = cc
+
+-- names of different lengths differ
+pub other_length : (name other : List ℕ) → (length name == length other) ≡ false → bytes_eq name other ≡ false
+other_length name other differs =
+    false_from_ne_true (bytes_eq name other) (λ same. apart (length name == length other) (eq-eqb _ _ (ap length ((bytes_eq-Decides name other).0 same))) differs)

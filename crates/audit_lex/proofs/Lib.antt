@@ -2,6 +2,7 @@ pub mod PlaceLemmas
 pub mod HistoryLemmas
 pub mod HistoryLaws
 pub mod TokenLemmas
+pub mod PastTokens
 pub mod FieldLemmas
 pub mod SlotLemmas
 pub mod TableLemmas

@@ -1,8 +1,8 @@
 -- Slots that are filled one after the other.
-use Rattle.std.proofs.Common.{subst, ◌≡◌, ◌≢◌, ◌<◌, ◌≤◌, ◌∙◌, sym, refl, ap, ℕ, zero, suc, List, [], ◌∷◌, ◌++◌, length, drop, Option, None, Some, get_or, set, ◌==◌, inl, inr, arith, Bool, true, false, if◌then◌else◌}
+use Rattle.std.proofs.Common.{subst, ◌⊎◌, ◌≡◌, ◌≢◌, ◌<◌, ◌≤◌, ◌+◌, ◌∙◌, sym, refl, ap, ℕ, zero, suc, List, [], ◌∷◌, ◌++◌, length, drop, Option, None, Some, get_or, set, ◌==◌, inl, inr, arith, Bool, true, false, if◌then◌else◌}
 use Rattle.std.specs.Option.{option_or, option_to_list}
-use Rattle.std.proofs.lemmas.Bool.{cases_eq, cases_lt, eq-eqb, ne_eqb, cond-true, cond-false}
-use Rattle.std.proofs.lemmas.List.{length-map, map-set, get_or-set_same, get_or-set_other}
+use Rattle.std.proofs.lemmas.Bool.{cases_eq, cases_lt, eq-eqb, eqb-true, ne_eqb, cond-true, cond-false}
+use Rattle.std.proofs.lemmas.List.{length-map, map-set, nil_from_length, get_or-map, get_or-set_same, get_or-set_other}
 use Rattle.audit_lex.specs.Tokens.{NameValue, value_in, token_at, token_len, tokens_of, field_of}
 use Rattle.audit_lex.specs.Slots.{slot_value, held, names_of, AreFilled, AreFound}
 use Rattle.audit_lex.specs.declared.fields.Rule.{Rule}
@@ -101,6 +101,10 @@ still_some : {A : Type 0} (a b : Option A) → is_some a ≡ true → is_some (o
 still_some None b is = cc
 still_some (Some a) b is = refl
 
+some_second : {A : Type 0} (a b : Option A) → is_some b ≡ true → is_some (option_or a b) ≡ true
+some_second None b is = is
+some_second (Some a) b is = refl
+
 keeps_own : {A : Type 0} (a b : Option A) → is_some a ≡ true → a ≡ option_or a b
 keeps_own None b is = cc
 keeps_own (Some a) b is = refl
@@ -172,6 +176,38 @@ misnamed token name differs = unnamed_seen (length token.value.now == 0) token.n
 pub unvalued : (token : Token) (name : List ℕ) → (length token.value.now == 0) ≡ true → value_in (option_to_list (token_seen token)) name ≡ None
 unvalued token name none = ap (λ seen. value_in (option_to_list seen) name)
     (cond-true (length token.value.now == 0) None (Some (record { name = token.name.now; value = drop 1 token.value.now })) none)
+
+seen_value : (unnamed : Bool) (name value other : List ℕ) → bytes_eq name other ≡ true
+    → (if unnamed then None else Some value) ≡ value_in (option_to_list (if unnamed then None else Some (record { name = name; value = value }))) other
+seen_value true name value other same = refl
+seen_value false name value other same = sym (cond-true (bytes_eq name other) (Some value) None same)
+
+-- one of this name says its value
+pub well_named : (token : Token) (name : List ℕ) → bytes_eq token.name.now name ≡ true → slot_value token.value.now ≡ value_in (option_to_list (token_seen token)) name
+well_named token name same = seen_value (length token.value.now == 0) token.name.now (drop 1 token.value.now) name same
+
+-- ---- the first token of a name
+
+value_some : (bytes : List ℕ) → (length bytes == 0) ≡ false → is_some (slot_value bytes) ≡ true
+value_some bytes some = ap is_some (cond-false (length bytes == 0) None (Some (drop 1 bytes)) some)
+
+pub value_none : (bytes : List ℕ) → (length bytes == 0) ≡ true → slot_value bytes ≡ None
+value_none bytes none = cond-true (length bytes == 0) None (Some (drop 1 bytes)) none
+
+-- a token of this name is the first one
+pub found_first : (rest name slot : List ℕ) → 0 < length rest → get_or rest 0 0 ≢ 32 → slot_value slot ≡ value_in (option_to_list (token_at rest)) name
+    → (length slot == 0) ≡ false → slot_value slot ≡ field_of rest name
+found_first rest name slot some isnt is full =
+    keeps_own (slot_value slot) (field_of (drop (token_len rest) rest) name) (value_some slot full)
+    ∙ ap (λ own. option_or own (field_of (drop (token_len rest) rest) name)) is ∙ sym (field_at_token rest name some isnt)
+
+-- behind a token of another name the search goes on
+pub found_later : (rest name slot behind : List ℕ) → 0 < length rest → get_or rest 0 0 ≢ 32 → slot_value slot ≡ value_in (option_to_list (token_at rest)) name
+    → (length slot == 0) ≡ true → tokens_of behind ≡ tokens_of (drop (token_len rest) rest) → field_of rest name ≡ field_of behind name
+found_later rest name slot behind some isnt is empty same =
+    field_at_token rest name some isnt
+    ∙ ap (λ own. option_or own (field_of (drop (token_len rest) rest) name)) (sym is ∙ value_none slot empty)
+    ∙ ap (λ tokens. value_in tokens name) (sym same)
 
 -- ---- faults of fields without slots
 
@@ -279,6 +315,79 @@ pub offered_empty : (slots : List (Bor (List ℕ))) (place : ℕ) (d new : Bor (
 offered_empty slots place d new within empty =
     map-set (λ (slot : Bor (List ℕ)). slot_value slot.now) slots place new
     ∙ ap (λ own. set (held slots) place (option_or own (slot_value new.now))) (sym (is_vacant slots place d within empty))
+
+-- the name that a table asks for at a place
+pub name_at : (rules : List Rule) (place : ℕ) (d : Rule) → place < length rules → name_of (get_or rules place d).field ≡ get_or (names_of rules) place []
+name_at rules place d below = sym (get_or-map (λ (rule : Rule). name_of rule.field) rules place d [] below)
+
+pub has_value : (found : Option ℕ) (here : ℕ) (bytes : List ℕ) → IfSome found (λ place. 0 < length bytes) → found ≡ Some here → 0 < length bytes
+has_value None here bytes has is = absurd (none_some here is)
+has_value (Some place) here bytes has is = has
+
+-- each table has a slot for each of its places
+pub slot_within : (kind : Kind) (slots : List (Bor (List ℕ))) (place : ℕ) → length slots ≡ 11 → place < length (slot_rules kind) → place < length (held slots)
+slot_within kind slots place size below = omega (arith, below, few_rules kind, length-map slots (λ (slot : Bor (List ℕ)). slot_value slot.now), size)
+
+-- a slot that was offered a value is full
+pub offered_full : (slots : List (Option (List ℕ))) (here : ℕ) (bytes : List ℕ) (after : List (Option (List ℕ))) → here < length slots → 0 < length bytes
+    → after ≡ set slots here (option_or (get_or slots here None) (slot_value bytes)) → is_some (get_or after here None) ≡ true
+offered_full slots here bytes after within some is =
+    ap is_some (ap (λ xs. get_or xs here None) is ∙ get_or-set_same slots here _ None within)
+    ∙ some_second (get_or slots here None) (slot_value bytes) (value_some bytes (ne_eqb _ _ (omega (arith, some))))
+
+-- one full place more
+pub one_more : (slots : List (Option (List ℕ))) (count : ℕ) → Full count slots → is_some (get_or slots count None) ≡ true → Full (count + 1) slots
+one_more slots count full here place below = elim (cases_eq place count) [
+  | inl same ↦ ap (λ n. is_some (get_or slots n None)) same ∙ here
+  | inr other ↦ full place (omega (arith, below, other))
+]
+
+-- ---- the end of the search
+
+-- where nothing is left, what the slots have was found
+pub found_at_end : (rules : List Rule) (raw : List ℕ) (slots : List (Option (List ℕ))) → Finding rules raw [] slots → AreFound rules raw slots
+found_at_end rules raw slots finding place below = sym (or_none (get_or slots place None)) ∙ finding place below
+
+nothing_left : (rest : List ℕ) → (length rest == 0) ≡ true → rest ≡ []
+nothing_left rest none = nil_from_length rest (eqb-true (length rest) 0 none)
+
+pub found_all : (rules : List Rule) (raw rest : List ℕ) (slots : List (Option (List ℕ))) → (length rest == 0) ≡ true → Finding rules raw rest slots → AreFound rules raw slots
+found_all rules raw rest slots none finding = found_at_end rules raw slots (subst (λ text. Finding rules raw text slots) (nothing_left rest none) finding)
+
+-- a table without fields asks for nothing
+pub found_none : (rules : List Rule) (raw : List ℕ) (slots : List (Option (List ℕ))) (full : ℕ) → (full < length rules) ⊎ (full ≡ 0) → length rules ≤ full + 1
+    → (full + 1 ≡ length rules → ⊥) → AreFound rules raw slots
+found_none rules raw slots full table few only place below = elim table [
+  | inl low ↦ absurd (only (omega (arith, few, low)))
+  | inr none ↦ absurd (only (omega (arith, few, none, below)))
+]
+
+-- where no field is left but the last, its value alone is asked for
+module _ (rules : List Rule) (raw rest : List ℕ) (before : List (Option (List ℕ))) (here : ℕ) (last : Option (List ℕ))
+    (only : here + 1 ≡ length rules) (full : Full here before) (finding : Finding rules raw rest before)
+    (is : last ≡ field_of rest (get_or (names_of rules) here [])) where
+  -- a place before the last
+  earlier : (place : ℕ) → place < length rules → place ≢ here → get_or before place None ≡ field_of raw (get_or (names_of rules) place [])
+  earlier place below other = keeps_own (get_or before place None) _ (full place (omega (arith, below, other, only))) ∙ finding place below
+
+  found_here : option_or (get_or before here None) last ≡ field_of raw (get_or (names_of rules) here [])
+  found_here = ap (option_or (get_or before here None)) is ∙ finding here (omega (arith, only))
+
+  pub last_found : (after : List (Option (List ℕ))) → here < length before → after ≡ set before here (option_or (get_or before here None) last) → AreFound rules raw after
+  last_found after within filled place below = elim (cases_eq place here) [
+    | inl same ↦
+        ap (λ xs. get_or xs place None) filled ∙ ap (λ n. get_or (set before here (option_or (get_or before here None) last)) n None) same
+        ∙ get_or-set_same before here _ None within ∙ found_here ∙ ap (λ n. field_of raw (get_or (names_of rules) n [])) (sym same)
+    | inr other ↦ ap (λ xs. get_or xs place None) filled ∙ get_or-set_other before here place _ None other ∙ earlier place below other
+  ]
+
+  pub last_missing : last ≡ None → AreFound rules raw before
+  last_missing none place below = elim (cases_eq place here) [
+    | inl same ↦
+        ap (λ n. get_or before n None) same ∙ sym (ap (option_or (get_or before here None)) none ∙ or_none (get_or before here None))
+        ∙ found_here ∙ ap (λ n. field_of raw (get_or (names_of rules) n [])) (sym same)
+    | inr other ↦ earlier place below other
+  ]
 
 -- where each place is full, the rest changes nothing
 pub found_full : (rules : List Rule) (raw rest : List ℕ) (slots : List (Option (List ℕ))) → Full (length rules) slots → Finding rules raw rest slots → AreFound rules raw slots

@@ -2,15 +2,16 @@
 //!
 //! The raw part is read once, from its beginning. What its kind's table asks for is kept on the way, so that the search
 //! for faults and the readers of a used line find it without reading the line again.
-ghost use Rattle.std.specs.Prelude.{◌≡◌, ℕ, None, option_map};
+ghost use Rattle.std.specs.Prelude.{◌≡◌, ◌≢◌, ◌<◌, ℕ, [], false, None, length, drop, slice_index, option_map};
 ghost use Rattle.std.specs.List.{slice_index_or};
+ghost use Rattle.std.specs.Option.{option_to_list};
 ghost use Rattle.audit_lex.specs.FieldTable.{name_of, slot_rules};
-ghost use Rattle.audit_lex.specs.Slots.{held, kept, AreFound};
-ghost use Rattle.audit_lex.specs.Tokens.{field_of};
+ghost use Rattle.audit_lex.specs.Slots.{slot_value, names_of, held, kept, AreFound};
+ghost use Rattle.audit_lex.specs.Tokens.{token_at as token_there, token_len, value_in, field_of};
 
 use crate::fields::{Field, Kind, field_name, slot_rules};
-use crate::fronts::{front_of, past_spaces, token_at};
-use crate::slots::{Found, Slots};
+use crate::fronts::{front_of, past_spaces, past_token, token_at};
+use crate::slots::{Found, Slots, value_of_slot};
 use crate::table_places::home_of;
 
 /// The values of a raw part's fields, with their quotes.
@@ -44,15 +45,60 @@ impl<'a> FieldValues<'a> {
 fn value_of_one(raw: &[u8], name: Field) -> Option<&[u8]>
     ensures { option_map (λ value. value.now) result ≡ field_of raw.now (name_of name) }
 {
+    value_of_slot(slot_of_one(raw, name))
+}
+
+// The value of the first token of this name, with the `=` before it. It is empty if there is no such token.
+fn slot_of_one(raw: &[u8], name: Field) -> &[u8]
+    ensures { slot_value result.now ≡ field_of raw.now (name_of name) }
+{
     let mut rest = past_spaces(raw);
     while !rest.is_empty() {
-        let token = token_at(rest);
-        if token.name == field_name(name) && !token.value.is_empty() {
-            return Some(&token.value[1..]);
+        let (slot, behind) = slot_if_named(rest, name);
+        if !slot.is_empty() {
+            return slot;
         }
-        rest = past_spaces(token.rest);
+        rest = past_spaces(behind);
     }
-    None
+    b""
+}
+
+// The value of the first token with the `=` before it, if it has this name, and the text after the token.
+#[tactic(auto, using(crate::proofs::PastTokens::name_some))]
+fn slot_if_named(text: &[u8], name: Field) -> (&[u8], &[u8])
+    requires some { 0 < length text.now }
+    requires begins { slice_index text.now 0 ≢ 32 }
+    ensures slot { slot_value result.0.now
+        ≡ value_in (option_to_list (token_there text.now)) (name_of name) }
+    ensures rest { result.1.now ≡ drop (token_len text.now) text.now }
+    ensures shorter { length result.1.now < length text.now }
+{
+    let name = field_name(name);
+    if !may_be_named(text, name) {
+        return (b"", past_token(text));
+    }
+    let token = token_at(text);
+    if token.name != name {
+        return (b"", token.rest);
+    }
+    (token.value, token.rest)
+}
+
+// Whether the first token may have this name. Most tokens of other names begin with another byte, or have no `=` where
+// this name ends.
+#[tactic(auto, using(crate::proofs::PastTokens::too_short, crate::proofs::PastTokens::other_first))]
+fn may_be_named(text: &[u8], name: &[u8]) -> bool
+    requires some { 0 < length name.now }
+    ensures no { result ≡ false
+        → value_in (option_to_list (token_there text.now)) name.now ≡ None }
+{
+    if text.len() <= name.len() {
+        return false;
+    }
+    if text[0] != name[0] {
+        return false;
+    }
+    text[name.len()] == b'='
 }
 
 /// Fills empty slots with the value of the first token of each name that the kind's table asks for.
@@ -60,24 +106,35 @@ pub(crate) fn fill_slots<'a>(raw: &'a [u8], kind: Kind, slots: &mut Slots<'a>)
     requires { (place : ℕ) → slice_index_or (held slots.old.values) place None ≡ None }
     ensures { AreFound (slot_rules kind) raw.now (held slots.new.values) }
 {
-    let fields = slot_rules(kind).len();
-    if fields == 0 {
-        return;
-    }
+    let rules = slot_rules(kind);
     let mut full = 0;
     let mut next = 0;
     let mut rest = past_spaces(raw);
-    while !rest.is_empty() {
+    while full + 1 < rules.len() && !rest.is_empty() {
         let front = front_of(kind, next, rest);
         if let Some(place) = front.place {
             slots.offer(place, front.value);
-            full = slots.first_empty(full, fields);
-            // A full slot keeps its value, so what is left of the line changes nothing.
-            if full == fields {
-                return;
+            if place == full {
+                full += 1;
             }
         }
         next = front.next;
         rest = past_spaces(front.rest);
     }
+    // A full slot keeps its value, so once the last one alone is empty, no other token is asked for.
+    if full + 1 == rules.len() {
+        let last = slot_of_one(rest, field_at(kind, full));
+        if !last.is_empty() {
+            slots.offer(full, last);
+        }
+    }
+}
+
+// The field at this place of the kind's table.
+#[tactic(auto, using(crate::proofs::SlotLemmas::name_at))]
+fn field_at(kind: Kind, place: usize) -> Field
+    requires { place < length (slot_rules kind) }
+    ensures { name_of result ≡ slice_index_or (names_of (slot_rules kind)) place [] }
+{
+    slot_rules(kind)[place].field
 }

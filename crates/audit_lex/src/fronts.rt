@@ -9,6 +9,7 @@ ghost use Rattle.audit_lex.specs.Slots.{names_of};
 ghost use Rattle.audit_lex.specs.Tokens.{token_at as token_there, token_len, tokens_of, value_in};
 
 use crate::fields::Kind;
+use crate::places::place_of_space_or_quote;
 use crate::table_places::place_named;
 use crate::tokens::{len_of_name, len_of_value};
 use crate::usual::{number_behind, usual_name};
@@ -81,6 +82,20 @@ fn is_value(text: &[u8]) -> bool
         [first, ..] => *first == b'=',
         [] => false,
     }
+}
+
+/// The text after its first token. One without a quote ends before the next space, whatever its name.
+pub(crate) fn past_token(text: &[u8]) -> &[u8]
+    requires some { 0 < length text.now }
+    requires begins { slice_index text.now 0 ≢ 32 }
+    ensures rest { result.now ≡ drop (token_len text.now) text.now }
+    ensures shorter { length result.now < length text.now }
+{
+    let end = place_of_space_or_quote(text);
+    if end == text.len() || text[end] == b' ' {
+        return &text[end..];
+    }
+    token_at(text).rest
 }
 
 /// What a text begins with that doesn't begin with a space. The name that usually comes next is tried first.

@@ -34,22 +34,6 @@ impl<'a> Slots<'a> {
         value_of_slot(self.values[place])
     }
 
-    /// The first empty place from here up to the end of the table, or that end.
-    pub(crate) fn first_empty(&self, from: usize, end: usize) -> usize
-        requires from { from ≤ end }
-        requires end { end ≤ 11 }
-        ensures full { (place : ℕ) → from ≤ place → place < result
-            → is_some (slice_index_or (held self.now.values) place None) ≡ true }
-        ensures within { result ≤ end }
-    {
-        for here in from..end {
-            if self.values[here].is_empty() {
-                return here;
-            }
-        }
-        end
-    }
-
     /// Fills the slot if it is empty.
     pub(crate) fn offer(&mut self, place: usize, value: &'a [u8])
         requires place { place < 11 }
@@ -63,7 +47,8 @@ impl<'a> Slots<'a> {
         }
     }
 
-    /// The slots as a used line keeps them.
+    /// The slots as a used line keeps them. It is inlined, since else they are copied twice for each line.
+    #[inline(always)]
     pub(crate) fn found(&self) -> Found<'a>
         ensures { kept result ≡ held self.now.values }
     {
@@ -129,8 +114,8 @@ impl<'a> Found<'a> {
     }
 }
 
-// The value of a slot, if it holds one.
-fn value_of_slot(slot: &[u8]) -> Option<&[u8]>
+/// The value of a slot, if it holds one.
+pub(crate) fn value_of_slot(slot: &[u8]) -> Option<&[u8]>
     ensures { option_map (λ value. value.now) result ≡ slot_value slot.now }
 {
     match slot {

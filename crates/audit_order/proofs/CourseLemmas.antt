@@ -13,14 +13,13 @@ use Rattle.order_text.specs.Stamp.{time_of, stamp_of}
 use Rattle.order_text.specs.Laws.{time_in, is_one_line, IsOneLine}
 use Rattle.order_text.specs.Undo.{undone, written_after, is_rewritten, takes_rewrite}
 use Rattle.order_text.specs.declared.rewrite.Rewrite.{Rewrite}
-use Rattle.order_lines.specs.Rules.{or_else}
-use Rattle.order_rules.specs.Rules.{AllKnown, StandsForLines, rewrite_of, lacks_of}
+use Rattle.order_rules.specs.Rules.{AllKnown, StandsForLines, lacks_of}
 use Rattle.order_rules.specs.declared.settings.Settings as of_rules
 use Rattle.audit_order.specs.declared.switches.Switches.{Switches}
 use Rattle.order_text.proofs.UndoLemmas.{written_undone, written_stays, written_told}
 use Rattle.order_text.proofs.LineLemmas.{written_one}
 use Rattle.audit_order.specs.Start.{Start}
-use Rattle.audit_order.specs.Shown.{Latest, no_time, latest, rules_of, change_alone, WasLacking}
+use Rattle.audit_order.specs.Shown.{Latest, no_time, latest, rules_of, Told, untold, line_in, lines_in, seen_as, seen_in, change_by, WasLacking}
 use Rattle.audit_order.specs.Lines.{text_of, times_of, IsEnd, IsPeer, AddsNoFeed, is_less, is_raised, raised_in, risen, more_if, Written, wrote, Writes, Adds, AddsPeer, MayAddPeer, IsBlank}
 use Rattle.audit_order.specs.Woven.{IsWoven}
 use Rattle.audit_order.specs.Course.{Course, Keeps, Gives}
@@ -88,32 +87,38 @@ is_shown t line change lines is =
     }
 
 -- what was lacking was so whatever is written after it
-lacked_more : (switches : Switches) (lines all : List (List ℕ)) (line : List ℕ) (peers : List (List ℕ)) → all ≡ lines ++ line ∷ []
-    → All (WasLacking switches lines) peers → All (WasLacking switches all) peers
-lacked_more switches lines all line peers are lacked =
-    All-weaker (WasLacking switches lines) (WasLacking switches all)
+lacked_more : (switches : Switches) (lines : List Told) (line : Told) (peers : List (List ℕ))
+    → All (WasLacking switches lines) peers → All (WasLacking switches (lines ++ line ∷ [])) peers
+lacked_more switches lines line peers lacked =
+    All-weaker (WasLacking switches lines) (WasLacking switches (lines ++ line ∷ []))
     (λ peer was. record {
       before = was.before;
       after = was.after ++ line ∷ [];
-      is = are ∙ ap (λ (l : List (List ℕ)). l ++ line ∷ []) was.is ∙ append_assoc was.before (peer ∷ was.after) (line ∷ []);
+      is = ap (λ (l : List Told). l ++ line ∷ []) was.is ∙ append_assoc was.before (untold peer ∷ was.after) (line ∷ []);
       lacks = was.lacks;
     })
     peers lacked
 
+-- one more of the lines that were added
+untold_more : (lines : List (List ℕ)) (line : List ℕ) → map untold (lines ++ line ∷ []) ≡ map untold lines ++ untold line ∷ []
+untold_more lines line = map-append untold lines (line ∷ [])
+
 -- one more line is written with a rewrite, and is one of the ends, of the peers or of the lines that were given
-puts : (old : Written) (line : List ℕ) (change : Option Rewrite) (rules : AllKnown) (before : Start) (now : Option (List ℕ)) (given : List (List ℕ))
-    (c : Course before now old given) (ends peers gives : List (List ℕ)) (e p : ℕ)
-    → rules.settings ≡ old.rules.settings → StandsForLines rules (line ∷ reverse (map undone c.outs))
-    → change ≡ or_else (change_alone old.switches (stamp_of line)) (rewrite_of old.rules.settings (reverse (map undone c.outs)) line)
-    → IsWoven ends peers gives (map undone c.outs ++ line ∷ []) → All IsEnd ends → All IsPeer peers
-    → All (WasLacking before.switches (map undone c.outs ++ line ∷ [])) peers → e ≡ length ends → p ≡ length peers
-    → Course before now (record (wrote (record old { rules = rules }) line (stamp_of line) change) { added = e; peers = p }) gives
-puts old line change rules before now given c ends peers gives e p settings stands by woven are blank lacked es ps =
+puts : (old : Written) (told : Told) (change : Option Rewrite) (rules : AllKnown) (before : Start) (now : Option (List ℕ)) (given : List Told)
+    (c : Course before now old given) (ends peers : List (List ℕ)) (gives : List Told) (e p : ℕ)
+    → rules.settings ≡ old.rules.settings → StandsForLines rules (seen_as told ∷ seen_in (reverse c.told))
+    → change ≡ change_by old.switches old.rules.settings (seen_in (reverse c.told)) told
+    → IsWoven (map untold ends) (map untold peers) gives (c.told ++ told ∷ []) → All IsEnd ends → All IsPeer peers
+    → All (WasLacking before.switches (c.told ++ told ∷ [])) peers → e ≡ length ends → p ≡ length peers
+    → Course before now (record (wrote (record old { rules = rules }) told.line (stamp_of told.line) change) { added = e; peers = p }) gives
+puts old told change rules before now given c ends peers gives e p settings stands by woven are blank lacked es ps =
+    let line = told.line in
     let out = written_after old.latest.time old.latest.ms line change in
     let new = wrote (record old { rules = rules }) line (stamp_of line) change in
-    let w = is_shown old.latest line change (reverse (map undone c.outs)) c.greatest in
+    let w = is_shown old.latest line change (lines_in (reverse c.told)) c.greatest in
     let ms = old.latest.ms in
-    let undid = undone_more c.outs out line w.undone in
+    let undid : map undone (c.outs ++ out ∷ []) ≡ lines_in (c.told ++ told ∷ []) =
+    undone_more c.outs out line w.undone ∙ ap (λ (l : List (List ℕ)). l ++ line ∷ []) c.are ∙ sym (map-append line_in c.told (told ∷ [])) in
     let rising = rising_more ms (times_of c.outs) (time_in line) (record { rises = c.rises; below = c.below }) in
     let times : times_of (c.outs ++ out ∷ []) ≡ times_of c.outs ++ option_to_list (option_map (max ms) (time_in line)) =
     times_more c.outs out ∙ ap (λ (t : Option ℕ). times_of c.outs ++ option_to_list t) w.time in
@@ -121,18 +126,20 @@ puts old line change rules before now given c ends peers gives e p settings stan
     let there : Rising new.latest.ms (times_of (c.outs ++ out ∷ [])) = rw (times, risen_to) rising in
     record {
       outs = c.outs ++ out ∷ [];
+      told = c.told ++ told ∷ [];
       added = ends;
       peers = peers;
       done = c.done;
       appends = c.appends;
       text = sym (append_assoc c.done old.pending (out ++ 10 ∷ []))
           ∙ ap (λ (t : List ℕ). t ++ (out ++ 10 ∷ [])) c.text ∙ sym (text_more c.outs out);
-      woven = subst (λ (l : List (List ℕ)). IsWoven ends peers gives l) (sym undid) woven;
+      are = undid;
+      woven = woven;
       rises = there.rises;
       below = there.below;
       ends = are;
       blank = blank;
-      lacked = subst (λ (l : List (List ℕ)). All (WasLacking before.switches l) peers) (sym undid) lacked;
+      lacked = lacked;
       own = All-push AddsNoFeed c.outs out c.own (λ one. w.one (ap is_one_line (sym w.undone) ∙ one));
       counts_raised = ap (more_if (is_less (time_in line) (Some ms))) c.counts_raised
           ∙ ap (λ (b : Bool). more_if b (raised_in c.outs)) (sym (raised_by ms out line w.undone w.time)) ∙ sym (counted_more is_raised c.outs out);
@@ -141,25 +148,23 @@ puts old line change rules before now given c ends peers gives e p settings stan
       counts_rewritten = ap (λ (b : Bool). more_if b old.rewritten) (sym w.told) ∙ ap (more_if (is_rewritten out)) c.counts_rewritten ∙ sym (counted_more is_rewritten c.outs out);
       switches = c.switches;
       settings = settings ∙ c.settings;
-      rules = stands_more rules (map undone c.outs) (map undone (c.outs ++ out ∷ [])) line stands undid;
-      greatest = greatest_more old.latest new.latest (map undone c.outs) (map undone (c.outs ++ out ∷ [])) line c.greatest refl undid;
-      exact = exact_more before.switches old.switches old.rules.settings old.latest change c.outs (map undone c.outs) (map undone (c.outs ++ out ∷ [])) line
-          c.exact c.switches c.settings c.greatest by undid;
+      rules = stands_more rules c.told told stands;
+      greatest = greatest_more old.latest new.latest c.told told c.greatest refl;
+      exact = exact_more before.switches old.switches old.rules.settings old.latest change c.outs c.told told c.exact c.switches c.settings c.greatest by;
     }
 
 -- what is written of the rules' answer
-wrote_by : (old mid : Written) (line : List ℕ) (w : Writes old mid line) → mid ≡ wrote (record old { rules = w.mid.rules }) line (stamp_of line) w.change
-wrote_by old mid line w = w.is ∙ ap (λ (m : Written). wrote m line (stamp_of line) w.change) w.asks.same
+wrote_by : (old mid : Written) (told : Told) (w : Writes old mid told) → mid ≡ wrote (record old { rules = w.mid.rules }) told.line (stamp_of told.line) w.change
+wrote_by old mid told w = w.is ∙ ap (λ (m : Written). wrote m told.line (stamp_of told.line) w.change) w.asks.same
 
-pub gives : (old new : Written) (line : List ℕ) → Writes old new line → Gives old new line
-gives old new line w before now given c =
-    let back = reverse (map undone c.outs) in
-    let all = map undone c.outs in
-    subst (λ (n : Written). Course before now n (given ++ line ∷ [])) (sym (wrote_by old new line w))
-    (puts old line w.change w.mid.rules before now given c c.added c.peers (given ++ line ∷ []) old.added old.peers
+pub gives : (old new : Written) (told : Told) → Writes old new told → Gives old new told
+gives old new told w before now given c =
+    let back = seen_in (reverse c.told) in
+    subst (λ (n : Written). Course before now n (given ++ told ∷ [])) (sym (wrote_by old new told w))
+    (puts old told w.change w.mid.rules before now given c c.added c.peers (given ++ told ∷ []) old.added old.peers
     w.asks.settings (w.asks.stands back c.rules) (w.asks.by back c.rules)
-    (woven_given c.added c.peers given all line c.woven) c.ends c.blank
-    (lacked_more before.switches all (all ++ line ∷ []) line c.peers refl c.lacked) c.counts_added c.counts_peers)
+    (woven_given (map untold c.added) (map untold c.peers) given c.told told c.woven) c.ends c.blank
+    (lacked_more before.switches c.told told c.peers c.lacked) c.counts_added c.counts_peers)
 
 -- one more of those that were counted
 one_longer : (n : ℕ) (lines : List (List ℕ)) (line : List ℕ) → n ≡ length lines → n + 1 ≡ length (lines ++ line ∷ [])
@@ -168,36 +173,40 @@ one_longer n lines line is = ap (λ (k : ℕ). k + 1) is ∙ sym (length-append 
 pub keeps_end : (old new : Written) (line : List ℕ) → Adds old new line → IsEnd line → Keeps old new
 keeps_end old new line a is before now given c =
     let w = a.writes in
-    let back = reverse (map undone c.outs) in
-    let all = map undone c.outs in
+    let told = untold line in
+    let back = seen_in (reverse c.told) in
     let same : new ≡ record (wrote (record old { rules = w.mid.rules }) line (stamp_of line) w.change) { added = old.added + 1 } =
-    a.is ∙ ap (λ (m : Written). record m { added = m.added + 1 }) (wrote_by old a.mid line w) in
+    a.is ∙ ap (λ (m : Written). record m { added = m.added + 1 }) (wrote_by old a.mid told w) in
     subst (λ (n : Written). Course before now n given) (sym same)
-    (puts old line w.change w.mid.rules before now given c (c.added ++ line ∷ []) c.peers given (old.added + 1) old.peers
+    (puts old told w.change w.mid.rules before now given c (c.added ++ line ∷ []) c.peers given (old.added + 1) old.peers
     w.asks.settings (w.asks.stands back c.rules) (w.asks.by back c.rules)
-    (woven_end c.added c.peers given all line c.woven) (All-push IsEnd c.added line c.ends is) c.blank
-    (lacked_more before.switches all (all ++ line ∷ []) line c.peers refl c.lacked)
+    (subst (λ (l : List Told). IsWoven l (map untold c.peers) given (c.told ++ told ∷ [])) (sym (untold_more c.added line))
+    (woven_end (map untold c.added) (map untold c.peers) given c.told told c.woven))
+    (All-push IsEnd c.added line c.ends is) c.blank
+    (lacked_more before.switches c.told told c.peers c.lacked)
     (one_longer old.added c.added line c.counts_added) c.counts_peers)
 
 adds_peer : (old new : Written) (line : List ℕ) → AddsPeer old new line → IsPeer line → Keeps old new
 adds_peer old new line a is before now given c =
     let w = a.writes in
-    let back = reverse (map undone c.outs) in
-    let all = map undone c.outs in
+    let told = untold line in
+    let back = seen_in (reverse c.told) in
     let same : new ≡ record (wrote (record old { rules = w.mid.rules }) line (stamp_of line) w.change) { peers = old.peers + 1 } =
-    a.is ∙ ap (λ (m : Written). record m { peers = m.peers + 1 }) (wrote_by old a.mid line w) in
-    let was : WasLacking before.switches (all ++ line ∷ []) line = record {
-      before = all;
+    a.is ∙ ap (λ (m : Written). record m { peers = m.peers + 1 }) (wrote_by old a.mid told w) in
+    let was : WasLacking before.switches (c.told ++ told ∷ []) line = record {
+      before = c.told;
       after = [];
       is = refl;
       lacks = a.lacks back c.rules ∙ ap (λ (s : of_rules.Settings). lacks_of s back line) c.settings;
     } in
     subst (λ (n : Written). Course before now n given) (sym same)
-    (puts old line w.change w.mid.rules before now given c c.added (c.peers ++ line ∷ []) given old.added (old.peers + 1)
+    (puts old told w.change w.mid.rules before now given c c.added (c.peers ++ line ∷ []) given old.added (old.peers + 1)
     w.asks.settings (w.asks.stands back c.rules) (w.asks.by back c.rules)
-    (woven_peer c.added c.peers given all line c.woven) c.ends (All-push IsPeer c.peers line c.blank is)
-    (All-push (WasLacking before.switches (all ++ line ∷ [])) c.peers line
-    (lacked_more before.switches all (all ++ line ∷ []) line c.peers refl c.lacked) was)
+    (subst (λ (l : List Told). IsWoven (map untold c.added) l given (c.told ++ told ∷ [])) (sym (untold_more c.peers line))
+    (woven_peer (map untold c.added) (map untold c.peers) given c.told told c.woven))
+    c.ends (All-push IsPeer c.peers line c.blank is)
+    (All-push (WasLacking before.switches (c.told ++ told ∷ [])) c.peers line
+    (lacked_more before.switches c.told told c.peers c.lacked) was)
     c.counts_added (one_longer old.peers c.peers line c.counts_peers))
 
 pub keeps_peer : (old new : Written) (line : List ℕ) → MayAddPeer old new line → IsPeer line → Keeps old new
@@ -211,15 +220,17 @@ appends_both (Some xs) (Some ys) None done pending first second = absurd second
 appends_both (Some xs) (Some ys) (Some zs) done pending first second = second ∙ ap (λ (t : List ℕ). t ++ pending) first ∙ append_assoc xs done pending
 
 -- what waited to be handed on was handed on
-pub flushed : (before : Start) (now later : Option (List ℕ)) (w : Written) (given : List (List ℕ)) → Appends now later w.pending
+pub flushed : (before : Start) (now later : Option (List ℕ)) (w : Written) (given : List Told) → Appends now later w.pending
     → Course before now w given → Course before later (record w { pending = [] }) given
 flushed before now later w given handed c = record {
   outs = c.outs;
+  told = c.told;
   added = c.added;
   peers = c.peers;
   done = c.done ++ w.pending;
   appends = appends_both before.written now later c.done w.pending c.appends handed;
   text = append-nil (c.done ++ w.pending) ∙ c.text;
+  are = c.are;
   woven = c.woven;
   rises = c.rises;
   below = c.below;
@@ -246,11 +257,13 @@ blank : (before : Start) (rules : AllKnown) → rules.settings ≡ rules_of befo
     → Course before before.written (record { switches = before.switches; rules = rules; pending = []; latest = no_time; raised = 0; rewritten = 0; added = 0; peers = 0 }) []
 blank before rules settings stands = record {
   outs = [];
+  told = [];
   added = [];
   peers = [];
   done = [];
   appends = appends_none before.written;
   text = refl;
+  are = refl;
   woven = woven_none;
   rises = IsNonDecreasingBy-short (λ (t : ℕ). t) [] (omega arith);
   below = All-nil (λ (t : ℕ). t ≤ 0);

@@ -23,7 +23,7 @@ same_text (b ∷ text) = rw (same_number b) (same_text text)
 -- no line is before itself
 not_before_itself : (w : Waiting) → is_lt (place_cmp w w) ≡ false
 not_before_itself w =
-    rw (same_number w.time, same_number w.serial, same_number w.ms, same_text w.node, same_number w.rank, same_number w.number, same_text w.line) refl
+    rw (same_number w.time, same_number w.goes_by, same_number w.serial, same_number w.ms, same_text w.node, same_number w.rank, same_number w.number, same_text w.line) refl
 
 -- the rules held when a line went
 was_next : (compat : Bool) (bounds : Bounds) (all : AllSeen) (later before : List Motion) (item : Waiting)

@@ -13,3 +13,6 @@ pub mod DueLemmas
 pub mod TogetherLemmas
 pub mod OwnLemmas
 pub mod CauseLemmas
+pub mod BackLemmas
+pub mod ToldLemmas
+pub mod ForkLemmas

@@ -20,9 +20,10 @@ use Rattle.std.proofs.lemmas.List.Sorted.{IsPermutation-map, IsPermutation-trans
 use Rattle.audit_order.specs.declared.bounds.Bounds.{Bounds}
 use Rattle.audit_order.specs.declared.sorter.Sorter.{Sorter}
 use Rattle.audit_order.specs.Woven.{IsWoven}
+use Rattle.audit_order.specs.Shown.{Told, untold, lines_in}
 use Rattle.audit_order.specs.Turns.{AtEnd, InTurn, came, went}
+use Rattle.audit_order.proofs.ToldLemmas.{told_lines, lines_same}
 use Rattle.audit_order.specs.Sorted.{SortsAt}
-use Rattle.audit_order.proofs.WovenLemmas.{woven_same}
 use Rattle.audit_order.proofs.FeedLemmas.{one_each, given_back_one}
 use Rattle.audit_order.specs.Reads.{Took, TakesAlso, TakesNext, log_lines, Orders}
 use Rattle.audit_order.specs.Taken.{Standing}
@@ -116,15 +117,17 @@ orders bytes before now sorter lines counts flushed none are raised added peers 
     let t = s.turns in
     let all : IsPermutation (came t.motions) (went t.motions) =
     subst (λ (l : List Waiting). IsPermutation (came t.motions) l) (ap (λ (l : List Waiting). went t.motions ++ l) none ∙ append-nil (went t.motions)) t.rest in
-    let given : IsPermutation (log_lines bytes) s.given =
-    subst (λ (l : List (List ℕ)). IsPermutation l s.given) (t.lines_are ∙ are)
-    (subst (λ (l : List (List ℕ)). IsPermutation (texts_of (came t.motions)) l) t.given_are (IsPermutation-map text_of (came t.motions) (went t.motions) all)) in
+    let given : IsPermutation (log_lines bytes) (lines_in s.given) =
+    subst (λ (l : List (List ℕ)). IsPermutation l (lines_in s.given)) (t.lines_are ∙ are)
+    (subst (λ (l : List (List ℕ)). IsPermutation (texts_of (came t.motions)) l) (sym (told_lines before.switches.compat t.motions) ∙ ap lines_in t.given_are)
+    (IsPermutation-map text_of (came t.motions) (went t.motions) all)) in
     let same : IsPermutation (c.added ++ (c.peers ++ log_lines bytes)) (map undone c.outs) =
-    IsPermutation-trans (c.added ++ (c.peers ++ log_lines bytes)) (c.added ++ (c.peers ++ s.given)) (map undone c.outs)
-    (IsPermutation-append_right c.added (c.peers ++ log_lines bytes) (c.peers ++ s.given) (IsPermutation-append_right c.peers (log_lines bytes) s.given given))
-    (woven_same c.added c.peers s.given (map undone c.outs) c.woven) in
+    IsPermutation-trans (c.added ++ (c.peers ++ log_lines bytes)) (c.added ++ (c.peers ++ lines_in s.given)) (map undone c.outs)
+    (IsPermutation-append_right c.added (c.peers ++ log_lines bytes) (c.peers ++ lines_in s.given) (IsPermutation-append_right c.peers (log_lines bytes) (lines_in s.given) given))
+    (subst (λ (l : List (List ℕ)). IsPermutation (c.added ++ (c.peers ++ lines_in s.given)) l) (sym c.are) (lines_same c.added c.peers s.given c.told c.woven)) in
     record {
       outs = c.outs;
+      told = c.told;
       added = c.added;
       peers = c.peers;
       written = subst (λ (t : List ℕ). Appends before.written now t) (sym (append-nil c.done) ∙ ap (λ (p : List ℕ). c.done ++ p) (sym flushed) ∙ c.text) c.appends;
@@ -138,13 +141,14 @@ orders bytes before now sorter lines counts flushed none are raised added peers 
       counts_added = added ∙ c.counts_added;
       counts_peers = peers ∙ c.counts_peers;
       counts_rewritten = rewritten ∙ c.counts_rewritten;
+      are = c.are;
       exact = c.exact;
       seen = sorter.places;
       motions = t.motions;
       read = t.lines_are ∙ are;
       all_went = all;
       in_turn = subst (λ (b : Bounds). InTurn before.switches.compat b sorter.places t.motions) s.bounds_are t.turns;
-      order = subst (λ (g : List (List ℕ)). IsWoven c.added c.peers g (map undone c.outs)) (sym t.given_are) c.woven;
+      order = subst (λ (g : List Told). IsWoven (map untold c.added) (map untold c.peers) g c.told) (sym t.given_are) c.woven;
       counts_events = events ∙ t.counts.events;
       counts_late = late ∙ t.counts.late;
     }

@@ -5,6 +5,7 @@ use Rattle.order_place.specs.declared.places.Place.{Place}
 use Rattle.order_queue.specs.Queue.{bytes_of}
 use Rattle.order_queue.specs.declared.waiting.Waiting.{Waiting}
 use Rattle.audit_order.specs.declared.sorter.Sorter.{Sorter}
+use Rattle.order_kin.specs.Families.{StandsForLines, Reads}
 use Rattle.audit_order.specs.Start.{Start}
 use Rattle.audit_order.specs.Lines.{Written, IsBlank}
 use Rattle.audit_order.specs.Course.{Course, Keeps}
@@ -15,12 +16,13 @@ use Rattle.audit_order.proofs.CourseLemmas.{starts, flushed}
 use Rattle.audit_order.proofs.TurnLemmas.{turns_none, turns_read, turns_come, turns_go, turns_end, over_may, past_may, past_early, next_early}
 
 pub sorts_none : (before : Start) (s : Sorter) → IsBlank before.switches s.writer → (state_of s).event ≡ no_event → s.number ≡ 0 → s.queue.waits ≡ []
-    → s.tally ≡ no_tally → IsFresh before.switches.compat s.places → s.bounds ≡ before.bounds → Sorts before before.written s []
-sorts_none before s blank event number waits tally fresh bounds = record {
+    → s.tally ≡ no_tally → IsFresh before.switches.compat s.places → s.kin.compat ≡ before.switches.compat → StandsForLines s.kin []
+    → s.bounds ≡ before.bounds → Sorts before before.written s []
+sorts_none before s blank event number waits tally fresh kept nobody bounds = record {
   at = record {
     given = [];
     course = starts before s.writer blank;
-    turns = turns_none before.switches.compat (state_of s) event number waits tally fresh;
+    turns = turns_none before.switches.compat (state_of s) event number waits tally fresh kept nobody;
     bounds_are = bounds;
   };
   past = ap (any_is_past s.bounds.window s.places.clock) waits;
@@ -28,12 +30,13 @@ sorts_none before s blank event number waits tally fresh bounds = record {
 
 -- a line is read
 pub reads : (before : Start) (now : Option (List ℕ)) (old new : Sorter) (place : Place) (line : List ℕ) (lines : List (List ℕ))
-    → new ≡ record old { places = new.places } → IsRead old.places new.places place line
+    → new ≡ record old { places = new.places; kin = new.kin } → IsRead old.places new.places place line
+    → Reads old.kin new.kin line → new.kin.compat ≡ old.kin.compat
     → Sorts before now old lines → SortsAt (Next place line) before now new lines
-reads before now old new place line lines is read sorts = let s = sorts.at in record {
+reads before now old new place line lines is read kin same sorts = let s = sorts.at in record {
   given = s.given;
   course = subst (λ (w : Written). Course before now w s.given) (sym (ap (λ (t : Sorter). t.writer) is)) s.course;
-  turns = turns_read before.switches.compat (state_of old) (state_of new) place line s.given lines (ap state_of is) read (past_early (state_of old) sorts.past) s.turns;
+  turns = turns_read before.switches.compat (state_of old) (state_of new) place line s.given lines (ap state_of is) kin same read (past_early (state_of old) sorts.past) s.turns;
   bounds_are = ap (λ (t : Sorter). t.bounds) is ∙ s.bounds_are;
 }
 
@@ -54,9 +57,9 @@ pub moves : (at : Phase) (before : Start) (now : Option (List ℕ)) (old new : S
     → MayGo (state_of old) at → Moves old new → SortsAt at before now old lines → SortsAt at before now new lines
 moves at before now old new lines may (inl same) s = subst (λ (t : Sorter). SortsAt at before now t lines) (sym same) s
 moves at before now old new lines may (inr g) s = record {
-  given = s.given ++ g.item.line ∷ [];
-  course = g.gives before now s.given s.course;
-  turns = turns_go before.switches.compat at (state_of old) (state_of new) g.item s.given lines may g.goes s.turns;
+  given = s.given ++ record { line = g.item.line; child = g.gives.child } ∷ [];
+  course = g.gives.gives before now s.given s.course;
+  turns = turns_go before.switches.compat at (state_of old) (state_of new) g.item g.gives.child s.given lines may g.goes g.gives.told s.turns;
   bounds_are = ap (λ (t : State). t.bounds) g.goes.turned.is ∙ s.bounds_are;
 }
 

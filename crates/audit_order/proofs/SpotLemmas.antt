@@ -9,15 +9,16 @@ use Rattle.std.specs.Cmp.Lexicographic.{slice_cmp, on_texts}
 use Rattle.order_queue.specs.declared.waiting.Waiting.{Waiting}
 use Rattle.audit_order.specs.declared.counts.Spot.{Spot}
 use Rattle.audit_order.specs.declared.counts.Tally.{Tally}
-use Rattle.audit_order.specs.Tally.{spot_of, spot_cmp, is_less, is_late, tally_after}
+use Rattle.audit_order.specs.Tally.{spot_of, spot_cmp, is_less, no_spot, is_late, tally_after}
 use Rattle.audit_order.specs.Turns.{Motion, Went, Counted, went, begun_with, tally_with, event_in, events_in, late_in, is_one}
 
 pub spot_total : IsTotalOrder spot_cmp
 spot_total =
     then_total (on_total (λ (s : Spot). s.time) nat_cmp_total)
+    (then_total (on_total (λ (s : Spot). s.goes_by) nat_cmp_total)
     (then_total (on_total (λ (s : Spot). s.serial) nat_cmp_total)
     (then_total (on_total (λ (s : Spot). s.ms) nat_cmp_total)
-    (then_total (on_texts (λ (s : Spot). s.node)) (on_total (λ (s : Spot). s.rank) nat_cmp_total))))
+    (then_total (on_texts (λ (s : Spot). s.node)) (on_total (λ (s : Spot). s.rank) nat_cmp_total)))))
 
 -- no number is below 0, and no text before the empty one
 below_by_case : (o rest : Ordering) (n : ℕ) → MatchOrdering o (n < 0) (n ≡ 0) (0 < n) → is_lt rest ≡ false → is_lt (ordering_then o rest) ≡ false
@@ -40,12 +41,14 @@ first_by_case Greater n is = refl
 not_first : (n : ℕ) → is_lt (nat_cmp n 0) ≡ false
 not_first n = first_by_case (nat_cmp n 0) n (ranks n 0)
 
-pub least_spot : (s : Spot) → is_less s (record { time = 0; serial = 0; ms = 0; node = []; rank = 0 }) ≡ false
+pub least_spot : (s : Spot) → is_less s no_spot ≡ false
 least_spot s =
     let rank = nat_cmp s.rank 0 in
     let node = ordering_then (slice_cmp nat_cmp s.node []) rank in
     let ms = ordering_then (nat_cmp s.ms 0) node in
-    not_below s.time (ordering_then (nat_cmp s.serial 0) ms) (not_below s.serial ms (not_below s.ms node (not_before_none s.node rank (not_first s.rank))))
+    let serial = ordering_then (nat_cmp s.serial 0) ms in
+    not_below s.time (ordering_then (nat_cmp s.goes_by 0) serial)
+    (not_below s.goes_by serial (not_below s.serial ms (not_below s.ms node (not_before_none s.node rank (not_first s.rank)))))
 
 -- ---- the greater of two places
 

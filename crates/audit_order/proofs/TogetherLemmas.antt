@@ -16,8 +16,9 @@ use Rattle.std.proofs.lemmas.Option.{same_Some}
 use Rattle.order_text.specs.Stamp.{Stamp, stamp_of}
 use Rattle.order_calls.specs.declared.call.Call.{Call}
 use Rattle.order_place.specs.declared.places.Place.{Place}
-use Rattle.order_place.specs.Places.{Seen, is_event, event_at, event_time, first_time, time_or, node_of, is_boot, read_as, call_by, SeesNext}
-use Rattle.order_place.specs.Nodes.{AllSeen, is_node, node_at, begun, HasPlace, SeesOf, SeesLine, ForgetsOf}
+use Rattle.order_place.specs.declared.slot.Slot.{Slot}
+use Rattle.order_place.specs.Places.{Seen, is_event, event_at, event_slot, first_slot, slot_or, node_of, is_boot, read_as, call_by, SeesNext}
+use Rattle.order_place.specs.Nodes.{AllSeen, is_node, node_at, begun, slot_of, HasPlace, SeesOf, SeesLine, ForgetsOf}
 use Rattle.order_place.proofs.PlaceLemmas.{first_same}
 use Rattle.order_place.proofs.NodeLemmas.{one_node}
 use Rattle.order_queue.specs.declared.waiting.Waiting.{Waiting}
@@ -29,15 +30,19 @@ use Rattle.audit_order.specs.Together.{event_of, BeginsEvent, IsOfEvent, EventsG
 use Rattle.audit_order.proofs.LesserLemmas.{lesser_go_first}
 use Rattle.audit_order.proofs.TurnLemmas.{not_later}
 
--- ---- the time of an event that is held
+-- ---- the slot of an event that is held
 
--- the time at which the lines of an event count that is held
-abbrev held : AllSeen → Event → Option ℕ
+-- the slot at which the lines of an event count that is held
+abbrev held : AllSeen → Event → Option Slot
 held all e = event_at (node_at all e.node) (e.ms, e.serial)
 
--- a line with a stamp, if it is of the event, counts at the time of that
+-- the slot of a line
+abbrev slot : Waiting → Slot
+slot w = record { time = w.time; goes_by = w.goes_by }
+
+-- a line with a stamp, if it is of the event, counts at the slot of that
 abbrev Fits : Event → AllSeen → Waiting → Type 0
-Fits e all w = is_some (stamp_of w.line) ≡ true → is_one e w ≡ true → held all e ≡ Some w.time
+Fits e all w = is_some (stamp_of w.line) ≡ true → is_one e w ≡ true → held all e ≡ Some (slot w)
 
 -- and so does the line that was read, if one was
 abbrev FitsNext : Event → AllSeen → Phase → Type 0
@@ -86,40 +91,40 @@ event_itself a = rw (cmp_itself a.0, cmp_itself a.1) refl
 
 -- ---- a line is read
 
--- an event that is held stays at its time
-event_by : (b : Bool) (old node : Seen) (here event : ℕ × ℕ) (call : Option Call) (time : ℕ) → is_event here event ≡ b
-    → event_at node event ≡ (if b then Some (event_time old here call) else event_at old event)
-    → event_at old event ≡ Some time → event_at node event ≡ Some time
-event_by true old node here event call time is new was =
-    new ∙ ap (λ (o : Option ℕ). Some (time_or o (first_time old here.0 call))) (ap (λ (v : ℕ × ℕ). event_at old v) (one_event here event is) ∙ was)
-event_by false old node here event call time is new was = new ∙ was
+-- an event that is held stays at its slot
+event_by : (b : Bool) (old node : Seen) (here event : ℕ × ℕ) (call : Option Call) (at : Slot) → is_event here event ≡ b
+    → event_at node event ≡ (if b then Some (event_slot old here call) else event_at old event)
+    → event_at old event ≡ Some at → event_at node event ≡ Some at
+event_by true old node here event call at is new was =
+    new ∙ ap (λ (o : Option Slot). Some (slot_or o (first_slot old here call))) (ap (λ (v : ℕ × ℕ). event_at old v) (one_event here event is) ∙ was)
+event_by false old node here event call at is new was = new ∙ was
 
 begun_events : (boots : Bool) (seen : Seen) (event : ℕ × ℕ) → event_at (begun boots seen) event ≡ event_at seen event
 begun_events true seen event = refl
 begun_events false seen event = refl
 
-read_here : (boots : Bool) (seen node : Seen) (s : Stamp) (line : List ℕ) (at : ℕ) (event : ℕ × ℕ) (time : ℕ) → SeesNext (begun boots seen) node s line at
+read_here : (boots : Bool) (seen node : Seen) (s : Stamp) (line : List ℕ) (at : Slot) (event : ℕ × ℕ) (time : Slot) → SeesNext (begun boots seen) node s line at
     → event_at seen event ≡ Some time → event_at node event ≡ Some time
 read_here boots seen node s line at event time sees was =
     event_by (is_event (s.ms, s.number) event) (begun boots seen) node (s.ms, s.number) event (call_by (begun boots seen) line) time refl
     (sees.sees.events event) (begun_events boots seen event ∙ was)
 
-read_by : (b : Bool) (e : Event) (old new : AllSeen) (s : Stamp) (line : List ℕ) (p : Place) (time : ℕ) → is_node (node_of s.front) e.node ≡ b
+read_by : (b : Bool) (e : Event) (old new : AllSeen) (s : Stamp) (line : List ℕ) (p : Place) (time : Slot) → is_node (node_of s.front) e.node ≡ b
     → SeesOf old new s line p → held old e ≡ Some time → held new e ≡ Some time
 read_by true e old new s line p time is sees was =
     let name = one_node (node_of s.front) e.node is in
     subst (λ (n : List ℕ). event_at (node_at new n) (e.ms, e.serial) ≡ Some time) name
-    (read_here (is_boot s.front) (node_at old (node_of s.front)) (node_at new (node_of s.front)) s (read_as old.compat s line) p.time (e.ms, e.serial) time
+    (read_here (is_boot s.front) (node_at old (node_of s.front)) (node_at new (node_of s.front)) s (read_as old.compat s line) (slot_of p) (e.ms, e.serial) time
     sees.sees
     (subst (λ (n : List ℕ). event_at (node_at old n) (e.ms, e.serial) ≡ Some time) (sym name) was))
 read_by false e old new s line p time is sees was = ap (λ (n : Seen). event_at n (e.ms, e.serial)) (sees.others e.node is) ∙ was
 
-read_keeps : (found : Option Stamp) (e : Event) (old new : AllSeen) (line : List ℕ) (p : Place) (time : ℕ)
+read_keeps : (found : Option Stamp) (e : Event) (old new : AllSeen) (line : List ℕ) (p : Place) (time : Slot)
     → SeesLine old new found line p → held old e ≡ Some time → held new e ≡ Some time
 read_keeps None e old new line p time same was = ap (λ (a : AllSeen). held a e) same ∙ was
 read_keeps (Some s) e old new line p time sees was = read_by (is_node (node_of s.front) e.node) e old new s line p time refl sees was
 
--- the line that is read has the time of its event
+-- the line that is read has the slot of its event
 next_fits : (found : Option Stamp) (e : Event) (old new : AllSeen) (line : List ℕ) (p : Place) → stamp_of line ≡ found → HasPlace old found p
     → SeesLine old new found line p → FitsNext e new (Next p line)
 next_fits None e old new line p is has sees = λ number stamped one. absurd (cc (ap (λ (o : Option Stamp). is_some o) is, stamped))
@@ -131,9 +136,9 @@ next_fits (Some s) e old new line p is has sees = λ number stamped one.
     ap (λ (n : List ℕ). event_at (node_at new n) (e.ms, e.serial)) (one_name e w one ∙ has.node)
     ∙ ap (λ (v : ℕ × ℕ). event_at node v) event
     ∙ at.events (s.ms, s.number)
-    ∙ ap (λ (b : Bool). if b then Some (event_time (begun (is_boot s.front) (node_at old (node_of s.front))) (s.ms, s.number) (call_by (begun (is_boot s.front) (node_at old (node_of s.front))) (read_as old.compat s line)))
+    ∙ ap (λ (b : Bool). if b then Some (event_slot (begun (is_boot s.front) (node_at old (node_of s.front))) (s.ms, s.number) (call_by (begun (is_boot s.front) (node_at old (node_of s.front))) (read_as old.compat s line)))
     else event_at (begun (is_boot s.front) (node_at old (node_of s.front))) (s.ms, s.number)) (event_itself (s.ms, s.number))
-    ∙ ap Some (sym at.time)
+    ∙ ap Some (sym at.slot)
 
 -- ---- a line goes
 
@@ -158,7 +163,7 @@ other_event e (Went item ∷ before) known none same =
     (All-contains (λ (w : Waiting). is_one e w ≡ false) (went before ++ item ∷ []) item none (Contains-push (went before) item)) same
 other_event e (Ended ∷ before) known none same = other_event e before known none same
 
-forget_by : (b c : Bool) (last e : Event) (old new : AllSeen) (time : ℕ) → is_node last.node e.node ≡ b → is_event (last.ms, last.serial) (e.ms, e.serial) ≡ c
+forget_by : (b c : Bool) (last e : Event) (old new : AllSeen) (time : Slot) → is_node last.node e.node ≡ b → is_event (last.ms, last.serial) (e.ms, e.serial) ≡ c
     → (last ≡ e → ⊥) → ForgetsOf old new last.node (last.ms, last.serial) → held old e ≡ Some time → held new e ≡ Some time
 forget_by true true last e old new time node event other f was =
     let name = one_node last.node e.node node in
@@ -171,7 +176,7 @@ forget_by true false last e old new time node event other f was =
     ∙ subst (λ (n : List ℕ). event_at (node_at old n) (e.ms, e.serial) ≡ Some time) (sym name) was)
 forget_by false c last e old new time node event other f was = ap (λ (n : Seen). event_at n (e.ms, e.serial)) (f.others e.node node) ∙ was
 
-leaves_keep : (b : Bool) (last e : Event) (old new : AllSeen) (time : ℕ) → (last ≡ e → ⊥) → Leaves b last old new
+leaves_keep : (b : Bool) (last e : Event) (old new : AllSeen) (time : Slot) → (last ≡ e → ⊥) → Leaves b last old new
     → held old e ≡ Some time → held new e ≡ Some time
 leaves_keep true last e old new time other same was = ap (λ (a : AllSeen). held a e) same ∙ was
 leaves_keep false last e old new time other f was =
@@ -179,14 +184,14 @@ leaves_keep false last e old new time other f was =
 
 -- ---- all lines of an event of which none has gone
 
-weaker_next : (e : Event) (old new : AllSeen) (now : Phase) → ((time : ℕ) → held old e ≡ Some time → held new e ≡ Some time) → FitsNext e old now → FitsNext e new now
+weaker_next : (e : Event) (old new : AllSeen) (now : Phase) → ((time : Slot) → held old e ≡ Some time → held new e ≡ Some time) → FitsNext e old now → FitsNext e new now
 weaker_next e old new Between keeps fits = tt
-weaker_next e old new (Next place line) keeps fits = λ number stamped one. keeps place.time (fits number stamped one)
+weaker_next e old new (Next place line) keeps fits = λ number stamped one. keeps (slot_of place) (fits number stamped one)
 weaker_next e old new AtEnd keeps fits = tt
 
-weaker_all : (e : Event) (old new : AllSeen) (lines : List Waiting) → ((time : ℕ) → held old e ≡ Some time → held new e ≡ Some time)
+weaker_all : (e : Event) (old new : AllSeen) (lines : List Waiting) → ((time : Slot) → held old e ≡ Some time → held new e ≡ Some time)
     → All (Fits e old) lines → All (Fits e new) lines
-weaker_all e old new lines keeps fits = All-weaker (Fits e old) (Fits e new) (λ w fit stamped one. keeps w.time (fit stamped one)) lines fits
+weaker_all e old new lines keeps fits = All-weaker (Fits e old) (Fits e new) (λ w fit stamped one. keeps (slot w) (fit stamped one)) lines fits
 
 coming_fits : (e : Event) (all : AllSeen) (now : Phase) (number : ℕ) (item : Waiting) → IsComing now number item → FitsNext e all now → Fits e all item
 coming_fits e all Between number item is fits = absurd is
@@ -209,7 +214,7 @@ all_fit e compat bounds all (Went item ∷ before) known none t =
     let front = All-front (λ (w : Waiting). is_one e w ≡ false) (went before) (item ∷ []) none in
     let fit = all_fit e compat bounds t.0 before known front t.1 in
     let other = other_event e before known front in
-    let keeps : (time : ℕ) → held t.0 e ≡ Some time → held all e ≡ Some time =
+    let keeps : (time : Slot) → held t.0 e ≡ Some time → held all e ≡ Some time =
     λ time was. leaves_keep (is_one (event_in before) item) (event_in before) e t.0 all time other t.3 was in
     (weaker_all e t.0 all (came before) keeps fit.0, weaker_next e t.0 all (phase before) keeps fit.1)
 all_fit e compat bounds all (Ended ∷ before) known none t =
@@ -239,14 +244,19 @@ one_by : (first item : Waiting) → item.ms ≡ first.ms → item.serial ≡ fir
 one_by first item ms serial node =
     rw (ms, serial, node) (one_itself first)
 
--- a line stands between two of an event that count at one time
-stands_between : (first item last : Waiting) → last.time ≡ first.time → is_one (event_of first) last ≡ true
+-- a line stands between two of an event that count at one slot
+stands_between : (first item last : Waiting) → slot last ≡ slot first → is_one (event_of first) last ≡ true
     → is_less (spot_of item) (spot_of first) ≡ false → is_lt (place_cmp last item) ≡ false → is_one (event_of first) item ≡ true
-stands_between first item last time one above below =
+stands_between first item last same one above below =
     let e = event_of first in
+    let time : last.time ≡ first.time = ap (λ (t : Slot). t.time) same in
+    let goes : last.goes_by ≡ first.goes_by = ap (λ (t : Slot). t.goes_by) same in
     let t = between item.time first.time last.time _ _ time above below in
-    let above2 = tie item.time first.time _ t above in
-    let below2 = tie last.time item.time _ (time ∙ sym t) below in
+    let above1 = tie item.time first.time _ t above in
+    let below1 = tie last.time item.time _ (time ∙ sym t) below in
+    let g = between item.goes_by first.goes_by last.goes_by _ _ goes above1 below1 in
+    let above2 = tie item.goes_by first.goes_by _ g above1 in
+    let below2 = tie last.goes_by item.goes_by _ (goes ∙ sym g) below1 in
     let n = between item.serial first.serial last.serial _ _ (sym (one_serial e last one)) above2 below2 in
     let above3 = tie item.serial first.serial _ n above2 in
     let below3 = tie last.serial item.serial _ (sym (one_serial e last one) ∙ sym n) below2 in
@@ -290,7 +300,7 @@ late_or : (b : Bool) (before : List Waiting) (item first : Waiting) → is_less 
 late_or true before item first is has = inr (any_has (λ (w : Waiting). is_less (spot_of item) (spot_of w)) before first has is)
 late_or false before item first is has = inl is
 
-conclude : (first item last : Waiting) (late : Type 0) (gone : Type 0) → last.time ≡ first.time → is_one (event_of first) last ≡ true
+conclude : (first item last : Waiting) (late : Type 0) (gone : Type 0) → slot last ≡ slot first → is_one (event_of first) last ≡ true
     → (is_less (spot_of item) (spot_of first) ≡ false) ⊎ late → (is_lt (place_cmp last item) ≡ false) ⊎ gone → (gone → ⊥)
     → (is_one (event_of first) item ≡ true) ⊎ late
 conclude first item last late gone time one (inr is) below waits = inr is
@@ -313,7 +323,7 @@ events_go_together compat bounds all later more before first item last t begins 
     (Contains-append_right (went before) (first ∷ next.others) first (0, omega arith, refl)) in
     let mine = All-contains (Fits e old) (came before) first fit came_first begins.stamped (one_itself first) in
     let other = All-contains (Fits e old) (came before) last fit of.came of.stamped of.same in
-    let time : last.time ≡ first.time = same_Some _ _ (sym other ∙ mine) in
+    let time : slot last ≡ slot first = same_Some _ _ (sym other ∙ mine) in
     let below = All-contains (λ (w : Waiting). (is_lt (place_cmp w item) ≡ false) ⊎ Contains (went middle) w) (came middle) last
     (lesser_go_first compat bounds all later middle item t)
     (came_before more (Went first ∷ before) last of.came) in

@@ -1,5 +1,5 @@
 -- How lines come and go in turn.
-use Rattle.std.proofs.Common.{◌≡◌, ◌≤◌, ◌<◌, ◌+◌, ◌%◌, ◌^◌, ◌||◌, ◌∙◌, inl, inr, sym, refl, ap, subst, arith, ℕ, Bool, true, false, List, [], ◌∷◌, ◌++◌, length, append_assoc, nat_lt, nat_cmp}
+use Rattle.std.proofs.Common.{◌≡◌, ◌≤◌, ◌<◌, ◌+◌, ◌%◌, ◌^◌, ◌||◌, ◌∙◌, inl, inr, sym, refl, ap, subst, arith, ℕ, Bool, true, false, List, [], ◌∷◌, ◌++◌, length, append_assoc, nat_lt, nat_cmp, Option}
 use Rattle.std.specs.List.{All}
 use Rattle.std.specs.declared.cmp.Ordering.{Ordering}
 use Rattle.std.specs.declared.cmp.Ordering.TheVariants.{Less, Equal, Greater}
@@ -13,7 +13,9 @@ use Rattle.order_place.specs.declared.places.Place.{Place}
 use Rattle.order_queue.specs.declared.waiting.Waiting.{Waiting}
 use Rattle.order_queue.specs.Queue.{text_of, bytes_of}
 use Rattle.order_queue.specs.Order.{place_cmp, IsLeast}
-use Rattle.audit_order.specs.Turns.{Motion, Read, Came, Went, Ended, Phase, Between, Next, AtEnd, Event, no_event, State, Turns, IsFresh, IsRead, IsComing, IsNext, IsDue, Passes, Comes, GoesLeast, MayGo, IsFree, AreEarly, NoneIsDue, Counted, begun_with, tally_with, phase, came, went, next_event, number_in, waiting_of}
+use Rattle.order_kin.specs.Families.{StandsForLines, Reads, child_of}
+use Rattle.audit_order.specs.Shown.{Told}
+use Rattle.audit_order.specs.Turns.{Motion, Read, Came, Went, Ended, Phase, Between, Next, AtEnd, Event, no_event, State, Turns, IsFresh, IsRead, IsComing, IsNext, IsDue, Passes, Comes, GoesLeast, MayGo, IsFree, AreEarly, NoneIsDue, Counted, begun_with, tally_with, phase, came, went, reads_in, next_event, number_in, waiting_of}
 use Rattle.audit_order.specs.Sorted.{any_is_past, HasRoom}
 use Rattle.audit_order.specs.declared.counts.Tally.{Tally}
 use Rattle.audit_order.specs.Tally.{spot_of, no_tally}
@@ -23,21 +25,24 @@ use Rattle.audit_order.proofs.SpotLemmas.{least_spot, counts_more}
 counts_none : Counted no_tally []
 counts_none = record { events = refl; late = refl; greatest = λ item. sym (least_spot (spot_of item)) }
 
-pub turns_none : (compat : Bool) (s : State) → s.event ≡ no_event → s.number ≡ 0 → s.waits ≡ [] → s.tally ≡ no_tally → IsFresh compat s.places → Turns compat Between s [] []
-turns_none compat s event number waits tally fresh = record {
+pub turns_none : (compat : Bool) (s : State) → s.event ≡ no_event → s.number ≡ 0 → s.waits ≡ [] → s.tally ≡ no_tally → IsFresh compat s.places
+    → s.kin.compat ≡ compat → StandsForLines s.kin [] → Turns compat Between s [] []
+turns_none compat s event number waits tally fresh kept nobody = record {
   motions = [];
   phase_is = refl;
   event_is = sym event;
   number_is = sym number;
   lines_are = refl;
   given_are = refl;
+  kin_compat = kept;
+  kin_is = nobody;
   rest = subst (λ (l : List Waiting). IsPermutation [] l) (sym waits) (IsPermutation-refl []);
   turns = fresh;
   counts = subst (λ (t : Tally). Counted t []) (sym tally) counts_none;
 }
 
 -- none of those that wait is due
-none_due : (compat : Bool) (now : Phase) (s : State) (given lines : List (List ℕ)) → AreEarly s.bounds s.places now s.waits
+none_due : (compat : Bool) (now : Phase) (s : State) (given : List Told) (lines : List (List ℕ)) → AreEarly s.bounds s.places now s.waits
     → (t : Turns compat now s given lines) → NoneIsDue s.bounds s.places t.motions
 none_due compat now s given lines early t = record {
   waits = s.waits;
@@ -46,10 +51,11 @@ none_due compat now s given lines early t = record {
 }
 
 -- a line is read
-pub turns_read : (compat : Bool) (old new : State) (place : Place) (line : List ℕ) (given lines : List (List ℕ)) → new ≡ record old { places = new.places }
+pub turns_read : (compat : Bool) (old new : State) (place : Place) (line : List ℕ) (given : List Told) (lines : List (List ℕ))
+    → new ≡ record old { places = new.places; kin = new.kin } → Reads old.kin new.kin line → new.kin.compat ≡ old.kin.compat
     → IsRead old.places new.places place line → AreEarly old.bounds old.places Between old.waits → Turns compat Between old given lines
     → Turns compat (Next place line) new given lines
-turns_read compat old new place line given lines is reads early t =
+turns_read compat old new place line given lines is kin same reads early t =
     subst (λ (s : State). Turns compat (Next place line) s given lines) (sym is)
     (record {
       motions = Read place line ∷ t.motions;
@@ -58,6 +64,8 @@ turns_read compat old new place line given lines is reads early t =
       number_is = t.number_is;
       lines_are = t.lines_are;
       given_are = t.given_are;
+      kin_compat = same ∙ t.kin_compat;
+      kin_is = kin (reads_in t.motions) t.kin_is;
       rest = t.rest;
       turns = (old.places, t.turns, t.phase_is, reads, none_due compat Between old given lines early t);
       counts = record { events = t.counts.events; late = t.counts.late; greatest = t.counts.greatest };
@@ -77,7 +85,7 @@ came_more motions old new item come rest =
     (IsPermutation-trans (item ∷ (went motions ++ old)) (went motions ++ item ∷ old) (went motions ++ new) middle there))
 
 -- the line that was read comes
-pub turns_come : (compat : Bool) (old new : State) (place : Place) (line : List ℕ) (given lines : List (List ℕ)) → Comes old new (waiting_of place old.number line)
+pub turns_come : (compat : Bool) (old new : State) (place : Place) (line : List ℕ) (given : List Told) (lines : List (List ℕ)) → Comes old new (waiting_of place old.number line)
     → AreEarly old.bounds old.places (Next place line) old.waits → Turns compat (Next place line) old given lines
     → Turns compat Between new given (lines ++ line ∷ [])
 turns_come compat old new place line given lines c early t =
@@ -91,15 +99,20 @@ turns_come compat old new place line given lines c early t =
       number_is = ap (λ (n : ℕ). (n + 1) % 2 ^ 64) t.number_is;
       lines_are = map-append text_of (came t.motions) (item ∷ []) ∙ ap (λ (l : List (List ℕ)). l ++ line ∷ []) t.lines_are;
       given_are = t.given_are;
+      kin_compat = t.kin_compat;
+      kin_is = t.kin_is;
       rest = came_more t.motions old.waits new.waits item c.come t.rest;
       turns = (t.turns, is_read, none_due compat (Next place line) old given lines early t);
       counts = record { events = t.counts.events; late = t.counts.late; greatest = t.counts.greatest };
     })
 
 -- the line of the least place goes
-pub turns_go : (compat : Bool) (now : Phase) (old new : State) (item : Waiting) (given lines : List (List ℕ)) → MayGo old now → GoesLeast old new item
-    → Turns compat now old given lines → Turns compat now new (given ++ item.line ∷ []) lines
-turns_go compat now old new item given lines may g t =
+pub turns_go : (compat : Bool) (now : Phase) (old new : State) (item : Waiting) (child : Option ℕ) (given : List Told) (lines : List (List ℕ))
+    → MayGo old now → GoesLeast old new item
+    → ((lines : List (List ℕ)) → StandsForLines old.kin lines → child ≡ child_of old.kin.compat lines item.line)
+    → Turns compat now old given lines → Turns compat now new (given ++ record { line = item.line; child = child } ∷ []) lines
+turns_go compat now old new item child given lines may g tells t =
+    let told = tells (reads_in t.motions) t.kin_is ∙ ap (λ (b : Bool). child_of b (reads_in t.motions) item.line) t.kin_compat in
     let are : IsPermutation (came t.motions) (went t.motions ++ item ∷ new.waits) =
     IsPermutation-trans (came t.motions) (went t.motions ++ old.waits) (went t.motions ++ item ∷ new.waits) t.rest
     (IsPermutation-append_right (went t.motions) old.waits (item ∷ new.waits) g.were) in
@@ -109,21 +122,24 @@ turns_go compat now old new item given lines may g t =
       least = g.least;
       due = subst (λ (m : Phase). IsDue old.bounds old.places m item new.waits) (sym t.phase_is) (may item new.waits g.were g.least);
     } in
-    subst (λ (s : State). Turns compat now s (given ++ item.line ∷ []) lines) (sym g.turned.is)
+    subst (λ (s : State). Turns compat now s (given ++ record { line = item.line; child = child } ∷ []) lines) (sym g.turned.is)
     (record {
       motions = Went item ∷ t.motions;
       phase_is = t.phase_is;
       event_is = ap (λ (e : Event). next_event e item) t.event_is;
       number_is = t.number_is;
       lines_are = t.lines_are;
-      given_are = map-append text_of (went t.motions) (item ∷ []) ∙ ap (λ (l : List (List ℕ)). l ++ item.line ∷ []) t.given_are;
+      given_are = ap (λ (l : List Told). l ++ record { line = item.line; child = child_of compat (reads_in t.motions) item.line } ∷ []) t.given_are
+          ∙ ap (λ (c : Option ℕ). given ++ record { line = item.line; child = c } ∷ []) (sym told);
+      kin_compat = t.kin_compat;
+      kin_is = t.kin_is;
       rest = subst (λ (l : List Waiting). IsPermutation (came t.motions) l) (sym (append_assoc (went t.motions) (item ∷ []) new.waits)) are;
       turns = (old.places, t.turns, next, subst (λ (e : Event). Passes e item old.places new.places) (sym t.event_is) g.turned.passes);
       counts = subst (λ (e : Event). Counted (tally_with e old.tally item) (Went item ∷ t.motions)) t.event_is (counts_more old.tally t.motions item t.counts);
     })
 
 -- the log ends
-pub turns_end : (compat : Bool) (s : State) (given lines : List (List ℕ)) → AreEarly s.bounds s.places Between s.waits → Turns compat Between s given lines
+pub turns_end : (compat : Bool) (s : State) (given : List Told) (lines : List (List ℕ)) → AreEarly s.bounds s.places Between s.waits → Turns compat Between s given lines
     → Turns compat AtEnd s given lines
 turns_end compat s given lines early t = record {
   motions = Ended ∷ t.motions;
@@ -132,6 +148,8 @@ turns_end compat s given lines early t = record {
   number_is = t.number_is;
   lines_are = t.lines_are;
   given_are = t.given_are;
+  kin_compat = t.kin_compat;
+  kin_is = t.kin_is;
   rest = t.rest;
   turns = (t.turns, t.phase_is, none_due compat Between s given lines early t);
   counts = record { events = t.counts.events; late = t.counts.late; greatest = t.counts.greatest };

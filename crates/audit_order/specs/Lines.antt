@@ -5,10 +5,9 @@ use Rattle.order_text.specs.Stamp.{Stamp, stamp_of}
 use Rattle.order_text.specs.Laws.{time_in, number_in, IsOneLine}
 use Rattle.order_text.specs.Undo.{undone, written_of, is_rewritten, takes_rewrite}
 use Rattle.order_text.specs.declared.rewrite.Rewrite.{Rewrite}
-use Rattle.order_lines.specs.Rules.{or_else}
-use Rattle.order_rules.specs.Rules.{AllKnown, StandsForLines, rewrite_of, lacks_of}
+use Rattle.order_rules.specs.Rules.{AllKnown, StandsForLines, lacks_of}
 use Rattle.audit_order.specs.declared.switches.Switches.{Switches}
-use Rattle.audit_order.specs.Shown.{Latest, later_of, no_time, rules_of, change_alone}
+use Rattle.audit_order.specs.Shown.{Latest, later_of, no_time, rules_of, Told, untold, seen_as, change_by}
 
 -- lines with a line feed after each
 abbrev pub text_of : List (List ℕ) → List ℕ
@@ -104,31 +103,30 @@ wrote w line found change = record w {
 }
 
 -- a line was seen by the rules, which say how it is rewritten
-pub record Asks (old new : Written) (line : List ℕ) (change : Option Rewrite) : Type 0 where
+pub record Asks (old new : Written) (told : Told) (change : Option Rewrite) : Type 0 where
   pub same : new ≡ record old { rules = new.rules }
   pub settings : new.rules.settings ≡ old.rules.settings
-  pub by : (before : List (List ℕ)) → StandsForLines old.rules before
-      → change ≡ or_else (change_alone old.switches (stamp_of line)) (rewrite_of old.rules.settings before line)
-  pub stands : (before : List (List ℕ)) → StandsForLines old.rules before → StandsForLines new.rules (line ∷ before)
+  pub by : (before : List (List ℕ)) → StandsForLines old.rules before → change ≡ change_by old.switches old.rules.settings before told
+  pub stands : (before : List (List ℕ)) → StandsForLines old.rules before → StandsForLines new.rules (seen_as told ∷ before)
 
 -- one more line is written, as the rules say
-pub record Writes (old new : Written) (line : List ℕ) : Type 0 where
+pub record Writes (old new : Written) (told : Told) : Type 0 where
   pub mid : Written
   pub change : Option Rewrite
-  pub asks : Asks old mid line change
-  pub is : new ≡ wrote mid line (stamp_of line) change
+  pub asks : Asks old mid told change
+  pub is : new ≡ wrote mid told.line (stamp_of told.line) change
 
 -- one more line is written, and counted as an end that was added
 pub record Adds (old new : Written) (line : List ℕ) : Type 0 where
   pub mid : Written
-  pub writes : Writes old mid line
+  pub writes : Writes old mid (untold line)
   pub is : new ≡ record mid { added = mid.added + 1 }
 
 -- one more line is written because it is lacking, as the rules say, and counted as a peer that was added
 pub record AddsPeer (old new : Written) (line : List ℕ) : Type 0 where
   pub lacks : (before : List (List ℕ)) → StandsForLines old.rules before → true ≡ lacks_of old.rules.settings before line
   pub mid : Written
-  pub writes : Writes old mid line
+  pub writes : Writes old mid (untold line)
   pub is : new ≡ record mid { peers = mid.peers + 1 }
 
 abbrev pub MayAddPeer : Written → Written → List ℕ → Type 0

@@ -15,8 +15,8 @@ use Rattle.order_queue.specs.Queue.{texts_of}
 use Rattle.audit_order.specs.declared.bounds.Bounds.{Bounds}
 use Rattle.audit_order.specs.Start.{Start}
 use Rattle.audit_order.specs.Woven.{IsWoven}
-use Rattle.audit_order.specs.Turns.{Motion, came, went, events_in, late_in, InTurn}
-use Rattle.audit_order.specs.Shown.{WasLacking, shown_after}
+use Rattle.audit_order.specs.Turns.{Motion, came, went, told_in, events_in, late_in, InTurn}
+use Rattle.audit_order.specs.Shown.{Told, untold, lines_in, WasLacking, shown_after}
 use Rattle.audit_order.specs.Lines.{text_of, times_of, raised_in, rewritten_in, IsEnd, IsPeer}
 use Rattle.audit_order.specs.Taken.{Standing, Stays, Takes}
 
@@ -46,6 +46,7 @@ log_lines bytes = lines_of (with_bytes [] bytes ++ Settle ∷ [])
 -- the events among them are counted, and those that went late.
 pub record Orders (bounds : Bounds) (switches : Switches) (bytes : List ℕ) (before now : Option (List ℕ)) (counts : Counts) : Type 0 where
   pub outs : List (List ℕ)
+  pub told : List Told
   pub added : List (List ℕ)
   pub peers : List (List ℕ)
   pub written : Appends before now (text_of outs)
@@ -53,19 +54,20 @@ pub record Orders (bounds : Bounds) (switches : Switches) (bytes : List ℕ) (be
   pub rises : IsNonDecreasing (times_of outs)
   pub ends : All IsEnd added
   pub blank : All IsPeer peers
-  pub lacked : All (WasLacking switches (map undone outs)) peers
+  pub lacked : All (WasLacking switches told) peers
   pub one : All IsOneLine outs
   pub counts_raised : counts.times_raised ≡ raised_in outs
   pub counts_added : counts.added_ends ≡ length added
   pub counts_peers : counts.added_peers ≡ length peers
   pub counts_rewritten : counts.rewrites ≡ rewritten_in outs
-  pub exact : outs ≡ shown_after switches [] (map undone outs)
+  pub are : map undone outs ≡ lines_in told
+  pub exact : outs ≡ shown_after switches [] told
   pub seen : AllSeen
   pub motions : List Motion
   pub read : texts_of (came motions) ≡ log_lines bytes
   pub all_went : IsPermutation (came motions) (went motions)
   pub in_turn : InTurn switches.compat bounds seen motions
-  pub order : IsWoven added peers (texts_of (went motions)) (map undone outs)
+  pub order : IsWoven (map untold added) (map untold peers) (told_in switches.compat motions) told
   pub counts_events : counts.events ≡ events_in motions
   pub counts_late : counts.late ≡ late_in motions
 

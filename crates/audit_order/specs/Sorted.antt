@@ -4,7 +4,9 @@ use Rattle.std.specs.List.{list_any}
 use Rattle.order_queue.specs.declared.waiting.Waiting.{Waiting}
 use Rattle.order_queue.specs.Queue.{bytes_of}
 use Rattle.order_place.specs.declared.places.Place.{Place}
+use Rattle.order_kin.specs.Families.{StandsForLines, child_of}
 use Rattle.audit_order.specs.Start.{Start}
+use Rattle.audit_order.specs.Shown.{Told}
 use Rattle.audit_order.specs.Course.{Course, Gives}
 use Rattle.audit_order.specs.Turns.{Event, State, Turns, Phase, Between, AtEnd, Comes, GoesLeast, waiting_of}
 use Rattle.audit_order.specs.Taken.{Stays}
@@ -21,6 +23,7 @@ abbrev pub state_of : Sorter → State
 state_of s = record {
   bounds = s.bounds;
   places = s.places;
+  kin = s.kin;
   event = event_of s.turn;
   number = s.number;
   waits = s.queue.waits;
@@ -29,7 +32,7 @@ state_of s = record {
 
 -- of these lines of the log, some were given to be written when it was their turn, and the sorter holds the others
 pub record SortsAt (at : Phase) (before : Start) (now : Option (List ℕ)) (s : Sorter) (lines : List (List ℕ)) : Type 0 where
-  pub given : List (List ℕ)
+  pub given : List Told
   pub course : Course before now s.writer given
   pub turns : Turns before.switches.compat at (state_of s) given lines
   pub bounds_are : s.bounds ≡ before.bounds
@@ -52,11 +55,17 @@ pub record Sorts (before : Start) (now : Option (List ℕ)) (s : Sorter) (lines 
 abbrev pub HasRoom : ℕ → ℕ → List Waiting → Type 0
 HasRoom memory more waits = (waits ≡ []) ⊎ (bytes_of waits + more ≤ memory)
 
+-- a line is written, with the child that the lines tell which were read so far
+pub record GivesTold (old new : Sorter) (line : List ℕ) : Type 0 where
+  pub child : Option ℕ
+  pub told : (lines : List (List ℕ)) → StandsForLines old.kin lines → child ≡ child_of old.kin.compat lines line
+  pub gives : Gives old.writer new.writer (record { line = line; child = child })
+
 -- the line of the least place is written
 pub record GivesLeast (old new : Sorter) : Type 0 where
   pub item : Waiting
   pub goes : GoesLeast (state_of old) (state_of new) item
-  pub gives : Gives old.writer new.writer item.line
+  pub gives : GivesTold old new item.line
 
 -- the line of the least place is written, if one waits
 abbrev pub Moves : Sorter → Sorter → Type 0

@@ -11,14 +11,21 @@ use Rattle.audit_order.specs.declared.sorter.Turn.{Turn}
 
 -- where a line stands
 abbrev pub spot_of : Waiting → Spot
-spot_of item = record { time = item.time; serial = item.serial; ms = item.ms; node = item.node; rank = item.rank }
+spot_of item =
+    record { time = item.time; goes_by = item.goes_by; serial = item.serial; ms = item.ms; node = item.node; rank = item.rank }
 
--- places by the time at which their event counts, its serial number, its own time, its node, and the rank of the line in it
+-- places by the time at which their event counts, the number by which it goes among those of that time, its serial number, its own
+-- time, its node, and the rank of the line in it
 abbrev pub spot_cmp : Spot → Spot → Ordering
 spot_cmp a b =
     ordering_then (nat_cmp a.time b.time)
+    (ordering_then (nat_cmp a.goes_by b.goes_by)
     (ordering_then (nat_cmp a.serial b.serial)
-    (ordering_then (nat_cmp a.ms b.ms) (ordering_then (slice_cmp nat_cmp a.node b.node) (nat_cmp a.rank b.rank))))
+    (ordering_then (nat_cmp a.ms b.ms) (ordering_then (slice_cmp nat_cmp a.node b.node) (nat_cmp a.rank b.rank)))))
+
+-- nothing comes before this place
+abbrev pub no_spot : Spot
+no_spot = record { time = 0; goes_by = 0; serial = 0; ms = 0; node = []; rank = 0 }
 
 -- whether the first of two places is less
 abbrev pub is_less : Spot → Spot → Bool
@@ -29,7 +36,7 @@ abbrev pub is_late : List Waiting → Waiting → Bool
 is_late before item = list_any (λ other. is_less (spot_of item) (spot_of other)) before
 
 abbrev pub no_tally : Tally
-no_tally = record { events = 0; late = 0; greatest = record { time = 0; serial = 0; ms = 0; node = []; rank = 0 } }
+no_tally = record { events = 0; late = 0; greatest = no_spot }
 
 -- one more line was written at this place
 abbrev pub tally_after : Tally → Spot → Tally

@@ -9,6 +9,8 @@ use Rattle.order_place.specs.Nodes.{AllSeen, HasPlace, SeesLine, ForgetsOf, Stan
 use Rattle.order_queue.specs.declared.waiting.Waiting.{Waiting}
 use Rattle.order_queue.specs.Queue.{bytes_of, texts_of}
 use Rattle.order_queue.specs.Order.{place_cmp, IsLeast}
+use Rattle.order_kin.specs.Families.{AllKept, StandsForLines, child_of}
+use Rattle.audit_order.specs.Shown.{Told}
 use Rattle.audit_order.specs.declared.bounds.Bounds.{Bounds}
 use Rattle.audit_order.specs.declared.counts.Tally.{Tally}
 use Rattle.audit_order.specs.Tally.{spot_of, is_less, is_late, tally_after}
@@ -51,6 +53,23 @@ went (Read place line ∷ before) = went before
 went (Came item ∷ before) = went before
 went (Went item ∷ before) = went before ++ item ∷ []
 went (Ended ∷ before) = went before
+
+-- the lines that were read, newest first
+abbrev pub reads_in : List Motion → List (List ℕ)
+reads_in [] = []
+reads_in (Read place line ∷ before) = line ∷ reads_in before
+reads_in (Came item ∷ before) = reads_in before
+reads_in (Went item ∷ before) = reads_in before
+reads_in (Ended ∷ before) = reads_in before
+
+-- the lines that went, in their order, each with the child that the lines tell which were read by then
+abbrev pub told_in : Bool → List Motion → List Told
+told_in compat [] = []
+told_in compat (Read place line ∷ before) = told_in compat before
+told_in compat (Came item ∷ before) = told_in compat before
+told_in compat (Went item ∷ before) =
+    told_in compat before ++ record { line = item.line; child = child_of compat (reads_in before) item.line } ∷ []
+told_in compat (Ended ∷ before) = told_in compat before
 
 -- how many lines came, in 64 bits
 abbrev pub number_in : List Motion → ℕ
@@ -117,8 +136,16 @@ pub record IsRead (old new : AllSeen) (place : Place) (line : List ℕ) : Type 0
 
 -- a line that waits with this place and this number
 abbrev pub waiting_of : Place → ℕ → List ℕ → Waiting
-waiting_of place number line =
-    record { time = place.time; serial = place.serial; ms = place.ms; node = place.node; rank = place.rank; number = number; line = line }
+waiting_of place number line = record {
+  time = place.time;
+  goes_by = place.goes_by;
+  serial = place.serial;
+  ms = place.ms;
+  node = place.node;
+  rank = place.rank;
+  number = number;
+  line = line;
+}
 
 -- the line that comes is the one that was read, with its place
 abbrev pub IsComing : Phase → ℕ → Waiting → Type 0
@@ -203,11 +230,12 @@ AllHaveGone =
 
 -- ---- what a sorter has of that
 
--- its bounds, what it has seen, the event of the newest line that went, how many lines came, which of them wait, and what was
--- counted of those that went
+-- its bounds, what it has seen, also of processes, the event of the newest line that went, how many lines came, which of them wait,
+-- and what was counted of those that went
 pub record State : Type 0 where
   pub bounds : Bounds
   pub places : AllSeen
+  pub kin : AllKept
   pub event : Event
   pub number : ℕ
   pub waits : List Waiting
@@ -220,13 +248,15 @@ pub record Counted (tally : Tally) (motions : List Motion) : Type 0 where
   pub greatest : (item : Waiting) → is_late (went motions) item ≡ is_less (spot_of item) tally.greatest
 
 -- lines of a log came and went in turn, so that this is the phase and this the state
-pub record Turns (compat : Bool) (now : Phase) (s : State) (given lines : List (List ℕ)) : Type 0 where
+pub record Turns (compat : Bool) (now : Phase) (s : State) (given : List Told) (lines : List (List ℕ)) : Type 0 where
   pub motions : List Motion
   pub phase_is : phase motions ≡ now
   pub event_is : event_in motions ≡ s.event
   pub number_is : number_in motions ≡ s.number
   pub lines_are : texts_of (came motions) ≡ lines
-  pub given_are : texts_of (went motions) ≡ given
+  pub given_are : told_in compat motions ≡ given
+  pub kin_compat : s.kin.compat ≡ compat
+  pub kin_is : StandsForLines s.kin (reads_in motions)
   pub rest : IsPermutation (came motions) (went motions ++ s.waits)
   pub turns : InTurn compat s.bounds s.places motions
   pub counts : Counted s.tally motions

@@ -38,11 +38,13 @@ impl Counts {
     }
 }
 
-/// Where a line stands among all: the time at which its event counts, the event's serial number, its own time and its node, and the
-/// rank of the line in it. Spots are compared in this order, as places are, of which only the number of the line is left out.
+/// Where a line stands among all: the time at which its event counts, the number by which it goes among those of that time, the
+/// event's serial number, its own time and its node, and the rank of the line in it. Spots are compared in this order, as places are,
+/// of which only the number of the line is left out.
 #[derive(Drop, PartialEq, Eq, PartialOrd, Ord)]
 pub struct Spot {
     pub time: u64,
+    pub goes_by: u32,
     pub serial: u32,
     pub ms: u64,
     pub node: Bytes,
@@ -67,6 +69,7 @@ impl Tally {
             late: 0,
             greatest: Spot {
                 time: 0,
+                goes_by: 0,
                 serial: 0,
                 ms: 0,
                 node: Bytes::new(alloc),

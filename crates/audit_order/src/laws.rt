@@ -1,7 +1,7 @@
 //! What ordering and undoing promise together. The functions do nothing; their contracts are laws.
 ghost use Rattle.audit_order.specs.Turns.{LesserGoFirst, PastHaveGone, FullMemoryHasGone, AllHaveGone};
 ghost use Rattle.audit_order.specs.Together.{EventsGoTogether};
-ghost use Rattle.audit_order.specs.Own.{CallsCountInOrder, SerialsGoInOrder};
+ghost use Rattle.audit_order.specs.Own.{CallsCountInOrder, LaterCallsCountLater, SerialsGoInOrder, ForksGoFirst};
 ghost use Rattle.audit_order.specs.Reads.{UndoesOrders, TextHasLines, RewritesByRules, AddsPeersByRules};
 
 /// Undoing what orders a log gives the lines of the log and the ends and peers that were added, in some order.
@@ -43,9 +43,17 @@ pub fn events_go_together()
     ensures { EventsGoTogether }
 {}
 
-/// A call counts no earlier than the newest call of its process that was read before, as far as the clock had come with that; and of
-/// two lines the one that counts no later and has the lesser serial number was written first, unless it was late.
+/// A call counts no earlier than the calls of its process, and the forks that began it, that were read before, as far as the clock had
+/// come with those: than the latest of them, and than each since its node was started. And of two lines the one that counts no later and has the lesser serial number was written first, unless it was
+/// late, or a fork that went early.
 pub fn calls_keep_their_order()
     ensures counts { CallsCountInOrder }
+    ensures later { LaterCallsCountLater }
     ensures goes { SerialsGoInOrder }
+{}
+
+/// Whenever a line was written that counts no earlier than a fork was entered, and after the calls of the process that forked, as the
+/// calls of its child do, the fork had been written, if it had come. Forks don't wait so for one another.
+pub fn children_stand_after_their_forks()
+    ensures { ForksGoFirst }
 {}

@@ -93,7 +93,7 @@ impl Taker for Sorter {
 
     // The line waits for its turn, and lines whose turn it is are written.
     fn take_line<O: Sink>(&mut self, sink: &mut O, line: Bytes) -> Result<(), Halt> {
-        let read = read_line(&mut self.places, line.as_slice())?;
+        let read = read_line(&mut self.places, &mut self.kin, line.as_slice())?;
         release_before(self, sink, read.place.starts)?;
         make_room(self, sink, line.as_slice().len() as u64)?;
         let noted = Noted::new(line, read.marks, read.note);

@@ -5,11 +5,12 @@ ghost use Rattle.order_text.specs.Stamp.{stamp_of};
 ghost use Rattle.order_place.specs.Nodes.{HasPlace, SeesLine};
 ghost use Rattle.order_rules.specs.Notes.{IsNoted};
 ghost use Rattle.order_queue.specs.Marks.{AreMarks};
+ghost use Rattle.order_kin.specs.Families.{Reads};
 ghost use Rattle.audit_order.specs.Start.{Start};
-ghost use Rattle.audit_order.specs.Course.{Gives, Keeps};
+ghost use Rattle.audit_order.specs.Course.{Keeps};
 ghost use Rattle.order_queue.specs.Queue.{bytes_of};
 ghost use Rattle.audit_order.specs.Turns.{Turned, begun_with, tally_with};
-ghost use Rattle.audit_order.specs.Sorted.{Sorts, Moves, Holds, HasRoom, state_of, event_of, counts_of, is_past, any_is_past};
+ghost use Rattle.audit_order.specs.Sorted.{Sorts, Moves, GivesTold, Holds, HasRoom, state_of, event_of, counts_of, is_past, any_is_past};
 ghost use Rattle.audit_order.specs.Tally.{is_of};
 
 use crate::added::{end_of_call, is_accept, is_call, peer_of_call};
@@ -20,6 +21,7 @@ use crate::writer::Writer;
 use audit_lex::UsedLine;
 use flow_base::{Bytes, NoMemory};
 use order_calls::read_call;
+use order_kin::Families;
 use order_place::{Place, Places};
 use order_queue::{Marks, Noted, Queue, Waiting, marks_of};
 use order_rules::{Note, note_of};
@@ -37,11 +39,12 @@ pub struct Turn {
     pub accepts: bool,
 }
 
-/// What was seen, what waits, and what is written.
+/// What was seen, also of processes, what waits, and what is written.
 #[derive(Drop)]
 pub struct Sorter {
     pub alloc: Global,
     pub places: Places,
+    pub kin: Families,
     pub queue: Queue,
     pub writer: Writer,
     pub turn: Turn,
@@ -63,6 +66,7 @@ impl Sorter {
         Ok(Sorter {
             alloc,
             places: Places::new(alloc, switches.compat),
+            kin: Families::new(alloc, switches.compat),
             queue: Queue::new(alloc),
             writer,
             turn: Turn {
@@ -194,7 +198,7 @@ fn note_end(turn: &mut Turn, rank: u8, calls: bool, line: Noted)
 
 // Writes a line that waits no longer.
 fn write_item(sorter: &mut Sorter, item: Waiting) -> Result<(), NoMemory>
-    ensures gives { OnOk result (Gives sorter.old.writer sorter.new.writer item.line) }
+    ensures gives { OnOk result (GivesTold sorter.old sorter.new item.line) }
     ensures waits { sorter.new.queue ≡ sorter.old.queue }
     ensures turned { OnOk result (Turned (state_of sorter.old) (state_of sorter.new) item
         (tally_with (event_of sorter.old.turn) sorter.old.tally item)) }
@@ -203,12 +207,15 @@ fn write_item(sorter: &mut Sorter, item: Waiting) -> Result<(), NoMemory>
     turn_to(sorter, &item)?;
     let line = item.line.as_slice();
     let stamp = item.line.stamp();
-    sorter.writer.write(line, &stamp, item.line.note())?;
+    let note = item.line.note();
+    let child = sorter.kin.child(line, &stamp, note)?;
+    sorter.writer.write_told(line, &stamp, note, child)?;
     let calls = is_call(&stamp);
     sorter.turn.accepts = sorter.turn.accepts && !calls || is_accept(&stamp);
     note_end(&mut sorter.turn, item.rank, calls, item.line);
     sorter.tally.note(Spot {
         time: item.time,
+        goes_by: item.goes_by,
         serial: item.serial,
         ms: item.ms,
         node: item.node,
@@ -238,17 +245,20 @@ pub struct Read {
 }
 
 /// What is read of the next line. Its stamp is read once, and the record of a call too, for its place and for the rules.
-pub fn read_line(places: &mut Places, line: &[u8]) -> Result<Read, NoMemory>
+pub fn read_line(places: &mut Places, kin: &mut Families, line: &[u8]) -> Result<Read, NoMemory>
     ensures marks { IfOk result (λ read. AreMarks read.marks line.now) }
     ensures note { IfOk result (λ read. IsNoted read.note line.now) }
     ensures place { IfOk result (λ read. HasPlace places.old (stamp_of line.now) read.place) }
     ensures last { IfOk result (λ read. places.new.last ≡ read.place) }
     ensures sees { IfOk result (λ read.
         SeesLine places.old places.new (stamp_of line.now) line.now read.place) }
+    ensures kin { OnOk result (Reads kin.old kin.new line.now) }
+    ensures compat { OnOk result (kin.new.compat ≡ kin.old.compat) }
 {
     let stamp = read_stamp(line);
     let used = read_if(line, &stamp);
     let place = places.place_read(line, &stamp, &used)?;
+    kin.read(line, &stamp, &used)?;
     Ok(Read {
         place,
         marks: marks_of(&stamp),
@@ -276,6 +286,7 @@ pub fn hold(sorter: &mut Sorter, place: Place, line: Noted) -> Result<(), NoMemo
     sorter.number = number.wrapping_add(1);
     sorter.queue.push(Waiting {
         time: place.time,
+        goes_by: place.goes_by,
         serial: place.serial,
         ms: place.ms,
         node: place.node,

@@ -51,6 +51,20 @@ type=EOE msg=audit(1.000:5): \n\
 type=SYSCALL msg=audit(1.006:7): arch=c000003e syscall=1 a0=4 a1=0 a2=1 a3=0 ppid=1 pid=10\n\
 type=EOE msg=audit(1.006:7): \n";
 
+// After a vfork the records of the child come first, here in one millisecond with the fork and a call of the parent before it.
+const FORKED: &[u8] =
+    b"type=SYSCALL msg=audit(1.000:3): arch=c000003e syscall=1 success=yes exit=1 a0=4 a1=0 a2=1 a3=0 ppid=1 pid=10\n\
+type=SYSCALL msg=audit(1.000:4): arch=c000003e syscall=0 success=yes exit=1 a0=3 a1=0 a2=1 a3=0 ppid=10 pid=20\n\
+type=SYSCALL msg=audit(1.000:5): arch=c000003e syscall=58 success=yes exit=20 a0=0 a1=0 a2=0 a3=0 ppid=1 pid=10\n";
+
+const FORKED_ORDERED: &[u8] =
+    b"type=SYSCALL msg=audit(1.000:3): arch=c000003e syscall=1 success=yes exit=1 a0=4 a1=0 a2=1 a3=0 ppid=1 pid=10\n\
+type=EOE msg=audit(1.000:3): \n\
+type=SYSCALL msg=audit(1.000:5): arch=c000003e syscall=58 success=yes exit=20 a0=0 a1=0 a2=0 a3=0 ppid=1 pid=10\n\
+type=EOE msg=audit(1.000:5): \n\
+type=SYSCALL msg=audit(1.000:4): arch=c000003e syscall=0 success=yes exit=1 a0=3 a1=0 a2=1 a3=0 ppid=10 pid=20\n\
+type=EOE msg=audit(1.000:4): \n";
+
 // The serial numbers begin again after a boot.
 const BOOTS: &[u8] =
     b"type=SYSCALL msg=audit(900.000:9): arch=c000003e syscall=1 a0=4 a1=0 a2=1 a3=0 ppid=1 pid=10\n\
@@ -336,6 +350,7 @@ fn lines_are_written_in_the_order_of_effects(rt: HostRuntime) -> Result<(), Fail
     let rows = [
         (b"".as_slice(), b"".as_slice()),
         (WAITED, WAITED_ORDERED),
+        (FORKED, FORKED_ORDERED),
         (BOOTS, BOOTS_ORDERED),
         (NODES, NODES_ORDERED),
         (TWINS, TWINS_ORDERED),

@@ -9,14 +9,17 @@ ghost use Rattle.order_text.specs.declared.rewrite.Rewrite.{Rewrite};
 ghost use Rattle.order_lines.specs.Rules.{or_else};
 ghost use Rattle.order_rules.specs.Notes.{IsNoted};
 ghost use Rattle.order_rules.specs.Rules.{StandsForLines, lacks_stamped};
-ghost use Rattle.audit_order.specs.Shown.{Latest, later_of, change_alone};
+ghost use Rattle.order_lines.specs.Answers as answers;
+ghost use Rattle.order_place.specs.Places.{read_with};
+ghost use Rattle.audit_order.specs.Shown.{Latest, later_of, Told, untold, change_alone};
 ghost use Rattle.audit_order.specs.Lines.{wrote, Asks, Writes, Adds, MayAddPeer, IsBlank, more_if};
 
 use crate::counts::count_one;
 use crate::halt::Halt;
 use crate::switches::Switches;
 use flow_base::{Bytes, NoMemory};
-use order_lines::rewrite_of;
+use order_lines::{rewrite_of, with_answer};
+use order_place::rewritten;
 use order_rules::{Note, Rules};
 use order_text::{Rewrite, Stamp, read_stamp, write_stamped};
 use outside::{Sink, put_all};
@@ -158,10 +161,68 @@ impl Writer {
         requires noted { IsNoted note line.now }
         requires is { option_map stamp_seen stamp.now ≡ stamp_of line.now }
         requires timed { IfSome stamp.now (λ s. time_of s.time.now ≡ Some s.ms) }
-        ensures { OnOk result (Writes self.old self.new line.now) }
+        ensures { OnOk result (Writes self.old self.new (untold line.now)) }
     {
         let change = self.ask(line, stamp, note)?;
         self.put(line, stamp, change)
+    }
+
+    /// The same of a line whose fork has begun this child, if one is told.
+    pub fn write_told(
+        &mut self,
+        line: &[u8],
+        stamp: &Option<Stamp<'_>>,
+        note: Option<Note>,
+        child: Option<u32>,
+    ) -> Result<(), NoMemory>
+        requires noted { IsNoted note line.now }
+        requires is { option_map stamp_seen stamp.now ≡ stamp_of line.now }
+        requires timed { IfSome stamp.now (λ s. time_of s.time.now ≡ Some s.ms) }
+        ensures { OnOk result (Writes self.old self.new
+            (record { line = line.now; child = child })) }
+    {
+        match child {
+            None => self.write(line, stamp, note),
+            Some(child) => self.write_fork(line, stamp, child),
+        }
+    }
+
+    // Writes a line whose fork has begun this child.
+    fn write_fork(
+        &mut self,
+        line: &[u8],
+        stamp: &Option<Stamp<'_>>,
+        child: u32,
+    ) -> Result<(), NoMemory>
+        requires is { option_map stamp_seen stamp.now ≡ stamp_of line.now }
+        requires timed { IfSome stamp.now (λ s. time_of s.time.now ≡ Some s.ms) }
+        ensures { OnOk result (Writes self.old self.new
+            (record { line = line.now; child = Some child })) }
+    {
+        match stamp {
+            None => self.write(line, stamp, None),
+            Some(fork) => {
+                let change = self.ask_fork(line, fork, child)?;
+                self.put(line, stamp, change)
+            }
+        }
+    }
+
+    // How a line of this stamp is rewritten whose fork has begun this child.
+    fn ask_fork(
+        &mut self,
+        line: &[u8],
+        stamp: &Stamp<'_>,
+        child: u32,
+    ) -> Result<Option<Rewrite>, NoMemory>
+        requires { Some (stamp_seen stamp.now) ≡ stamp_of line.now }
+        ensures { IfOk result (Asks self.old self.new
+            (record { line = line.now; child = Some child })) }
+    {
+        let seen = seen_line(self.alloc, line, stamp, child)?;
+        let found = self.rules.see(seen.as_slice())?;
+        let alone = rewrite_of(self.alloc, self.switches.alone(), stamp)?;
+        with_answer(self.alloc, stamp.rest, child, or_else(alone, found))
     }
 
     // How a line of this stamp is rewritten.
@@ -173,7 +234,7 @@ impl Writer {
     ) -> Result<Option<Rewrite>, NoMemory>
         requires noted { IsNoted note line.now }
         requires is { option_map stamp_seen stamp.now ≡ stamp_of line.now }
-        ensures { IfOk result (Asks self.old self.new line.now) }
+        ensures { IfOk result (Asks self.old self.new (untold line.now)) }
     {
         let found = self.rules.see_read(line, stamp, note)?;
         let alone = alone(self.alloc, self.switches, stamp)?;
@@ -264,6 +325,17 @@ impl Writer {
             (O.faults sink.old) (O.faults sink.new) (O.spent sink.old) (O.spent sink.new) }
     {
         hand_on(&mut self.pending, sink)
+    }
+}
+
+// A line of this stamp whose fork has begun this child, as the rules see it.
+fn seen_line(alloc: Global, line: &[u8], stamp: &Stamp<'_>, child: u32) -> Result<Bytes, NoMemory>
+    ensures { IfOk result (λ seen. seen ≡ read_with (stamp_seen stamp.now) line.now
+        (answers.with_answer stamp.now.rest.now child None)) }
+{
+    match with_answer(alloc, stamp.rest, child, None)? {
+        None => Bytes::from_slice(alloc, line),
+        Some(rewrite) => rewritten(alloc, stamp, &rewrite),
     }
 }
 

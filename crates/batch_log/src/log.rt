@@ -114,6 +114,13 @@ impl BatchLog {
         self.usable
     }
 
+    /// The place of the next batch's gate.
+    pub fn next_gate(&self) -> u64
+        ensures { result ≡ next_gate self.now }
+    {
+        self.last.unwrap_or(0)
+    }
+
     // Refuses a payload of this length if it would pass a limit.
     fn admit(&self, length: usize) -> Result<(), Full>
         ensures none { OnOk result (passed self.now length ≡ None) }

@@ -16,6 +16,7 @@ pub fn read_payload<D: Disk>(alloc: Global, disk: &mut D, batch: Batch) -> Resul
     requires fits { Fits batch }
     ensures payload { (D.state disk.old).told
         → IfOk result (IsPayloadOf batch (D.state disk.old).reads) }
+    ensures length { IfOk result (λ payload. length payload ≡ batch.length) }
     ensures there { (D.state disk.old).told
         → batch.gate + 9 + batch.length ≤ length (D.state disk.old).reads
         → (place : ℕ) → IsErrOf result (fault.BadStore place) → ⊥ }

@@ -46,6 +46,13 @@ impl BlockCache {
         self.firm = firm;
     }
 
+    /// The place before which the disk's bytes don't change.
+    pub fn firm(&self) -> u64
+        ensures { result ≡ self.now.firm }
+    {
+        self.firm
+    }
+
     /// Fills the buffer with the bytes from a place on, or says that the disk ends before it is full.
     /// If all blocks of the range are held, the disk isn't asked.
     pub fn read<D: Disk>(&mut self, disk: &mut D, at: u64, buf: &mut [u8]) -> Result<bool, Failed>

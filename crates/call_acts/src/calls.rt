@@ -3,7 +3,7 @@
 //! Calls that do the same share a row, whose name is the `Call`. If they differ in which argument has
 //! their flags, the number of the call decides.
 ghost use Rattle.std.specs.Prelude.{◌≡◌, map};
-ghost use Rattle.call_acts.specs.Calls.{call_of, row_with};
+ghost use Rattle.call_acts.specs.Calls.{TABLE, call_of, row_with};
 
 /// A row of the table of calls.
 #[derive(Clone, Copy, Debug, PartialEq, Eq)]
@@ -105,10 +105,19 @@ static ROWS: [(&[u32], Call); 28] = [
 pub fn call_of(arch: u32, number: u32) -> Option<Call>
     ensures { result ≡ call_of arch number }
 {
-    if arch == ARCH {
-        row_with(number, &ROWS)
-    } else {
-        None
+    if arch == ARCH { row_of(number) } else { None }
+}
+
+// The row that has the number. Most calls of a log are among four, which are not searched for.
+fn row_of(number: u32) -> Option<Call>
+    ensures { result ≡ row_with number TABLE }
+{
+    match number {
+        0 => Some(Call::Read),
+        1 => Some(Call::Write),
+        3 => Some(Call::Close),
+        257 => Some(Call::Open),
+        _ => row_with(number, &ROWS),
     }
 }
 

@@ -1,10 +1,10 @@
 -- What a run adds to the disk of its store.
-use Rattle.std.proofs.Common.{◌≡◌, ◌≤◌, ◌<◌, ◌+◌, ◌-◌, ◌*◌, ◌/◌, ℕ, List, [], ◌∷◌, ◌++◌, length, take, drop, ap, sym, subst, arith, append_assoc, ◌∙◌, Option, Some, inl, inr, length-append}
+use Rattle.std.proofs.Common.{◌≡◌, ◌≤◌, ◌<◌, ◌+◌, ◌-◌, ◌*◌, ◌/◌, ℕ, List, [], ◌∷◌, ◌++◌, length, take, drop, refl, ap, sym, subst, arith, append_assoc, ◌∙◌, Option, Some, inl, inr, length-append}
 use Rattle.std.specs.Prelude.{Result, Ok, Err}
 use Rattle.std.proofs.lemmas.List.{append-nil, length-take, length-drop}
 use Rattle.std.proofs.Math.Nat.{le-div_iff_mul-le, add-mul-div_left, mul-le-mul_right}
 use Rattle.flow_base.specs.declared.limits.Limits.{Limits}
-use Rattle.outside.specs.Disk.{DiskState, IsDisk}
+use Rattle.outside.specs.Disk.{DiskState, IsDisk, OnlyLooks}
 use Rattle.batch_log.specs.Batches.{IsBeforeOrAfter, IsStore}
 use Rattle.batch_log.specs.OneReading.{OneList}
 use Rattle.reduced_store.specs.OnDisk.{OnDisk, SameBut}
@@ -31,6 +31,10 @@ adds_as limits disk disk2 after after2 n same last adds = λ payloads store.
     let few = adds payloads (subst (λ (bytes : List ℕ). IsStore limits.payload payloads bytes) (sym same) store) in
     (few.0, subst (λ (bytes : List ℕ). IsStore limits.payload (payloads ++ few.0) bytes) last few.1, few.2)
 
+-- an observable disk after looks at it
+pub adds_by_looking : (limits : Limits) (disk after after2 : DiskState) (n : ℕ) → after.told → OnlyLooks after after2 → AddsAtMost limits disk after n → AddsAtMost limits disk after2 n
+adds_by_looking limits disk after after2 n told looks adds = adds_as limits disk disk after after2 n refl (sym (looks.same told)) adds
+
 -- one batch more, or none
 one_more : (limits : Limits) (payloads more : List (List ℕ)) (payload bytes : List ℕ) (n : ℕ) → length more ≤ n → IsBeforeOrAfter limits.payload (payloads ++ more) payload bytes
     → (further : List (List ℕ)) × IsStore limits.payload (payloads ++ further) bytes × (length further ≤ n + 1)
@@ -40,14 +44,16 @@ one_more limits payloads more payload bytes n few (inr added) =
     (more ++ payload ∷ [], subst (λ (ps : List (List ℕ)). IsStore limits.payload ps bytes) (append_assoc payloads more (payload ∷ [])) added, omega (arith, few, long))
 
 module _ {D : Type 0} (state : D → DiskState) where
-  pub adds_lawfully : AddsLawfully {K = OnDisk D} SameBut (AddsToStore state)
-  adds_lawfully = λ start limits a b n same adds. subst (λ (d : D). AddsAtMost limits (state start.rows.disk) (state d) n) (sym same.disk) adds
+  pub adds_lawfully : {faults : D → ℕ} {spent : D → Type 0} → AddsLawfully {K = OnDisk D} (SameBut state faults spent) (AddsToStore state)
+  adds_lawfully = λ start limits a b n same adds told.
+      let was = same.disk.uses.told_before told in
+      adds_by_looking limits (state start.rows.disk) (state a.disk) (state b.disk) n was same.disk.looks (adds was)
 
   -- a save adds one batch, whatever comes of it
   pub adds_saved : OneList → (start : Start (OnDisk D)) (limits : Limits) (old new : Engine (OnDisk D)) (m : Moment) (n : ℕ) → ((d : D) → IsDisk (state d)) → (state new.joined.keep.disk).told → AddsOne state old new
       → IsPutAway state start limits old m → AddsToStore state start limits old.joined.keep n → AddsToStore state start limits new.joined.keep (n + 1)
-  adds_saved one start limits old new m n lawful told adds away was = λ payloads store.
-      let few = was payloads store in
+  adds_saved one start limits old new m n lawful told adds away was = λ new_told payloads store.
+      let few = was away.told payloads store in
       let saved = away.saved in
       let ps = saved.stores.store.payloads in
       let now = state old.joined.keep.disk in
@@ -148,10 +154,10 @@ few_of added batch spare log rest more some within =
 
 -- what was added in all
 pub pace_adds : {D : Type 0} (state : D → DiskState) (start : Start (OnDisk D)) (limits : Limits) (rows : OnDisk D) (batch unsaved more most : ℕ) (log rest : List ℕ) (left : Option (List ℕ)) → 0 < batch → most ≤ (unsaved + length log) + batch * more
-    → left ≡ Some rest → KeepsPace (AddsToStore state start limits) batch rows 0 left most → AddsAtMost limits (state start.rows.disk) (state rows.disk) ((unsaved + (length log - length rest)) / batch + more)
-pace_adds state start limits rows batch unsaved more most log rest left some within told pace =
+    → left ≡ Some rest → KeepsPace (AddsToStore state start limits) batch rows 0 left most → (state rows.disk).told → AddsAtMost limits (state start.rows.disk) (state rows.disk) ((unsaved + (length log - length rest)) / batch + more)
+pace_adds state start limits rows batch unsaved more most log rest left some within told pace seen =
     let same = told_long pace.rest rest left pace.told told in
-    adds_more limits (state start.rows.disk) (state rows.disk) pace.added _ (few_of pace.added batch unsaved (length log) (length rest) more some (omega (arith, same, within, pace.within))) pace.adds_so
+    adds_more limits (state start.rows.disk) (state rows.disk) pace.added _ (few_of pace.added batch unsaved (length log) (length rest) more some (omega (arith, same, within, pace.within))) (pace.adds_so seen)
 
 -- a run that begins with nothing unsaved
 pub unsaved_none : (limits : Limits) (disk after : DiskState) (taken batch more : ℕ) → AddsAtMost limits disk after ((0 + taken) / batch + more) → AddsAtMost limits disk after (taken / batch + more)

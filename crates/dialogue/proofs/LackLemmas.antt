@@ -5,7 +5,7 @@ use Rattle.std.specs.List.{AllZip}
 use Rattle.std.specs.Io.KnownBytes.{Keeps}
 use Rattle.std.proofs.lemmas.List.{length-drop}
 use Rattle.flow_base.specs.declared.limits.Limits.{Limits}
-use Rattle.outside.specs.Disk.{DiskState, IsDisk}
+use Rattle.outside.specs.Disk.{DiskState, IsDisk, OnlyLooks}
 use Rattle.audit_lex.specs.History.{History, Byte, Settle}
 use Rattle.batch_log.specs.OneReading.{OneList}
 use Rattle.reach_model.specs.declared.modes.Mode.{Mode}
@@ -129,9 +129,9 @@ lacks_begun apart one limits mode begun disk left n images few = λ bytes h part
     omega (arith, same, less)
 
 module _ {D : Type 0} (state : D → DiskState) where
-  pub lacks_lawfully : LacksLawfully {K = OnDisk D} SameBut (LacksInStore state)
+  pub lacks_lawfully : {faults : D → ℕ} {spent : D → Type 0} → LacksLawfully {K = OnDisk D} (SameBut state faults spent) (LacksInStore state)
   lacks_lawfully = record {
-    same = λ start limits mode a b left n same lacks. subst (λ (d : D). LacksAtMost limits mode start.begun (state d) left n) (sym same.disk) lacks;
+    same = λ start limits mode a b left n same lacks. λ image h part rest at stores told. lacks image h part rest (same.disk.looks.image image at) stores told;
     reads = λ start limits mode rows bytes rest n k few lacks. λ image h part rest2 at stores told.
         let base = lacks image h part bytes at stores refl in
         let same : rest ≡ rest2 = cc in
@@ -237,11 +237,11 @@ lacks_run P (Ok t) p = tt
 lacks_run P (Err why) p = p
 
 -- at the begin of a run over an opened store
-pub lacks_at_begin : {D : Type 0} → Apart → OneList → (state : D → DiskState) (limits : Limits) (mode : Mode) (old new : D) (resume : Bool) (h : History) (before : ℕ) (bytes : List ℕ) (left : Option (List ℕ)) (n : ℕ) → new ≡ old
+pub lacks_at_begin : {D : Type 0} → Apart → OneList → (state : D → DiskState) (limits : Limits) (mode : Mode) (old new : D) (resume : Bool) (h : History) (before : ℕ) (bytes : List ℕ) (left : Option (List ℕ)) (n : ℕ) → OnlyLooks (state old) (state new)
     → ((bs : List ℕ) → (state old).image bs → StoresHistory limits mode bs h before) → LeavesAllBut (length bytes - length (begun_of resume h before bytes).log) bytes left
     → LacksAtMost limits mode (begun_of resume h before bytes) (state new) left n
-lacks_at_begin {D} apart one state limits mode old new resume h before bytes left n same images but =
-    lacks_begun apart one limits mode (begun_of resume h before bytes) (state new) left n (λ bs image. images bs (image_of state old new bs same image)) (λ rest told.
+lacks_at_begin apart one state limits mode old new resume h before bytes left n looks images but =
+    lacks_begun apart one limits mode (begun_of resume h before bytes) (state new) left n (λ bs image. images bs (looks.image bs image)) (λ rest told.
     let same_rest : but.rest ≡ rest = (let both = sym but.told ∙ told in cc) in
     let long = ap length same_rest in
     let few = few_begun resume h before bytes in

@@ -7,13 +7,14 @@ use Rattle.std.proofs.Math.Seq.{drop-append_seam}
 use Rattle.flow_base.specs.declared.limits.Limits.{Limits}
 use Rattle.flow_base.specs.declared.limits.Full.{Full}
 use Rattle.outside.specs.Cause.{Rose}
-use Rattle.outside.specs.Disk.{DiskState, IsDurable, LeavesOnly}
+use Rattle.outside.specs.Disk.{DiskState, IsDisk, IsDurable, LeavesOnly}
 use Rattle.audit_lex.specs.History.{History, Byte, Settle}
 use Rattle.batch_log.specs.declared.log.CommitFault.{CommitFault}
 use Rattle.batch_log.specs.declared.log.CommitFault.TheVariants as commit
 use Rattle.reach_model.specs.declared.modes.Mode.{Mode}
 use Rattle.reach_model.specs.Rows.{Row}
-use Rattle.reduced_store.specs.OnDisk.{OnDisk, SameBut}
+use Rattle.reduced_store.specs.Held.{told_if}
+use Rattle.reduced_store.specs.OnDisk.{OnDisk, SameBut, seen_rows}
 use Rattle.ingest.specs.Counting.{bytes_in}
 use Rattle.ingest.specs.Parts.{Engine}
 use Rattle.ingest.specs.PartTaken.{HasPart, StandsWith}
@@ -28,8 +29,8 @@ use Rattle.report_json.specs.declared.ask.Ask.TheVariants as ask
 use Rattle.dialogue.specs.Dialogue.{Moment, after, settled_on, taken_on}
 use Rattle.dialogue.specs.Runs.{first_of, settled_all, steps_of, whole_of}
 use Rattle.dialogue.specs.Course.{At, CountsOn, HasCauses, StandsAt, kind_of}
-use Rattle.dialogue.specs.Saves.{Begun, IsAllPutAway, IsCutShort, IsOf, IsPutAway, IsReached, CutShort, NamesNoStore, PassesStore, ReadsLawfully, SavesLawfully, Start, StoresFront, byte_of, bytes_of, since}
-use Rattle.outside.proofs.Moments.{leaves_in_a_row, leaves_more}
+use Rattle.dialogue.specs.Saves.{Begun, IsAllPutAway, IsCutShort, IsHiddenIn, IsOf, IsPutAway, IsReached, CutShort, NamesNoStore, PassesStore, ReadsLawfully, RoseIn, SavesLawfully, Start, StoresFront, UsesStore, byte_of, bytes_of, since}
+use Rattle.outside.proofs.Moments.{leaves_in_a_row, leaves_more, leaves_then_looks}
 use Rattle.dialogue.proofs.MomentLemmas.{count_bytes, counted_both, take_all, take_both}
 use Rattle.dialogue.proofs.StoreLemmas.{StaysSaved, bytes_more}
 
@@ -177,26 +178,20 @@ pub causes_on : {T : Type 0} (read read2 write write2 store store2 hidden hidden
 causes_on read read2 write write2 store store2 hidden hidden2 limit (Ok t) e f g k h = tt
 causes_on read read2 write write2 store store2 hidden hidden2 limit (Err why) e f g k h = causes_later read read2 write write2 store store2 hidden hidden2 limit why e f g k h
 
--- why a question isn't answered over rows that may be hidden
-asked_hidden : (read write store store2 told hidden limit : Type 0) (why : Halt) → hidden → (store → store2) → HasCauses ⊥ ⊥ store told ⊥ why → HasCauses read write store2 hidden limit why
-asked_hidden read write store store2 told hidden limit halt.NoMemory hides g h = tt
-asked_hidden read write store store2 told hidden limit halt.ReadFault hides g h = absurd h
-asked_hidden read write store store2 told hidden limit halt.WriteFault hides g h = absurd h
-asked_hidden read write store store2 told hidden limit halt.StoreFault hides g h = g h
-asked_hidden read write store store2 told hidden limit (halt.BadRow place) hides g h = hides
-asked_hidden read write store store2 told hidden limit (halt.Full full) hides g h = tt
-asked_hidden read write store store2 told hidden limit (halt.Unwritten full) hides g h = absurd h
+-- why a question isn't answered over rows that are hidden if they aren't observable
+pub asked_why : (read write store store2 unseen hidden limit : Type 0) (why : Halt) → (unseen → hidden) → (store → store2) → HasCauses ⊥ ⊥ store unseen ⊥ why → HasCauses read write store2 hidden limit why
+asked_why read write store store2 unseen hidden limit halt.NoMemory hides g h = tt
+asked_why read write store store2 unseen hidden limit halt.ReadFault hides g h = absurd h
+asked_why read write store store2 unseen hidden limit halt.WriteFault hides g h = absurd h
+asked_why read write store store2 unseen hidden limit halt.StoreFault hides g h = g h
+asked_why read write store store2 unseen hidden limit (halt.BadRow place) hides g h = hides h
+asked_why read write store store2 unseen hidden limit (halt.Full full) hides g h = tt
+asked_why read write store store2 unseen hidden limit (halt.Unwritten full) hides g h = absurd h
 
--- the same over rows that may be hidden, or else never fail and are always observable
-pub asked_why : (never always read write store store2 told hidden limit : Type 0) (why : Halt) → (never × always) ⊎ hidden → (never → always → why ≡ halt.NoMemory) → (store → store2)
-    → HasCauses ⊥ ⊥ store told ⊥ why → HasCauses read write store2 hidden limit why
-asked_why never always read write store store2 told hidden limit why (inl both) memory g h = let is : why ≡ halt.NoMemory = memory both.0 both.1 in rw is tt
-asked_why never always read write store store2 told hidden limit why (inr hides) memory g h = asked_hidden read write store store2 told hidden limit why hides g h
-
-pub asked_causes : {T : Type 0} (never always read write store store2 told hidden limit : Type 0) (r : Result T Halt) → (never × always) ⊎ hidden → (never → always → IfErr r (λ why. why ≡ halt.NoMemory)) → (store → store2)
-    → IfErr r (HasCauses ⊥ ⊥ store told ⊥) → IfErr r (HasCauses read write store2 hidden limit)
-asked_causes never always read write store store2 told hidden limit (Ok t) seen memory g h = tt
-asked_causes never always read write store store2 told hidden limit (Err why) seen memory g h = asked_why never always read write store store2 told hidden limit why seen memory g h
+pub asked_causes : {T : Type 0} (read write store store2 unseen hidden limit : Type 0) (r : Result T Halt) → (unseen → hidden) → (store → store2)
+    → IfErr r (HasCauses ⊥ ⊥ store unseen ⊥) → IfErr r (HasCauses read write store2 hidden limit)
+asked_causes read write store store2 unseen hidden limit (Ok t) hides g h = tt
+asked_causes read write store store2 unseen hidden limit (Err why) hides g h = asked_why read write store store2 unseen hidden limit why hides g h
 
 module _ {K : Type 0} (alike : K → K → Type 0) (can : K → Type 0) (holds : Start K → Limits → Engine K → Moment → Type 0) (ends : Start K → Limits → K → Moment → Halt → Type 0) (uses rose : K → K → Type 0)
     (laws : SavesLawfully alike can holds ends uses rose) (start : Start K) (limits : Limits) where
@@ -243,8 +238,24 @@ pub reads_in_memory : {K : Type 0} (rows : K → List Row) (hidden : K → Type 
     → ReadsLawfully (λ s. Some (rows s)) (λ s. 0) (λ s. ⊥) hidden uses rose
 reads_in_memory rows hidden uses rose before = record {
   failed = λ a b rises. never_rose rises;
-  seen = λ a. inl ((λ s. (refl, λ none. none)), (λ s. (rows s, refl)));
+  unseen = λ a none. absurd (cc);
   before = before;
+}
+
+-- rows that an observable disk tells are seen
+unseen_untold : (disk : DiskState) (rows : List Row) → IsDisk disk → told_if disk.tells rows ≡ None → ¬ disk.told
+unseen_untold disk rows is none told =
+    let so : disk.tells ≡ true = is.told_is.0 told in
+    let seen : told_if disk.tells rows ≡ Some rows = ap (λ (b : Bool). told_if b rows) so in
+    cc
+
+-- how reads of rows on a disk belong to it
+pub reads_on_disk : {D : Type 0} (state : D → DiskState) (faults : D → ℕ) (spent : D → Type 0) → ((d : D) → IsDisk (state d))
+    → ReadsLawfully (seen_rows state) (λ (s : OnDisk D). faults s.disk) (λ s. spent s.disk) (IsHiddenIn state) (UsesStore state faults spent) (RoseIn faults spent)
+reads_on_disk state faults spent lawful = record {
+  failed = λ a b rises. rises;
+  unseen = λ a none. unseen_untold (state a.disk) a.rows.rows (lawful a.disk) none;
+  before = λ a b uses hidden told. hidden (uses.still_told told);
 }
 
 -- the begin of a run that keeps its rows in memory
@@ -254,8 +265,8 @@ in_memory log rows = record { begun = record { history = []; before = 0; part = 
 -- ---- the laws of saving, for the rows of a store
 
 module _ {D : Type 0} (state : D → DiskState) (start : Start (OnDisk D)) (limits : Limits) where
-  -- a run that goes on while the disk, the log and the mark stay
-  pub further : (old new : Engine (OnDisk D)) (m m2 : Moment) (x : History) → StaysSaved state → SameBut old.joined.keep new.joined.keep → new.joined.tables.marked ≡ old.joined.tables.marked
+  -- a run that goes on while the disk is only looked at, and the log and the mark stay
+  pub further : {faults : D → ℕ} {spent : D → Type 0} (old new : Engine (OnDisk D)) (m m2 : Moment) (x : History) → StaysSaved state faults spent → SameBut state faults spent old.joined.keep new.joined.keep → new.joined.tables.marked ≡ old.joined.tables.marked
       → new.part ≡ old.part + bytes_in x → m2.mode ≡ m.mode → m2.history ≡ m.history ++ x → bytes_of x ++ m2.log ≡ m.log → IsPutAway state start limits old m → IsPutAway state start limits new m2
   further old new m m2 x stays same marked counted mode longer left away =
       let begun = start.begun in
@@ -269,19 +280,18 @@ module _ {D : Type 0} (state : D → DiskState) (start : Start (OnDisk D)) (limi
       record {
         moment = is_of_more begun m m2 x along longer left;
         has_part = record { counted = omega (arith, counted, was, sum); within = omega (arith, within, all, sum) };
-        told = subst (λ (d : D). (state d).told) (sym same.disk) away.told;
+        told = same.disk.uses.still_told away.told;
         first = away.first;
         more = away.more ++ x;
         saved_part = away.saved_part;
         parts = longer ∙ ap (λ (h : History). h ++ x) away.parts ∙ append_assoc away.first away.more x;
-        saved = stays limits m2.mode away.first away.saved_part old new same marked (subst (λ (k : Mode). IsSaved state limits k old away.first away.saved_part) (sym mode) away.saved);
+        saved = stays limits m2.mode away.first away.saved_part old new away.told same marked (subst (λ (k : Mode). IsSaved state limits k old away.first away.saved_part) (sym mode) away.saved);
         reached = λ bytes stores. subst (λ (s : History). IsReached limits m2.mode begun s bytes) (sym more)
             (reached_more limits m2.mode begun (since begun m) x bytes (subst (λ (k : Mode). IsReached limits k begun (since begun m) bytes) (sym mode)
             (away.reached bytes (subst (λ (k : Mode). StoresHistory limits k bytes away.first away.saved_part) mode stores))));
-        leaves = subst (λ (d : D). LeavesOnly (state start.rows.disk) (state d) (IsReached limits m2.mode begun (since begun m2))) (sym same.disk)
-            (leaves_more _ _ (IsReached limits m.mode begun (since begun m)) (IsReached limits m2.mode begun (since begun m2)) away.leaves
+        leaves = leaves_more _ _ (IsReached limits m.mode begun (since begun m)) (IsReached limits m2.mode begun (since begun m2)) (leaves_then_looks _ (state old.joined.keep.disk) _ _ away.leaves same.disk.looks)
             (λ bytes reached. subst (λ (s : History). IsReached limits m2.mode begun s bytes) (sym more)
-            (reached_more limits m2.mode begun (since begun m) x bytes (subst (λ (k : Mode). IsReached limits k begun (since begun m) bytes) (sym mode) reached))));
+            (reached_more limits m2.mode begun (since begun m) x bytes (subst (λ (k : Mode). IsReached limits k begun (since begun m) bytes) (sym mode) reached)));
       }
 
   -- a part of a log that fits is counted with room to spare
@@ -313,11 +323,11 @@ module _ {D : Type 0} (state : D → DiskState) (start : Start (OnDisk D)) (limi
       }
 
   -- a halt that names no limit on the store leaves what was put away
-  pub cut_so : (engine : Engine (OnDisk D)) (rows : OnDisk D) (m : Moment) (why : Halt) → NamesNoStore why → SameBut engine.joined.keep rows → IsPutAway state start limits engine m
+  pub cut_so : {faults : D → ℕ} {spent : D → Type 0} (engine : Engine (OnDisk D)) (rows : OnDisk D) (m : Moment) (why : Halt) → NamesNoStore why → SameBut state faults spent engine.joined.keep rows → IsPutAway state start limits engine m
       → IsCutShort state start limits rows m why
   cut_so engine rows m why none same away = record {
     moment = away.moment;
-    leaves = subst (λ (d : D). LeavesOnly (state start.rows.disk) (state d) (IsReached limits m.mode start.begun (since start.begun m))) (sym same.disk) away.leaves;
+    leaves = leaves_then_looks _ (state engine.joined.keep.disk) _ _ away.leaves same.disk.looks;
     passes = λ full is. absurd (none full is);
   }
 
@@ -438,23 +448,27 @@ module _ {D : Type 0} (state : D → DiskState) (start : Start (OnDisk D)) (limi
       (subst (λ (x : Moment). IsCutShort state start limits rows x why) (taken_again m)
       (cut_later state start limits rows (taken_on all_of m) (taken_on (length m.log) (taken_on all_of m)) (map Byte (take (length m.log) (drop all_of m.log))) why refl refl (log_left (taken_on all_of m) (length m.log)) cut))
 
-  pub all_alike : (rows rows2 : OnDisk D) (m : Moment) → SameBut rows rows2 → IsAllPutAway state start limits rows m → IsAllPutAway state start limits rows2 m
-  all_alike rows rows2 m same all = record {
-    moment = all.moment;
-    stores = subst (λ (d : D). StoresHistory limits m.mode (state d).reads m.history (start.begun.part + bytes_in (since start.begun m))) (sym same.disk) all.stores;
-    durable = subst (λ (d : D). IsDurable (state d)) (sym same.disk) all.durable;
-  }
+  -- what an observable disk has is there after looks at it
+  pub all_alike : {faults : D → ℕ} {spent : D → Type 0} (rows rows2 : OnDisk D) (m : Moment) → (state rows.disk).told → SameBut state faults spent rows rows2 → IsAllPutAway state start limits rows m → IsAllPutAway state start limits rows2 m
+  all_alike rows rows2 m told same all =
+      let looks = same.disk.looks in
+      let reads = looks.same told in
+      record {
+        moment = all.moment;
+        stores = subst (λ (bytes : List ℕ). StoresHistory limits m.mode bytes m.history (start.begun.part + bytes_in (since start.begun m))) (sym reads) all.stores;
+        durable = λ bytes left. all.durable bytes (looks.image bytes left) ∙ sym reads;
+      }
 
   -- what a crash may have left since the start
   pub cut_leaves : (mode : Mode) (rows : OnDisk D) (m : Moment) (why : Halt) → m.mode ≡ mode → IsCutShort state start limits rows m why
       → LeavesOnly (state start.rows.disk) (state rows.disk) (IsReached limits mode start.begun (since start.begun m))
   cut_leaves mode rows m why is cut = subst (λ (k : Mode). LeavesOnly (state start.rows.disk) (state rows.disk) (IsReached limits k start.begun (since start.begun m))) is cut.leaves
 
-  pub away_leaves : (mode : Mode) (engine : Engine (OnDisk D)) (rows : OnDisk D) (m : Moment) → m.mode ≡ mode → SameBut engine.joined.keep rows → IsPutAway state start limits engine m
+  pub away_leaves : {faults : D → ℕ} {spent : D → Type 0} (mode : Mode) (engine : Engine (OnDisk D)) (rows : OnDisk D) (m : Moment) → m.mode ≡ mode → SameBut state faults spent engine.joined.keep rows → IsPutAway state start limits engine m
       → LeavesOnly (state start.rows.disk) (state rows.disk) (IsReached limits mode start.begun (since start.begun m))
   away_leaves mode engine rows m is same away =
       subst (λ (k : Mode). LeavesOnly (state start.rows.disk) (state rows.disk) (IsReached limits k start.begun (since start.begun m))) is
-      (subst (λ (d : D). LeavesOnly (state start.rows.disk) (state d) (IsReached limits m.mode start.begun (since start.begun m))) (sym same.disk) away.leaves)
+      (leaves_then_looks _ (state engine.joined.keep.disk) _ _ away.leaves same.disk.looks)
 
   pub cut_passes : (mode : Mode) (rows : OnDisk D) (m : Moment) (why : Halt) (full : Full) → m.mode ≡ mode → IsCutShort state start limits rows m why → why ≡ halt.Unwritten full
       → PassesStore limits mode start.begun (since start.begun m) full

@@ -44,7 +44,7 @@ pub leaves_same : (state : DiskState) (P : List ℕ → Type 0) → IsDisk state
 leaves_same state P disk images = leaves_more state state state.image P (leaves_at_start state disk) images
 
 -- a look at a disk, and then a run
-leaves_looked : (a b c : DiskState) (P : List ℕ → Type 0) → IsDisk a → OnlyLooks a b → ((bytes : List ℕ) → a.image bytes → P bytes) → LeavesOnly b c P → LeavesOnly a c P
+pub leaves_looked : (a b c : DiskState) (P : List ℕ → Type 0) → IsDisk a → OnlyLooks a b → ((bytes : List ℕ) → a.image bytes → P bytes) → LeavesOnly b c P → LeavesOnly a c P
 leaves_looked a b c P disk looks images run = leaves_in_a_row a b c P (leaves_more a b a.image P (leaves_by_looking a b disk looks) images) run
 
 -- a run that begins with another name of its disk
@@ -95,36 +95,15 @@ pub rose_on : (a b c : ℕ) (was spent : Type 0) → b ≤ c → (was → spent)
 rose_on a b c was spent low stays (inl above) = inl (omega (arith, low, above))
 rose_on a b c was spent low stays (inr none) = inr (stays none)
 
--- calls that aren't blamed, one after another
-pub uses_both : {D : Type 0} (state : D → DiskState) (faults : D → ℕ) (spent : D → Type 0) (a b c : D) → UsesDisk state faults spent a b ⊥ → UsesDisk state faults spent b c ⊥ → UsesDisk state faults spent a c ⊥
-uses_both state faults spent a b c first second =
-    let low = first.later in
-    let high = second.later in
-    record {
-      still_told = λ told. second.still_told (first.still_told told);
-      told_before = λ told. first.told_before (second.told_before told);
-      later = omega (arith, low, high);
-      stays = λ was. second.stays (first.stays was);
-      rose = λ none. absurd none;
-    }
-
 -- calls that are blamed for a count that rose
 pub uses_blamed : {D : Type 0} (state : D → DiskState) (faults : D → ℕ) (spent : D → Type 0) (a b : D) (P Q : Type 0) → UsesDisk state faults spent a b P → (Q → Rose (faults a) (faults b) (spent b)) → UsesDisk state faults spent a b Q
 uses_blamed state faults spent a b P Q uses rose = record { still_told = uses.still_told; told_before = uses.told_before; later = uses.later; stays = uses.stays; rose = rose }
 
-pub uses_same : {D : Type 0} (state : D → DiskState) (faults : D → ℕ) (spent : D → Type 0) (a b : D) → b ≡ a → UsesDisk state faults spent a b ⊥
-uses_same {D} state faults spent a b same = subst (λ (d : D). UsesDisk state faults spent a d ⊥) (sym same) (record {
-  still_told = λ told. told;
-  told_before = λ told. told;
-  later = omega arith;
-  stays = λ was. was;
-  rose = λ none. absurd none;
-})
-
 -- ---- a log that is taken
 
-abbrev pub StaysSaved : {D : Type 0} → (D → DiskState) → Type 0
-StaysSaved {D} state = (limits : Limits) (mode : Mode) (h : History) (part : ℕ) (old new : Engine (OnDisk D)) → SameBut old.joined.keep new.joined.keep
+abbrev pub StaysSaved : {D : Type 0} → (D → DiskState) → (D → ℕ) → (D → Type 0) → Type 0
+StaysSaved {D} state faults spent = (limits : Limits) (mode : Mode) (h : History) (part : ℕ) (old new : Engine (OnDisk D)) → (state old.joined.keep.disk).told
+    → SameBut state faults spent old.joined.keep new.joined.keep
     → new.joined.tables.marked ≡ old.joined.tables.marked → IsSaved state limits mode old h part → IsSaved state limits mode new h part
 
 -- what stops the engine within the log stops it within all of it, settled

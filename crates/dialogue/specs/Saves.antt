@@ -1,5 +1,5 @@
 -- What a run puts on the disk of a store as it goes, and what a crash may leave of it.
-use Rattle.std.specs.Prelude.{◌≡◌, ◌⊎◌, ◌≤◌, ⊤, ℕ, ◌+◌, ◌*◌, List, [], ◌∷◌, ◌++◌, flat_map, length, take, drop, Option, Some, Result, Ok, Err}
+use Rattle.std.specs.Prelude.{◌≡◌, ◌⊎◌, ◌≤◌, ⊤, ℕ, ◌+◌, ◌*◌, List, [], ◌∷◌, ◌++◌, flat_map, length, take, drop, Option, None, Some, Result, Ok, Err}
 use Rattle.flow_base.specs.declared.limits.Full.{Full}
 use Rattle.flow_base.specs.declared.limits.Limits.{Limits}
 use Rattle.outside.specs.Cause.{Rose}
@@ -9,7 +9,6 @@ use Rattle.batch_log.specs.Batches.{IsStore}
 use Rattle.batch_log.specs.Log.{Log}
 use Rattle.reach_model.specs.declared.modes.Mode.{Mode}
 use Rattle.reach_model.specs.Rows.{Row}
-use Rattle.kept_flows.specs.Answering.{AlwaysTold, NeverFail}
 use Rattle.row_codec.specs.declared.rows.StoreRow.{StoreRow}
 use Rattle.reduced_store.specs.OnDisk.{OnDisk}
 use Rattle.ingest.specs.Counting.{bytes_in}
@@ -158,9 +157,9 @@ abbrev pub AddsAtMost : Limits → (disk after : DiskState) → (most : ℕ) →
 AddsAtMost limits disk after most = (payloads : List (List ℕ)) → IsStore limits.payload payloads disk.reads
     → (more : List (List ℕ)) × IsStore limits.payload (payloads ++ more) after.reads × (length more ≤ most)
 
--- the same of the disk of a store, since the start
+-- the same of the disk of a store, since the start, if it is observable
 abbrev pub AddsToStore : {D : Type 0} → (D → DiskState) → Start (OnDisk D) → Limits → OnDisk D → (most : ℕ) → Type 0
-AddsToStore state start limits rows most = AddsAtMost limits (state start.rows.disk) (state rows.disk) most
+AddsToStore state start limits rows most = (state rows.disk).told → AddsAtMost limits (state start.rows.disk) (state rows.disk) most
 
 -- rows in memory add none
 abbrev pub adds_nothing : {K : Type 0} → Start K → Limits → K → (most : ℕ) → Type 0
@@ -241,12 +240,12 @@ UsesStore state faults spent old new = UsesDisk state faults spent old.disk new.
 abbrev pub RoseIn : {D : Type 0} → (D → ℕ) → (D → Type 0) → OnDisk D → OnDisk D → Type 0
 RoseIn faults spent old new = Rose (faults old.disk) (faults new.disk) (spent new.disk)
 
--- How reads of rows belong to what is said of saving. A read that failed is a failed call. Either no read fails and the rows are always
--- observable, or the rows may be hidden, and then they were so before.
+-- How reads of rows belong to what is said of saving. A read that failed is a failed call. Rows that aren't observable are hidden, and
+-- then they were so before.
 pub record ReadsLawfully {K : Type 0} (rows : K → Option (List Row)) (faults : K → ℕ) (spent : K → Type 0) (hidden : K → Type 0)
     (uses rose : K → K → Type 0) : Type 0 where
   pub failed : (a b : K) → Rose (faults a) (faults b) (spent b) → rose a b
-  pub seen : (a : K) → (NeverFail faults spent × AlwaysTold rows) ⊎ hidden a
+  pub unseen : (a : K) → rows a ≡ None → hidden a
   pub before : (a b : K) → uses a b → hidden b → hidden a
 
 -- rows in memory are never hidden

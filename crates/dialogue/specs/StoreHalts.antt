@@ -39,6 +39,8 @@ open_halt opening.NoMemory = over.Run halt.NoMemory
 abbrev pub restore_halt : RestoreFault → StoreHalt
 restore_halt (restore.BadStore place) = over.BadStore place
 restore_halt (restore.Full full) = over.Run (halt.Full full)
+restore_halt restore.StoreFault = over.Run halt.StoreFault
+restore_halt (restore.BadRow place) = over.Run (halt.BadRow place)
 restore_halt restore.NoMemory = over.Run halt.NoMemory
 
 -- no place, and no modes

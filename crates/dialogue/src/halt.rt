@@ -93,6 +93,8 @@ pub fn halt_of_restore(fault: RestoreFault) -> StoreHalt
     match fault {
         RestoreFault::BadStore(place) => StoreHalt::BadStore(place),
         RestoreFault::Full(full) => StoreHalt::Run(Halt::Full(full)),
+        RestoreFault::StoreFault => StoreHalt::Run(Halt::StoreFault),
+        RestoreFault::BadRow(place) => StoreHalt::Run(Halt::BadRow(place)),
         RestoreFault::NoMemory => StoreHalt::Run(Halt::NoMemory),
     }
 }

@@ -80,7 +80,7 @@ pub fn reply_of<R: Reducer, K: Keep>(
         → IfErr result (IsDue never) }
     ensures causes { IfErr result (HasCauses ⊥ ⊥
         (Rose (K.faults engine.old.joined.keep) (K.faults engine.new.joined.keep)
-        (K.spent engine.new.joined.keep)) (engine.old.joined.kept.told ≡ None) ⊥) }
+        (K.spent engine.new.joined.keep)) (K.rows engine.old.joined.keep ≡ None) ⊥) }
     ensures stands { (limits : Limits) (h : History)
         → StandsFor limits engine.old h → StandsFor limits engine.new h }
     ensures same { SameButRows engine.old engine.new }

@@ -1,12 +1,13 @@
 -- The numbers of keys among those that are known and those that are new.
-use Rattle.std.proofs.Common.{◌≡◌, ◌<◌, ◌≤◌, ◌+◌, ◌++◌, ◌∙◌, ◌||◌, sym, ap, refl, not, cond, suc, ℕ, Bool, true, false, List, [], ◌∷◌, length, subst, if◌then◌else◌, append_assoc, arith}
+use Rattle.std.proofs.Common.{◌≡◌, ◌<◌, ◌≤◌, ◌+◌, ◌++◌, ◌∙◌, ◌||◌, sym, ap, refl, not, cond, suc, ℕ, Bool, true, false, List, [], ◌∷◌, length, subst, if◌then◌else◌, append_assoc, arith, Some, None}
 use Rattle.std.proofs.lemmas.Grind.{common_steps}
-use Rattle.std.specs.List.{list_any, position_or_len}
+use Rattle.std.specs.List.{list_any, position, position_or_len}
 use Rattle.std.proofs.lemmas.List.Folds.{list_any-append}
 use Rattle.flow_base.specs.declared.types.Key.{Key}
 use Rattle.flow_base.specs.contracts.types.KeyPartialEq.TheImpl.{ghosts}
 use Rattle.acts.specs.Keys.{put_new}
 use Rattle.acts.specs.Flows.{number_in}
+use Rattle.acts.proofs.Entering.{found_within, none_found as no_place}
 use Rattle.std.proofs.lemmas.List.{reverse-append}
 use Rattle.flow_events.specs.Entering.{entered}
 use Rattle.flow_events.specs.Added.{AreNew}
@@ -29,6 +30,31 @@ module _ {X : Type 0} (p : X → Bool) where
   place_after (x ∷ xs) ys none =
       after_step (p x) (list_any p xs) (position_or_len p (xs ++ ys)) (length xs + position_or_len p ys) (place_after xs ys) none
       ∙ (let e : 1 + (length xs + position_or_len p ys) ≡ suc (length xs) + position_or_len p ys = omega arith in e)
+
+module _ {X : Type 0} (p : X → Bool) where
+  found_by : (b : Bool) (xs : List X) (place : ℕ) → list_any p xs ≡ b → position p xs ≡ Some place → b ≡ true
+  found_by true xs place any is = refl
+  found_by false xs place any is = let here = no_place p xs any in grind (arith, common_steps, here, is)
+
+  -- where a place is found, one passes
+  pub there_if : (xs : List X) (place : ℕ) → position p xs ≡ Some place → list_any p xs ≡ true
+  there_if xs place is = found_by (list_any p xs) xs place refl is
+
+  missed_by : (b : Bool) (xs : List X) → list_any p xs ≡ b → position p xs ≡ None → b ≡ false
+  missed_by true xs any is = let below = found_within p xs any in grind (arith, common_steps, below, is)
+  missed_by false xs any is = refl
+
+  -- where no place is found, none passes
+  pub none_if : (xs : List X) → position p xs ≡ None → list_any p xs ≡ false
+  none_if xs is = missed_by (list_any p xs) xs refl is
+
+-- a key that is there isn't put again
+pub put_there : (keys : List Key) (key : Key) → list_any (ghosts.eq key) keys ≡ true → put_new ghosts.eq keys key ≡ keys
+put_there keys key there = rw there refl
+
+-- another key is put after them
+pub put_last : (keys : List Key) (key : Key) → list_any (ghosts.eq key) keys ≡ false → put_new ghosts.eq keys key ≡ keys ++ key ∷ []
+put_last keys key none = rw none refl
 
 -- a key that is known has its number
 pub known_number : (known keys : List Key) (key : Key) → list_any (ghosts.eq key) known ≡ true → number_in (known ++ keys) key ≡ number_in known key

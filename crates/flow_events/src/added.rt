@@ -1,24 +1,22 @@
 //! The objects and flows that an event adds.
-ghost use Rattle.std.specs.Prelude.{◌≡◌, ◌≤◌, ◌≢◌, [], Some, length, OnOk, IfOk, reverse};
+ghost use Rattle.std.specs.Prelude.{◌≡◌, ◌≤◌, ◌<◌, ◌≢◌, [], Some, length, OnOk, IfOk, position, reverse};
 ghost use Rattle.flow_base.specs.contracts.types.KeyPartialEq.TheImpl.{ghosts};
+ghost use Rattle.std.specs.List.{position_or_len};
 ghost use Rattle.acts.specs.Keys.{put_new};
 ghost use Rattle.acts.specs.Flows.{number_in, with_ends};
 ghost use Rattle.flow_events.specs.Added.{AddsEnds, AddsFlow, AddsKey, IfFull, IsPast, StayNew, StayNumbered, objects_in};
 
 use crate::fault::PrepareFault;
-use crate::parts::newest_keys;
 use acts::Link;
 use entity_names::Entities;
 use flow_base::{EntityId, Flow, Full, Key, Limit, List, NoMemory, Stamp, equal_keys_are_one};
-use indexmap::IndexSet;
 use std::alloc::Global;
 use std::marker::Model;
-use table_salt::Salt;
 
 /// The objects and flows that an event adds.
 #[derive(Drop)]
 pub struct Added {
-    keys: IndexSet<Key, Salt>,
+    keys: Vec<Key>,
     flows: List<Flow>,
 }
 
@@ -27,16 +25,16 @@ impl Model for Added {
 
     ghost Value = { Additions };
 
-    ghost view = { λ a. record { keys = a.keys.keys; flows = a.flows } };
+    ghost view = { λ a. record { keys = a.keys.items; flows = a.flows } };
 }
 
 impl Added {
     /// Nothing.
-    pub fn new(alloc: Global, salt: Salt) -> Added
+    pub fn new(alloc: Global) -> Added
         ensures { result ≡ record { keys = []; flows = [] } }
     {
         Added {
-            keys: IndexSet::with_hasher(alloc, salt),
+            keys: Vec::new(alloc),
             flows: List::new(alloc),
         }
     }
@@ -59,10 +57,7 @@ impl Added {
         if let Some(id) = entities.id(&key) {
             return Ok(id);
         }
-        let place = match self.keys.insert_full(key) {
-            Ok((index, _)) => entities.count() as usize + index,
-            Err(_) => return Err(PrepareFault::NoMemory),
-        };
+        let place = entities.count() as usize + put_new(&mut self.keys, key)?;
         if place >= most as usize {
             return Err(PrepareFault::Full(Full {
                 limit: Limit::Entities,
@@ -115,12 +110,37 @@ impl Added {
     }
 
     /// The objects, newest first, and the flows.
-    pub fn apart(self, alloc: Global) -> Result<(List<Key>, List<Flow>), NoMemory>
-        ensures keys { IfOk result (λ parts. parts.0 ≡ reverse self.keys) }
-        ensures flows { IfOk result (λ parts. parts.1 ≡ self.flows) }
+    pub fn apart(self) -> (List<Key>, List<Flow>)
+        ensures keys { result.0 ≡ reverse self.keys }
+        ensures flows { result.1 ≡ self.flows }
     {
-        let Added { keys, flows } = self;
-        let keys = newest_keys(alloc, keys)?;
-        Ok((keys, flows))
+        let Added { mut keys, flows } = self;
+        keys.reverse();
+        (List::from_vec(keys), flows)
     }
+}
+
+// The place of a key among these, after which it is put if it is new. They are the new keys of one event, so they are few.
+fn put_new(keys: &mut Vec<Key>, key: Key) -> Result<usize, NoMemory>
+    ensures keys { OnOk result (keys.new.items ≡ put_new ghosts.eq keys.old.items key) }
+    ensures place { IfOk result
+        (λ place. place ≡ position_or_len (ghosts.eq key) keys.old.items) }
+    ensures within { IfOk result (λ place. place < length keys.new.items) }
+    ensures few { IfOk result (λ place. place ≤ length keys.old.items) }
+{
+    match find(keys.as_slice(), &key) {
+        Some(place) => Ok(place),
+        None => {
+            let place = keys.len();
+            keys.push(key)?;
+            Ok(place)
+        }
+    }
+}
+
+// The place of a key among these.
+fn find(keys: &[Key], key: &Key) -> Option<usize>
+    ensures { result ≡ position (ghosts.eq key.now) keys.now }
+{
+    keys.iter().position(|known| key == known)
 }

@@ -98,7 +98,7 @@ impl Draft {
         Ok(Draft {
             births,
             given: List::new(alloc),
-            added: Added::new(alloc, salt),
+            added: Added::new(alloc),
         })
     }
 

@@ -4,9 +4,7 @@ ghost use Rattle.std.specs.Prelude.{◌≡◌, List, IfOk, map, reverse};
 use crate::given::Given;
 use acts::copy_key;
 use flow_base::{Key, List, NoMemory};
-use indexmap::IndexSet;
 use std::alloc::Global;
-use table_salt::Salt;
 
 /// The items with the last one first.
 pub fn newest_first<T: Drop>(alloc: Global, items: List<T>) -> Result<List<T>, NoMemory>
@@ -16,18 +14,6 @@ pub fn newest_first<T: Drop>(alloc: Global, items: List<T>) -> Result<List<T>, N
     let mut turned = List::new(alloc);
     while let Some(item) = items.pop() {
         turned.push(item)?;
-    }
-    Ok(turned)
-}
-
-/// The keys with the last one first.
-pub fn newest_keys(alloc: Global, keys: IndexSet<Key, Salt>) -> Result<List<Key>, NoMemory>
-    ensures { IfOk result (λ turned. turned ≡ reverse keys.keys) }
-{
-    let mut keys = keys;
-    let mut turned = List::new(alloc);
-    while let Some(key) = keys.pop() {
-        turned.push(key)?;
     }
     Ok(turned)
 }

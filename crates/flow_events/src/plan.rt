@@ -65,7 +65,7 @@ pub fn plan_of(
         added,
     } = draft;
     let given = newest_first(alloc, given)?;
-    let (keys, flows) = added.apart(alloc)?;
+    let (keys, flows) = added.apart();
     Ok(Plan {
         acts,
         see,

@@ -121,7 +121,7 @@ ripe_so {K} limits joined seen s is ripe stands = ripe limits s (subst (λ (j : 
 pub same_some : {A : Type 0} (a b : A) → Some a ≡ Some b → a ≡ b
 same_some a b e = cc e
 
-none_some : {A : Type 0} (a : A) → None ≡ Some a → ⊥
+pub none_some : {A : Type 0} (a : A) → None ≡ Some a → ⊥
 none_some a e = cc e
 
 pub never_none : (limits : Limits) (s : Joining) → is_some (ripe_key limits s) ≡ true → None ≡ next_event limits s → ⊥

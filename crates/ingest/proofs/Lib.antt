@@ -38,3 +38,5 @@ pub mod CommitRowLemmas
 pub mod Saving
 pub mod Remade
 pub mod Staying
+pub mod Told
+pub mod Unread

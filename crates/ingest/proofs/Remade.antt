@@ -9,7 +9,7 @@ use Rattle.std.proofs.lemmas.List.{take_more}
 use Rattle.std.proofs.lemmas.List.Sums.{sum_by-append}
 use Rattle.flow_base.specs.declared.limits.Limits.{Limits}
 use Rattle.name_text.specs.Addresses.{text_of}
-use Rattle.outside.specs.Disk.{DiskState, IsDurable}
+use Rattle.outside.specs.Disk.{DiskState, IsDisk}
 use Rattle.audit_lex.specs.History.{History}
 use Rattle.audit_lex.specs.LineClass.{Class, Used, Malformed, text_class}
 use Rattle.audit_lex.specs.declared.faults.LineFault.TheVariants as line_fault
@@ -30,7 +30,8 @@ use Rattle.record_join.specs.Events.{Joining, count_keys, is_among, is_past, is_
 use Rattle.record_join.specs.PutBack.{fresh}
 use Rattle.record_join.specs.StandsFor.{Joiner, StandsFor as JoinStandsFor}
 use Rattle.record_join.specs.declared.clock.JoinClock.{JoinClock}
-use Rattle.reduced_store.specs.OnDisk.{OnDisk, SameBut}
+use Rattle.reduced_store.specs.Held.{told_if}
+use Rattle.reduced_store.specs.OnDisk.{OnDisk, SameBut, seen_rows}
 use Rattle.reduced_store.specs.Opening.{IsStoreRead}
 use Rattle.reduced_store.specs.Reading.{IsFound, IsOfMode, closing_rows, table_rows}
 use Rattle.reduced_store.specs.Restoring.{CanBeRestored, SaySame}
@@ -63,6 +64,7 @@ use Rattle.ingest.specs.Waiting.{waiting_by}
 use Rattle.ingest.specs.declared.restoring.Remade.{Remade}
 use Rattle.ingest.specs.declared.restoring.Unrestored.{Unrestored}
 use Rattle.ingest.proofs.Following.{same_some}
+use Rattle.ingest.proofs.Told.{rows_told, told_by}
 use Rattle.ingest.proofs.Limiting.{full_none}
 use Rattle.ingest.proofs.PutBack.{flat, leads_groups, waiting_flat}
 use Rattle.ingest.proofs.Reading.{spelled_to, used_class}
@@ -168,10 +170,10 @@ few_waiting limits state rows unripe =
 
 -- ---- the parts go together
 
--- the kept rows are before the State, and so go with the tables
-pub remade_together : (limits : Limits) (state : StateRow) (rows : List StoreRow) (R : List Row) (mode : Mode) (parts : Remade) → IsRemade limits state rows parts → CanBeRestored (bounds_of limits) rows R → state_of rows ≡ Some state
-    → GoTogether parts.join.clock.effective parts.tables (kept_by mode (Some R) (length R) (known (firsts R)))
-remade_together limits state rows R mode parts is can said =
+-- the kept rows are before the State, and so go with the tables, whether or not they are told
+pub remade_together : (limits : Limits) (state : StateRow) (rows : List StoreRow) (tells : Bool) (R : List Row) (mode : Mode) (parts : Remade) → IsRemade limits state rows parts → CanBeRestored (bounds_of limits) rows R → state_of rows ≡ Some state
+    → GoTogether parts.join.clock.effective parts.tables (kept_by mode (told_if tells R) (length R) (known (firsts R)))
+remade_together limits state rows tells R mode parts is can said =
     let same : can.state ≡ state = same_some _ _ (sym can.state_is ∙ said) in
     let flows_are : parts.tables.flows ≡ state.flows = is.counted.flows_are ∙ ap flows_said said in
     let clock : parts.join.clock.effective ≡ state.effective =
@@ -182,7 +184,7 @@ remade_together limits state rows R mode parts is can said =
         known = can.objects ∙ ap length (sym can.new) ∙ ap length (sym is.counted.keys_are);
         counted = (let low = can.counted in let f = ap (λ (s : StateRow). s.flows) same in omega (arith, low, f, flows_are));
         before = λ S told f there.
-            let here = can.before f (subst (λ (l : List Row). IsFlowOf l f) (sym (same_some _ _ told)) there) in
+            let here = can.before f (subst (λ (l : List Row). IsFlowOf l f) (sym (told_by tells R S told).1) there) in
             let a = ap (λ (s : StateRow). s.flows) same in
             let b = ap (λ (s : StateRow). s.effective) same in
             record { place = omega (arith, here.0, a, flows_are); time = omega (arith, here.1, b, clock) };
@@ -229,7 +231,7 @@ no_batches : (mode : Mode) (batches : List (List StoreRow)) → AllZip (IsPayloa
 no_batches mode [] none = refl
 no_batches mode (b ∷ batches) none = absurd none
 
-module _ {D : Type 0} (state : D → DiskState) (limits : Limits) (mode : Mode) (opened : Opened D) (opens : IsOpen state limits opened)
+module _ {D : Type 0} (state : D → DiskState) (faults : D → ℕ) (spent : D → Type 0) (limits : Limits) (mode : Mode) (opened : Opened D) (opens : IsOpen state limits opened)
     (h : History) (part : ℕ) (stores : StoresHistory limits mode (state opened.store.disk).reads h part) (one : OneList) (was : WasStored text_of limits.names mode (found_of opened) (moment_of limits h part)) where
   -- a store without a batch stores the empty history
   pub nothing_stored : opened.mode ≡ None → h ≡ []
@@ -239,15 +241,16 @@ module _ {D : Type 0} (state : D → DiskState) (limits : Limits) (mode : Mode) 
       let same : stores.store.payloads ≡ opens.read.0 = one limits.payload stores.store.payloads opens.read.0 _ limits.payload_within stores.store.store (opened.store.log.last, opens.read.1) in
       stores.begun (no_batches mode stores.store.batches (subst (λ (ps : List (List ℕ)). AllZip (IsPayload mode) stores.store.batches ps) (same ∙ empty.1) stores.store.spelled))
 
-  -- an engine of the same store whose mark is after the acts of the history has it saved
-  pub saved_again : (engine : Engine (OnDisk D)) → SameBut opened.store engine.joined.keep → engine.joined.tables.marked ≡ Some (length (taken_in limits (events_of limits h))) → IsSaved state limits mode engine h part
+  -- an engine of the same store, whose disk was only looked at, and whose mark is after the acts of the history has it saved
+  pub saved_again : (engine : Engine (OnDisk D)) → SameBut state faults spent opened.store engine.joined.keep → engine.joined.tables.marked ≡ Some (length (taken_in limits (events_of limits h))) → IsSaved state limits mode engine h part
   saved_again engine same marked =
-      let disk : engine.joined.keep.disk ≡ opened.store.disk = same.disk in
+      let now = state engine.joined.keep.disk in
+      let reads : now.reads ≡ (state opened.store.disk).reads = same.disk.looks.same opens.told in
       let log : LogHas opened.store.log opens.read.0 (state opened.store.disk).reads = subst (λ (n : ℕ). HasBatches n opens.read.0 opened.store.log.last (state opened.store.disk).reads) (sym opens.most) opens.read.1 in
       saved_so state limits mode engine h part opens.read.0 one
-      (subst (λ (d : D). StoresHistory limits mode (state d).reads h part) (sym disk) stores)
-      (subst (λ (l : Log). LogHas l opens.read.0 (state engine.joined.keep.disk).reads) (sym same.log) (subst (λ (d : D). LogHas opened.store.log opens.read.0 (state d).reads) (sym disk) log))
-      (subst (λ (d : D). IsDurable (state d)) (sym disk) opens.durable)
+      (subst (λ (b : List ℕ). StoresHistory limits mode b h part) (sym reads) stores)
+      (subst (λ (l : Log). LogHas l opens.read.0 now.reads) (sym same.log) (subst (λ (b : List ℕ). LogHas opened.store.log opens.read.0 b) (sym reads) log))
+      (λ c left. opens.durable c (same.disk.looks.image c left) ∙ sym reads)
       (ap (λ (l : Log). l.most) same.log ∙ opens.most)
       (ap (λ (l : Log). l.end) same.log ∙ opens.end)
       (subst (λ (R : List Row). Keeps mode (flows_in limits (events_of limits h)) R) (sym (same.saved ∙ opens.saved ∙ was.kept)) was.tables.rows_are)
@@ -262,18 +265,19 @@ module _ {D : Type 0} (state : D → DiskState) (limits : Limits) (mode : Mode) 
       by (inr closes) = (closes.1, same_some _ _ (sym found ∙ closes.1.state))
 
 -- the result of an engine's parts stands for the history of the store
-pub stored_by : {D : Type 0} (state : D → DiskState) (limits : Limits) (mode : Mode) (opened : Opened D) (said : StateRow) (parts : Remade) (r : Result (Engine (OnDisk D)) (Unrestored (OnDisk D)))
-    → WereStored → LeftSaysWhat → OneList → state_of opened.rows ≡ Some said → IsRemade limits said opened.rows parts
-    → IfOk r (λ engine. StandsForLeft mode (Some opened.store.rows.rows) parts.join parts.tables said engine.joined) → IfOk r (λ engine. engine.reader ≡ parts.reader) → IfOk r (λ engine. engine.part ≡ said.part)
-    → IfOk r (λ engine. engine.joined.tables.marked ≡ Some parts.tables.acts) → SameBut opened.store (store_after r) → IfOk r (StandsForStored state limits mode opened)
-stored_by state limits mode opened said parts (Ok engine) were left_says one found is joined reader part marked same = λ h p opens stores.
+pub stored_by : {D : Type 0} (state : D → DiskState) (faults : D → ℕ) (spent : D → Type 0) (limits : Limits) (mode : Mode) (opened : Opened D) (said : StateRow) (parts : Remade) (r : Result (Engine (OnDisk D)) (Unrestored (OnDisk D)))
+    → ((disk : D) → IsDisk (state disk)) → WereStored → LeftSaysWhat → OneList → state_of opened.rows ≡ Some said → IsRemade limits said opened.rows parts
+    → IfOk r (λ engine. StandsForLeft mode (seen_rows state opened.store) parts.join parts.tables said engine.joined) → IfOk r (λ engine. engine.reader ≡ parts.reader) → IfOk r (λ engine. engine.part ≡ said.part)
+    → IfOk r (λ engine. engine.joined.tables.marked ≡ Some parts.tables.acts) → SameBut state faults spent opened.store (store_after r) → IfOk r (StandsForStored state limits mode opened)
+stored_by state faults spent limits mode opened said parts (Ok engine) disks were left_says one found is joined reader part marked same = λ h p opens stores.
     let m = moment_of limits h p in
     let was = were text_of limits mode (state opened.store.disk).reads m opened.store.log (found_of opened) opens.read stores.store in
-    let closes = closes_so state limits mode opened opens h p stores one was said found in
-    let left : IsLeftOf limits mode (Some opened.store.rows.rows) parts.join parts.tables said h p = record {
+    let closes = closes_so state faults spent limits mode opened opens h p stores one was said found in
+    let told = rows_told state opened.store (disks opened.store.disk) opens.told in
+    let left : IsLeftOf limits mode (seen_rows state opened.store) parts.join parts.tables said h p = record {
       rows = was.rows;
       tables_are = was.tables;
-      told_are = ap (λ (R : List Row). Some R) was.kept;
+      told_are = told ∙ ap (λ (R : List Row). Some R) was.kept;
       state_is = closes.1;
       limits_are = is.bounds.limits_are;
       join_is = is.history h p closes.0 closes.1;
@@ -282,30 +286,30 @@ stored_by state limits mode opened said parts (Ok engine) were left_says one fou
     } in
     let stands : StandsFor limits engine h = record {
       reader = subst (λ (x : Reader). ReaderStandsFor limits x h) (sym reader) (is.reads h p closes.1);
-      joined = joined limits (state_of_history limits h) (events_of limits h) (left_says limits mode (Some opened.store.rows.rows) parts.join parts.tables said h p left);
+      joined = joined limits (state_of_history limits h) (events_of limits h) (left_says limits mode (seen_rows state opened.store) parts.join parts.tables said h p left);
       fits = stores.fits;
     } in
     let acts : parts.tables.acts ≡ length (taken_in limits (events_of limits h)) = is.counted.acts_are ∙ ap acts_in found ∙ ap (λ (s : StateRow). s.acts) closes.1 in (
       record { stands = stands; has_part = record { counted = part ∙ ap (λ (s : StateRow). s.part) closes.1; within = stores.within } },
-      saved_again state limits mode opened opens h p stores one was engine same (marked ∙ ap (λ (n : ℕ). Some n) acts),
+      saved_again state faults spent limits mode opened opens h p stores one was engine same (marked ∙ ap (λ (n : ℕ). Some n) acts),
     )
-stored_by state limits mode opened said parts (Err back) were left_says one found is joined reader part marked same = tt
+stored_by state faults spent limits mode opened said parts (Err back) disks were left_says one found is joined reader part marked same = tt
 
 -- an engine of a store without a batch stands for the empty history of the store
-pub stored_nothing : {D : Type 0} (state : D → DiskState) (limits : Limits) (mode : Mode) (opened : Opened D) (engine : Engine (OnDisk D)) → WereStored → OneList → state_of opened.rows ≡ None
-    → StandsFor limits engine [] → engine.part ≡ 0 → engine.joined.tables.marked ≡ Some 0 → SameBut opened.store engine.joined.keep → StandsForStored state limits mode opened engine
-stored_nothing {D} state limits mode opened engine were one none stands part marked same = λ h p opens stores.
+pub stored_nothing : {D : Type 0} (state : D → DiskState) (faults : D → ℕ) (spent : D → Type 0) (limits : Limits) (mode : Mode) (opened : Opened D) (engine : Engine (OnDisk D)) → WereStored → OneList → state_of opened.rows ≡ None
+    → ((state opened.store.disk).told → StandsFor limits engine []) → engine.part ≡ 0 → engine.joined.tables.marked ≡ Some 0 → SameBut state faults spent opened.store engine.joined.keep → StandsForStored state limits mode opened engine
+stored_nothing {D} state faults spent limits mode opened engine were one none stands part marked same = λ h p opens stores.
     let m = moment_of limits h p in
     let was = were text_of limits mode (state opened.store.disk).reads m opened.store.log (found_of opened) opens.read stores.store in
     let empty : h ≡ [] = by h p opens stores was was.ends in
     let low : p ≤ 0 = subst (λ (x : History). p ≤ bytes_in x) empty stores.within in (
-      record { stands = subst (λ (x : History). StandsFor limits engine x) (sym empty) stands; has_part = record { counted = part ∙ omega (arith, low); within = stores.within } },
-      saved_again state limits mode opened opens h p stores one was engine same (marked ∙ ap (λ (x : History). Some (length (taken_in limits (events_of limits x)))) (sym empty)),
+      record { stands = subst (λ (x : History). StandsFor limits engine x) (sym empty) (stands opens.told); has_part = record { counted = part ∙ omega (arith, low); within = stores.within } },
+      saved_again state faults spent limits mode opened opens h p stores one was engine same (marked ∙ ap (λ (x : History). Some (length (taken_in limits (events_of limits x)))) (sym empty)),
     )
   where
     by : (h : History) (p : ℕ) (opens : IsOpen state limits opened) (stores : StoresHistory limits mode (state opened.store.disk).reads h p) → (was : WasStored text_of limits.names mode (found_of opened) (moment_of limits h p))
         → ((opened.mode ≡ None) × (opened.rows ≡ []) × (moment_of limits h p ≡ nothing)) ⊎ ((opened.mode ≡ Some mode) × ClosesAt (moment_of limits h p) opened.rows) → h ≡ []
-    by h p opens stores was (inl is) = nothing_stored state limits mode opened opens h p stores one was is.0
+    by h p opens stores was (inl is) = nothing_stored state faults spent limits mode opened opens h p stores one was is.0
     by h p opens stores was (inr closes) = absurd (let e : None ≡ Some (state_at (moment_of limits h p)) = sym none ∙ closes.1.state in cc)
 
 -- ---- what was found

@@ -1,5 +1,5 @@
 -- What a commit leaves on the disk, as the history of an engine.
-use Rattle.std.proofs.Common.{◌≡◌, ◌∙◌, ◌++◌, ◌∷◌, [], sym, ap, subst, inl, inr, ℕ, List, length, Some, arith}
+use Rattle.std.proofs.Common.{◌≡◌, ◌∙◌, ◌++◌, ◌∷◌, [], sym, ap, subst, inl, inr, ℕ, true, List, length, Some, arith}
 use Rattle.std.specs.Prelude.{◌⊎◌, ⊤, Result, Ok, Err, OnOk, IsErrOf, map}
 use Rattle.std.specs.Option.{option_map}
 use Rattle.std.specs.List.{All, AllByRecursion, AllZip}
@@ -27,7 +27,7 @@ use Rattle.row_codec.specs.Rows.{CanBeSpelled, Fits as FitsRow}
 use Rattle.row_codec.specs.declared.rows.StoreRow.{StoreRow}
 use Rattle.row_codec.specs.declared.state.StateRow.{StateRow}
 use Rattle.reduced_store.specs.Committing.{CommitsByRows, other_rows, rows_at_end}
-use Rattle.reduced_store.specs.OnDisk.{OnDisk, payload_between, rows_between, rows_since}
+use Rattle.reduced_store.specs.OnDisk.{LeadsOn, OnDisk, payload_between, rows_between, rows_since, seen_rows}
 use Rattle.row_codec.specs.declared.rows.StoreRow.TheVariants.{Entity}
 use Rattle.stored.specs.Moment.{state_at}
 use Rattle.ingest.specs.Asking.{StandsStill}
@@ -40,7 +40,8 @@ use Rattle.ingest.specs.Parts.{Engine, Reader}
 use Rattle.ingest.specs.Saving.{AddsOne, IsSaved, IsEither, LeavesEither, PassesFull, Saves}
 use Rattle.ingest.specs.StandsFor.{ReaderStandsFor, WhereRead}
 use Rattle.ingest.specs.Storing.{HasSince, IsCommitFor, IsStoreFor, StoresHistory, moment_of}
-use Rattle.ingest.proofs.Following.{EventsAdmitted, admitted_in, same_some}
+use Rattle.ingest.proofs.Following.{EventsAdmitted, admitted_in}
+use Rattle.ingest.proofs.Told.{told_by}
 
 -- ---- the laws
 
@@ -77,8 +78,14 @@ has_parts mode engine state put others_put entities others said are front back m
 }
 
 -- the kept flows are those of the store
-abbrev pub HasOwn : {D : Type 0} → Engine (OnDisk D) → Type 0
-HasOwn engine = engine.joined.kept.told ≡ Some engine.joined.keep.rows.rows
+abbrev pub HasOwn : {D : Type 0} → (D → DiskState) → Engine (OnDisk D) → Type 0
+HasOwn state engine = engine.joined.kept.told ≡ seen_rows state engine.joined.keep
+
+-- what the kept flows and the rows since the last commit have to do with the store
+pub record HasRows {D : Type 0} (state : D → DiskState) (engine : Engine (OnDisk D)) : Type 0 where
+  pub disks : (disk : D) → IsDisk (state disk)
+  pub own : HasOwn state engine
+  pub leads : (state engine.joined.keep.disk).told → LeadsOn engine.joined.keep
 
 module _ {K : Type 0} (mode : Mode) (engine : Engine K) (entities others : List StoreRow) (parts : HasParts mode engine entities others)
     (limits : Limits) (h more : History) (before part : ℕ) (has : StandsWith limits engine (h ++ more) part) where
@@ -114,18 +121,22 @@ module _ {K : Type 0} (mode : Mode) (engine : Engine K) (entities others : List 
       let are : made ≡ entities ++ (rows ++ others) = (λ i. sym {b = map Entity around.batch.entities} around.entities_are i ++ (rows ++ sym {b = other_rows around.batch ++ rows_at_end m around.groups} around.others_are i)) in
       subst (λ (l : List StoreRow). IsCommitFor limits mode h before (h ++ more) part l) {x = made} are commits
 
-module _ {D : Type 0} (state : D → DiskState) (mode : Mode) (engine : Engine (OnDisk D)) (entities others : List StoreRow) (parts : HasParts mode engine entities others) (own : HasOwn engine)
+module _ {D : Type 0} (state : D → DiskState) (mode : Mode) (engine : Engine (OnDisk D)) (entities others : List StoreRow) (parts : HasParts mode engine entities others) (has_rows : HasRows state engine)
     (limits : Limits) (h more : History) (before part : ℕ) (has : StandsWith limits engine (h ++ more) part) (saved : IsSaved state limits mode engine h before) where
+  told_now : ((state engine.joined.keep.disk).tells ≡ true) × (engine.joined.keep.rows.rows ≡ has.stands.joined.kept_are.rows)
+  told_now = told_by _ _ _ (sym has_rows.own ∙ has.stands.joined.kept_are.told)
+
   -- the rows are those of the flows
   pub now_kept : Keeps mode (flows_in limits (events_of limits (h ++ more))) engine.joined.keep.rows.rows
   now_kept =
-      let kept = has.stands.joined.kept_are in
-      subst (λ (R : List Row). Keeps mode (flows_in limits (events_of limits (h ++ more))) R) (same_some _ _ (sym kept.told ∙ own))
+      subst (λ (R : List Row). Keeps mode (flows_in limits (events_of limits (h ++ more))) R) (sym told_now.1)
       (rows_kept mode engine entities others parts limits h more before part has)
 
   pub batch_rows : ActsGoOn → EventsAdmitted → CommitsByRows → IsCommitFor limits mode h before (h ++ more) part (rows_between engine.joined.keep entities others)
   batch_rows since admitted by_rows =
-      rows_around mode engine entities others parts limits h more before part has engine.joined.keep.saved engine.joined.keep.rows.rows since admitted by_rows saved.marked saved.saved now_kept
+      let leads = has_rows.leads ((has_rows.disks engine.joined.keep.disk).told_is.1 told_now.0) in
+      subst (λ (l : List StoreRow). IsCommitFor limits mode h before (h ++ more) part (entities ++ (l ++ others))) (sym leads)
+      (rows_around mode engine entities others parts limits h more before part has engine.joined.keep.saved engine.joined.keep.rows.rows since admitted by_rows saved.marked saved.saved now_kept)
 
 -- ---- after the commit
 
@@ -174,12 +185,12 @@ spelled r P none (inr p) = p
 -- after the commit all of the history is saved
 pub saves_now : {D : Type 0} (state : D → DiskState) (faults : D → ℕ) (spent : D → Type 0) (mode : Mode) (old new : Engine (OnDisk D)) (entities others : List StoreRow) (r : Result ⊤ CommitFault)
     → ActsGoOn → EventsAdmitted → CommitsByRows → OneList → BytesFollow (OnDisk D)
-    → HasParts mode old entities others → HasOwn old → CommitsRows state faults spent mode entities others old.joined.keep new.joined.keep r
+    → HasParts mode old entities others → HasRows state old → CommitsRows state faults spent mode entities others old.joined.keep new.joined.keep r
     → OnOk r (new.joined.tables.marked ≡ option_map (λ _. old.joined.tables.acts) old.joined.tables.marked)
     → (state old.joined.keep.disk).told → OnOk r (Saves state mode old new)
-saves_now state faults spent mode old new entities others (Ok done) since admitted by_rows one follow parts own commits marked told = λ limits h more before part has saved.
+saves_now state faults spent mode old new entities others (Ok done) since admitted by_rows one follow parts its commits marked told = λ limits h more before part has saved.
     let payload = payload_between old.joined.keep mode entities others in
-    let rows = batch_rows state mode old entities others parts own limits h more before part has saved since admitted by_rows in
+    let rows = batch_rows state mode old entities others parts its limits h more before part has saved since admitted by_rows in
     let most : new.joined.keep.log.most ≡ limits.payload = ap (λ (l : Log). l.most) commits.log ∙ saved.most in
     let end : new.joined.keep.log.end ≡ limits.store = ap (λ (l : Log). l.end) commits.log ∙ saved.end in
     let store = saved.stores.store in
@@ -188,9 +199,9 @@ saves_now state faults spent mode old new entities others (Ok done) since admitt
     subst (λ (n : ℕ). IsStore n (store.payloads ++ payload ∷ []) (state new.joined.keep.disk).reads) most (new.joined.keep.log.last, adds) in
     let later = follow limits mode old h more before part _ _ payload _ has store rows (spelled (Ok done) _ (λ none. cc none) commits.payload) is in
     saved_so state limits mode new (h ++ more) part (store.payloads ++ payload ∷ []) one (stores_now limits mode old (h ++ more) part _ payload store.payloads one has later is) adds commits.durable most end
-    (subst (λ (R : List Row). Keeps mode (flows_in limits (events_of limits (h ++ more))) R) (sym (commits.saved ∙ ap (λ x. x.rows) commits.rows)) (now_kept state mode old entities others parts own limits h more before part has saved))
+    (subst (λ (R : List Row). Keeps mode (flows_in limits (events_of limits (h ++ more))) R) (sym (commits.saved ∙ commits.rows)) (now_kept state mode old entities others parts its limits h more before part has saved))
     (marked ∙ ap (option_map (λ _. old.joined.tables.acts)) saved.marked ∙ ap (λ (n : ℕ). Some n) has.stands.joined.tables.acts_are)
-saves_now state faults spent mode old new entities others (Err why) since admitted by_rows one follow parts own commits marked told = tt
+saves_now state faults spent mode old new entities others (Err why) since admitted by_rows one follow parts its commits marked told = tt
 
 -- ---- at each moment
 
@@ -242,11 +253,11 @@ adds_none {D} state old new disks same = λ payloads each.
 
 -- at any moment of the commit a crash leaves a store of what was saved, or of all
 module _ {D : Type 0} (state : D → DiskState) (faults : D → ℕ) (spent : D → Type 0) (mode : Mode) (old new : Engine (OnDisk D)) (entities others : List StoreRow)
-    (since : ActsGoOn) (admitted : EventsAdmitted) (by_rows : CommitsByRows) (one : OneList) (follow : BytesFollow (OnDisk D)) (parts : HasParts mode old entities others) (own : HasOwn old) (told : (state old.joined.keep.disk).told) where
+    (since : ActsGoOn) (admitted : EventsAdmitted) (by_rows : CommitsByRows) (one : OneList) (follow : BytesFollow (OnDisk D)) (parts : HasParts mode old entities others) (its : HasRows state old) (told : (state old.joined.keep.disk).told) where
   leaves_by : (r : Result ⊤ CommitFault) → (IsErrOf r commit.NoMemory → ⊥) → CommitsRows state faults spent mode entities others old.joined.keep new.joined.keep r → LeavesEither state mode old new
   leaves_by r memory commits = λ limits h more before part has saved.
       let payload = payload_between old.joined.keep mode entities others in
-      let rows = batch_rows state mode old entities others parts own limits h more before part has saved since admitted by_rows in
+      let rows = batch_rows state mode old entities others parts its limits h more before part has saved since admitted by_rows in
       let store = saved.stores.store in
       let either : (c : List ℕ) → IsBeforeOrAfter old.joined.keep.log.most store.payloads payload c → IsEither limits mode h more before part c = λ c left.
       by_which limits mode h more before part has saved rows payload (spelled r _ memory commits.payload) c (subst (λ (n : ℕ). IsBeforeOrAfter n store.payloads payload c) saved.most left) in
@@ -268,10 +279,10 @@ module _ {D : Type 0} (state : D → DiskState) (faults : D → ℕ) (spent : D 
 
 -- a limit that refused the batch is one that it passes
 pub passes_now : {D : Type 0} (state : D → DiskState) (faults : D → ℕ) (spent : D → Type 0) (mode : Mode) (old new : Engine (OnDisk D)) (entities others : List StoreRow) (r : Result ⊤ CommitFault) (full : Full)
-    → ActsGoOn → EventsAdmitted → CommitsByRows → HasParts mode old entities others → HasOwn old → CommitsRows state faults spent mode entities others old.joined.keep new.joined.keep r → r ≡ Err (commit.Full full) → PassesFull state mode old full
-passes_now state faults spent mode old new entities others r full since admitted by_rows parts own commits is = λ limits h more before part has saved.
+    → ActsGoOn → EventsAdmitted → CommitsByRows → HasParts mode old entities others → HasRows state old → CommitsRows state faults spent mode entities others old.joined.keep new.joined.keep r → r ≡ Err (commit.Full full) → PassesFull state mode old full
+passes_now state faults spent mode old new entities others r full since admitted by_rows parts its commits is = λ limits h more before part has saved.
     let payload = payload_between old.joined.keep mode entities others in
-    let rows = batch_rows state mode old entities others parts own limits h more before part has saved since admitted by_rows in
+    let rows = batch_rows state mode old entities others parts its limits h more before part has saved since admitted by_rows in
     let passes = (spelled r _ (λ none. cc (sym none ∙ is)) (commits.full full)).0 is in (
       rows_between old.joined.keep entities others,
       rows,

@@ -1,4 +1,4 @@
--- What of a store stays while only its rows differ.
+-- What of a store stays while its disk is only looked at.
 use Rattle.std.proofs.Common.{◌≡◌, ◌∙◌, sym, ap, subst, ℕ, List}
 use Rattle.flow_base.specs.declared.limits.Limits.{Limits}
 use Rattle.outside.specs.Disk.{DiskState}
@@ -13,26 +13,33 @@ use Rattle.ingest.specs.Parts.{Engine}
 use Rattle.ingest.specs.Saving.{IsSaved}
 use Rattle.ingest.specs.Storing.{StoresHistory}
 
-module _ {D : Type 0} (state : D → DiskState) where
-  abbrev has_batches : D → Log → Type 0
-  has_batches disk log = (state disk).told → (payloads : List (List ℕ)) × LogHas log payloads (state disk).reads
+module _ {D : Type 0} (state : D → DiskState) (faults : D → ℕ) (spent : D → Type 0) where
+  abbrev has_batches : List ℕ → Log → Type 0
+  has_batches reads log = (payloads : List (List ℕ)) × LogHas log payloads reads
 
-  pub can_still : (old new : OnDisk D) → SameBut old new → CanCommit state old → CanCommit state new
+  pub can_still : (old new : OnDisk D) → SameBut state faults spent old new → CanCommit state old → CanCommit state new
   can_still old new same can = record {
     usable = ap (λ (l : Log). l.usable) same.log ∙ can.usable;
-    stands = subst (λ (l : Log). has_batches new.disk l) (sym same.log) (subst (λ (d : D). has_batches d old.log) (sym same.disk) can.stands);
+    stands = λ now.
+        let told = same.disk.uses.told_before now in
+        subst (λ (l : Log). has_batches (state new.disk).reads l) (sym same.log)
+        (subst (λ (b : List ℕ). has_batches b old.log) (sym (same.disk.looks.same told)) (can.stands told));
   }
 
   module _ (limits : Limits) (mode : Mode) (h : History) (part : ℕ) where
-    abbrev stores_with : D → Log → Type 0
-    stores_with disk log =
-        (s : StoresHistory limits mode (state disk).reads h part) × LogHas log s.store.payloads (state disk).reads × EachHas log s.store.payloads (state disk).image
+    abbrev stores_with : (List ℕ → Type 0) → List ℕ → Log → Type 0
+    stores_with image reads log =
+        (s : StoresHistory limits mode reads h part) × LogHas log s.store.payloads reads × EachHas log s.store.payloads image
 
-    pub saved_still : (old new : Engine (OnDisk D)) → SameBut old.joined.keep new.joined.keep → new.joined.tables.marked ≡ old.joined.tables.marked → IsSaved state limits mode old h part → IsSaved state limits mode new h part
-    saved_still old new same marked saved =
-        let a = old.joined.keep in
-        let b = new.joined.keep in
-        let stores : stores_with b.disk b.log = subst (λ (l : Log). stores_with b.disk l) (sym same.log) (subst (λ (d : D). stores_with d a.log) (sym same.disk) (saved.stores, saved.log, saved.image)) in
+    pub saved_still : (old new : Engine (OnDisk D)) → (state old.joined.keep.disk).told → SameBut state faults spent old.joined.keep new.joined.keep
+        → new.joined.tables.marked ≡ old.joined.tables.marked → IsSaved state limits mode old h part → IsSaved state limits mode new h part
+    saved_still old new told same marked saved =
+        let was = state old.joined.keep.disk in
+        let is = state new.joined.keep.disk in
+        let looked : stores_with is.image was.reads old.joined.keep.log = (saved.stores, saved.log, λ c left. saved.image c (same.disk.looks.image c left)) in
+        let stores : stores_with is.image is.reads new.joined.keep.log =
+        subst (λ (l : Log). stores_with is.image is.reads l) (sym same.log)
+        (subst (λ (b : List ℕ). stores_with is.image b old.joined.keep.log) (sym (same.disk.looks.same told)) looked) in
         record {
           stores = stores.0;
           log = stores.1;

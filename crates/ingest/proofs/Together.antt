@@ -1,15 +1,15 @@
 -- Tables and kept flows that go together, before and after an event.
-use Rattle.std.proofs.Common.{◌≡◌, ◌≤◌, ◌<◌, ◌+◌, ◌*◌, ◌^◌, ◌⊎◌, inl, inr, ◌∙◌, sym, refl, ap, subst, ℕ, zero, suc, List, [], ◌∷◌, length, map, get_or, arith, Option, Some}
+use Rattle.std.proofs.Common.{◌≡◌, ◌≤◌, ◌<◌, ◌+◌, ◌*◌, ◌^◌, ◌⊎◌, inl, inr, ◌∙◌, sym, refl, ap, subst, ℕ, zero, suc, List, [], ◌∷◌, length, map, get_or, arith, Option, None, Some}
 use Rattle.std.specs.List.{Contains}
+use Rattle.std.specs.Option.{IfSome}
 use Rattle.flow_base.specs.declared.limits.Limits.{Limits}
 use Rattle.flow_base.specs.declared.types.Flow.{Flow}
 use Rattle.flow_base.specs.declared.types.Key.{Key}
 use Rattle.flow_base.specs.declared.types.Stamp.{Stamp}
+use Rattle.reach_model.specs.declared.modes.Mode.{Mode}
 use Rattle.reach_model.specs.Flows.{place, time}
-use Rattle.reach_model.specs.Numbers.{known}
-use Rattle.reach_model.specs.Rows.{Row, firsts, lasts, none}
+use Rattle.reach_model.specs.Rows.{Row, firsts, lasts}
 use Rattle.reach_model.proofs.Members.{Contains-map}
-use Rattle.reach_model.proofs.Determined.{same_rows}
 use Rattle.reach_rows.specs.Kept.{ComesAfter, GoOn, known_after}
 use Rattle.record_join.specs.Events.{Joining, next_event, next_left}
 use Rattle.record_join.specs.StandsFor.{Joiner, StandsFor as JoinStandsFor}
@@ -20,7 +20,7 @@ use Rattle.flow_events.specs.declared.plan.Plan.{Plan}
 use Rattle.flow_events.specs.declared.tables.Tables.{Tables}
 use Rattle.flow_events.specs.Entering.{entered}
 use Rattle.flow_events.specs.Standing.{AreSafe, CountsTheSame, DiffersInRoom, HasGrown, HasLimits, PlanFlows}
-use Rattle.kept_flows.specs.KeptFlows.{KeptFlows, StandsFor as KeptStandsFor}
+use Rattle.kept_flows.specs.KeptFlows.{KeptFlows, kept_by}
 use Rattle.kept_flows.specs.Taking.{AllComeAfter, BringsOnly, IsFlowOf, MayTakeIn}
 use Rattle.ingest.specs.StandsFor.{IsInTime}
 use Rattle.ingest.specs.Together.{AreBefore, AreKeptOf, GoTogether, GoWithPlan, IsBefore}
@@ -167,18 +167,18 @@ in_time_clock limits join after tables kept s w stands same = record {
   };
 }
 
--- no flows are kept yet
-pub none_kept : (objects flows ms : ℕ) (kept : KeptFlows) → KeptStandsFor kept [] → objects ≡ 0 → AreKeptOf objects flows ms kept
-none_kept objects flows ms kept stands empty =
-    let rows : [] ≡ stands.rows = same_rows stands.lawful none stands.keeps in
-    record {
-      known = sym stands.objects_known ∙ sym empty;
-      counted = omega (arith, sym stands.counted, ap length rows);
-      before = λ R is f there. absurd (nothing R (inner R stands.rows (sym is ∙ stands.told) ∙ sym rows) f there);
-    }
+-- no flows are kept yet, whether or not that is told
+pub none_kept : (objects flows ms : ℕ) (kept : KeptFlows) (mode : Mode) (told : Option (List Row)) (count known : ℕ) → kept ≡ kept_by mode told count known
+    → IfSome told (λ R. R ≡ []) → count ≡ 0 → known ≡ 0 → objects ≡ 0 → AreKeptOf objects flows ms kept
+none_kept objects flows ms kept mode told count known is none no_rows no_objects empty = subst (AreKeptOf objects flows ms) (sym is) (record {
+  known = no_objects ∙ sym empty;
+  counted = omega (arith, no_rows);
+  before = λ R told_are f there. absurd (nothing R (inner told R none told_are) f there);
+})
   where
-    inner : (a b : List Row) → Some a ≡ Some b → a ≡ b
-    inner a b e = cc
+    inner : (o : Option (List Row)) (R : List Row) → IfSome o (λ S. S ≡ []) → o ≡ Some R → R ≡ []
+    inner None R empty so = absurd (cc so)
+    inner (Some S) R empty so = let same : S ≡ R = cc so in sym same ∙ empty
 
     none_in : (f : Flow) → Contains [] f → ⊥
     none_in f there = absurd (omega (arith, there.1))

@@ -1,11 +1,14 @@
 -- An engine that is made again from a store that was opened.
-use Rattle.std.specs.Prelude.{◌≡◌, ◌≤◌, ◌<◌, ℕ, List, length, Option, Some, None, unwrap_or, Result, Ok, Err}
+use Rattle.std.specs.Prelude.{◌≡◌, ◌≢◌, ◌≤◌, ◌<◌, ℕ, List, length, Option, Some, None, unwrap_or, Result, Ok, Err}
 use Rattle.flow_base.specs.declared.limits.Full.{Full}
 use Rattle.flow_base.specs.declared.limits.Limits.{Limits}
+use Rattle.outside.specs.Cause.{Rose}
 use Rattle.outside.specs.Disk.{DiskState, IsDurable}
 use Rattle.audit_lex.specs.History.{History}
 use Rattle.flow_events.specs.Filling.{AreRestored, HasCountsOf}
 use Rattle.flow_events.specs.Standing.{AreSafe, HasLimits}
+use Rattle.query_walk.specs.declared.fault.WalkFault.{WalkFault}
+use Rattle.query_walk.specs.declared.fault.WalkFault.TheVariants as walk
 use Rattle.reach_model.specs.declared.modes.Mode.{Mode}
 use Rattle.record_join.specs.StandsFor.{NothingRipe, StandsFor as JoinStandsFor}
 use Rattle.reduced_store.specs.OnDisk.{OnDisk}
@@ -27,6 +30,7 @@ use Rattle.ingest.specs.Stops.{input_full}
 use Rattle.ingest.specs.Storing.{StoresHistory, moment_of}
 use Rattle.ingest.specs.Waiting.{AreSoundWaiting, AscendByKey, StandsForClosed, waiting_by}
 use Rattle.ingest.specs.declared.restoring.Remade.{Remade}
+use Rattle.ingest.specs.declared.restoring.RestoreFault.{RestoreFault}
 use Rattle.ingest.specs.declared.restoring.RestoreFault.TheVariants as fault
 use Rattle.ingest.specs.declared.restoring.Unrestored.{Unrestored}
 
@@ -87,3 +91,25 @@ abbrev pub IsPastInput : {D K : Type 0} → Limits → Opened D → Unrestored K
 IsPastInput limits opened back = (full : Full) → back.why ≡ fault.Full full
     → (full ≡ input_full limits) × OfState opened.rows (λ state. limits.input < state.taken)
     × OfState opened.rows (λ state. AreSoundWaiting limits state opened.rows)
+
+-- why an engine wasn't made again, if its rows couldn't be read so
+abbrev pub unread : WalkFault → RestoreFault
+unread walk.StoreFault = fault.StoreFault
+unread (walk.BadStore place) = fault.BadRow place
+unread walk.NoMemory = fault.NoMemory
+
+-- the rows couldn't be read
+abbrev pub IsOfReading : {K : Type 0} → Unrestored K → Type 0
+IsOfReading back = (why : WalkFault) × (back.why ≡ unread why)
+
+-- neither a failed read nor a missing row, but something else
+abbrev pub IsOther : RestoreFault → Type 0
+IsOther why = (why ≢ fault.StoreFault) × ((place : ℕ) → why ≢ fault.BadRow place)
+
+-- a store fault comes only if the count of the disk's faults rose
+abbrev pub FaultRose : {D : Type 0} → (D → ℕ) → (D → Type 0) → OnDisk D → Unrestored (OnDisk D) → Type 0
+FaultRose faults spent store back = back.why ≡ fault.StoreFault → Rose (faults store.disk) (faults back.keep.disk) (spent back.keep.disk)
+
+-- a row is missing only from a disk that isn't observable
+abbrev pub IsHidden : {D : Type 0} → (D → DiskState) → OnDisk D → Unrestored (OnDisk D) → Type 0
+IsHidden state store back = (place : ℕ) → back.why ≡ fault.BadRow place → ¬ (state store.disk).told

@@ -1,6 +1,6 @@
 //! The engine.
 ghost use Rattle.std.specs.Prelude.{◌≡◌, ◌≤◌, ◌<◌, ◌+◌, ◌^◌, ◌++◌, ◌⊎◌, ◌∷◌, [], ℕ, List, None, Some, Err};
-ghost use Rattle.std.specs.Prelude.{false, length, take, is_some, OnOk, OnErr, IfOk, IfErr, IsErrOf};
+ghost use Rattle.std.specs.Prelude.{false, length, take, is_some, OnOk, OnErr, IfOk, IfErr, IfSome, IsErrOf};
 ghost use Rattle.std.specs.List.{position_or_len};
 ghost use Rattle.memchr.specs.Find.{is_byte};
 ghost use Rattle.flow_base.specs.declared.limits.Full.{Full};
@@ -16,7 +16,7 @@ ghost use Rattle.kept_flows.specs.Committing.{CanCommit};
 ghost use Rattle.reach_model.specs.declared.modes.Mode.{Mode};
 ghost use Rattle.row_codec.specs.declared.rows.StoreRow.{StoreRow};
 ghost use Rattle.row_codec.specs.declared.state.StateRow.{StateRow};
-ghost use Rattle.reduced_store.specs.OnDisk.{SameBut};
+ghost use Rattle.reduced_store.specs.OnDisk.{SameBut, seen_rows};
 ghost use Rattle.reduced_store.specs.Reading.{IsFound};
 ghost use Rattle.reduced_store.specs.Restoring.{CanBeRestored};
 ghost use Rattle.reduced_store.specs.Stores.{found_of};
@@ -31,7 +31,7 @@ ghost use Rattle.ingest.specs.Owing.{MayOwe, SettleHalts};
 ghost use Rattle.ingest.specs.PartTaken.{count_on, done_in};
 ghost use Rattle.ingest.specs.Replies.{IsQuestion, IsReply};
 ghost use Rattle.ingest.specs.Rejoining.{StandsForLeft};
-ghost use Rattle.ingest.specs.Restoring.{IsBadWaiting, IsPastInput, IsRemade, StandsForStored, store_after};
+ghost use Rattle.ingest.specs.Restoring.{FaultRose, IsBadWaiting, IsHidden, IsOfReading, IsPastInput, IsRemade, StandsForStored, store_after, unread};
 ghost use Rattle.ingest.specs.Saving.{AddsOne, LeavesEither, PassesFull, Saves};
 ghost use Rattle.ingest.specs.StandsFor.{StandsFor, HasNoTail, WhereJoined};
 ghost use Rattle.ingest.specs.Stops.{Fits, Stops};
@@ -97,11 +97,12 @@ impl<R: Reducer, K: Keep> Ingest<R, K> {
     pub fn new(alloc: Global, salt: Salt, limits: &Limits, reducer: R, keep: K) -> Ingest<R, K>
         requires stands { R.stands_for reducer [] }
         requires holds { R.holds reducer [] }
-        requires told { K.rows keep ≡ Some [] }
+        requires none { IfSome (K.rows keep) (λ R. R ≡ []) }
         requires count { K.count keep ≡ 0 }
         requires known { K.known keep ≡ 0 }
-        ensures stands { StandsFor limits.now result [] }
+        ensures stands { K.rows keep ≡ Some [] → StandsFor limits.now result [] }
         ensures part { result.part ≡ 0 }
+        ensures acts { result.joined.tables.acts ≡ 0 }
         ensures keep { result.joined.keep ≡ keep }
         ensures unmarked { result.joined.tables.marked ≡ None }
     {
@@ -223,6 +224,8 @@ impl<R: Reducer, K: Keep> Ingest<R, K> {
             IfErr result (λ why. why ≡ fault.NoMemory)) }
         ensures always { NeverFail K.faults K.spent → AlwaysTold K.rows
             → IfErr result (λ why. why ≡ fault.NoMemory) }
+        ensures hidden { (place : ℕ) → result ≡ Err (fault.BadStore place)
+            → K.rows self.old.joined.keep ≡ None }
         ensures stands { StandsStill self.old self.new }
         ensures same { SameButRows self.old self.new }
         ensures alike { K.alike self.old.joined.keep self.new.joined.keep }
@@ -445,7 +448,9 @@ impl<R: Reducer, D: Disk> Ingest<R, Store<D>> {
     /// remembers what is new.
     ///
     /// `BadStore` has the place of the last batch, which says that something waits which no joiner would have left so. `Full` means
-    /// that the store has taken more bytes than may be, and that what waits in it is sound. A refusal hands the store back.
+    /// that the store has taken more bytes than may be, and that what waits in it is sound. `StoreFault` means that a read of the
+    /// rows failed, and `BadRow` has a place at which the disk no longer has the row that was there when it was opened, which comes
+    /// only from a disk that isn't observable. A refusal hands the store back.
     pub fn restore(
         alloc: Global,
         salt: Salt,
@@ -463,9 +468,11 @@ impl<R: Reducer, D: Disk> Ingest<R, Store<D>> {
         ensures stored { IfOk result (StandsForStored D.state limits.now R.mode opened) }
         ensures sound { IfOk result (λ _. (state : StateRow) → state_of opened.rows ≡ Some state
             → AreSoundWaiting limits.now state opened.rows) }
-        ensures alike { SameBut opened.store (store_after result) }
+        ensures alike { SameBut D.state D.faults D.spent opened.store (store_after result) }
         ensures bad { IfErr result (IsBadWaiting limits.now opened) }
         ensures full { IfErr result (IsPastInput limits.now opened) }
+        ensures fault { IfErr result (FaultRose D.faults D.spent opened.store) }
+        ensures hidden { IfErr result (IsHidden D.state opened.store) }
     {
         what_is_found_can_be_restored();
         what_is_found_was_stored();
@@ -504,7 +511,7 @@ impl<R: Reducer, D: Disk> Ingest<R, Store<D>> {
         requires stands { R.stands_for reducer [] }
         requires holds { R.holds reducer [] }
         requires none { store.rows.rows ≡ [] }
-        ensures stands { StandsFor limits.now result [] }
+        ensures stands { (D.state store.disk).told → StandsFor limits.now result [] }
         ensures part { result.part ≡ 0 }
         ensures keep { result.joined.keep ≡ store }
         ensures marked { result.joined.tables.marked ≡ Some 0 }
@@ -530,14 +537,16 @@ impl<R: Reducer, D: Disk> Ingest<R, Store<D>> {
             × IsRemade limits state.now rows parts
             × CanBeRestored (bounds_of limits) rows store.rows.rows
             × (state_of rows ≡ Some state.now) }
-        ensures joined { IfOk result (λ engine. StandsForLeft R.mode (Some store.rows.rows)
+        ensures joined { IfOk result (λ engine. StandsForLeft R.mode (seen_rows D.state store)
             parts.join parts.tables state.now engine.joined) }
         ensures reader { IfOk result (λ engine. engine.reader ≡ parts.reader) }
         ensures part { IfOk result (λ engine. engine.part ≡ state.now.part) }
         ensures marked { IfOk result (λ engine. engine.joined.tables.marked
             ≡ Some parts.tables.acts) }
-        ensures alike { SameBut store (store_after result) }
-        ensures memory { IfErr result (λ back. back.why ≡ restore.NoMemory) }
+        ensures alike { SameBut D.state D.faults D.spent store (store_after result) }
+        ensures reading { IfErr result IsOfReading }
+        ensures fault { IfErr result (FaultRose D.faults D.spent store) }
+        ensures hidden { IfErr result (IsHidden D.state store) }
     {
         let Remade {
             reader,
@@ -555,14 +564,10 @@ impl<R: Reducer, D: Disk> Ingest<R, Store<D>> {
                     part: state.part,
                 })
             }
-            Err(back) => match back.fault {
-                WalkFault::NoMemory => Err(Unrestored {
-                    why: RestoreFault::NoMemory,
-                    keep: back.rows,
-                }),
-                WalkFault::StoreFault => unreachable!(),
-                WalkFault::BadStore(_) => unreachable!(),
-            },
+            Err(back) => Err(Unrestored {
+                why: why_unread(back.fault),
+                keep: back.rows,
+            }),
         }
     }
 
@@ -606,6 +611,17 @@ impl<R: Reducer, D: Disk> Ingest<R, Store<D>> {
             }));
         }
         self.joined.save(entities, others)
+    }
+}
+
+// Why an engine wasn't made again, if its rows couldn't be read so.
+fn why_unread(fault: WalkFault) -> RestoreFault
+    ensures { result ≡ unread fault }
+{
+    match fault {
+        WalkFault::StoreFault => RestoreFault::StoreFault,
+        WalkFault::BadStore(place) => RestoreFault::BadRow(place),
+        WalkFault::NoMemory => RestoreFault::NoMemory,
     }
 }
 

@@ -3,7 +3,8 @@
 //! An event that is ripe is prepared by the tables, with all the memory for it. Then its flows are taken in, and last the
 //! tables follow it, which can't fail: so an event that is refused has changed nothing, and stays in the joiner.
 ghost use Rattle.std.specs.Prelude.{◌≡◌, ◌≤◌, ◌<◌, ◌+◌, ◌-◌, ◌*◌, ◌^◌, [], suc, List, None, Some, Err, true};
-ghost use Rattle.std.specs.Prelude.{length, is_some, OnOk, IfOk, OnErr, IfErr, slice_get};
+ghost use Rattle.std.specs.Prelude.{length, is_some, OnOk, IfOk, IfSome, OnErr, IfErr, slice_get};
+ghost use Rattle.reduced_store.specs.OnDisk.{seen_rows};
 ghost use Rattle.flow_base.specs.declared.limits.Full.{Full};
 ghost use Rattle.reach_model.specs.Rows.{Row};
 ghost use Rattle.record_join.specs.Events.{Joining, count_keys, ripe_key, next_event};
@@ -99,11 +100,12 @@ impl<R: Reducer, K: Keep> EventFlows<R, K> {
     pub fn new(alloc: Global, salt: Salt, limits: &Limits, reducer: R, keep: K) -> EventFlows<R, K>
         requires stands { R.stands_for reducer [] }
         requires holds { R.holds reducer [] }
-        requires told { K.rows keep ≡ Some [] }
+        requires none { IfSome (K.rows keep) (λ R. R ≡ []) }
         requires count { K.count keep ≡ 0 }
         requires known { K.known keep ≡ 0 }
-        ensures stands { JoinedStandsFor limits.now result start [] }
+        ensures stands { K.rows keep ≡ Some [] → JoinedStandsFor limits.now result start [] }
         ensures few { IsFew 0 result }
+        ensures acts { result.tables.acts ≡ 0 }
         ensures keep { result.keep ≡ keep }
         ensures unmarked { result.tables.marked ≡ None }
     {
@@ -350,6 +352,7 @@ impl<R: Reducer, K: Keep> EventFlows<R, K> {
             IfErr result (λ why. why ≡ walk.NoMemory)) }
         ensures always { NeverFail K.faults K.spent → AlwaysTold K.rows
             → IfErr result (λ why. why ≡ walk.NoMemory) }
+        ensures own { self.old.kept.told ≡ K.rows self.old.keep }
         ensures same { self.new ≡ record self.old { keep = self.new.keep } }
         ensures alike { K.alike self.old.keep self.new.keep }
     {
@@ -373,6 +376,7 @@ impl<R: Reducer, K: Keep> EventFlows<R, K> {
             IfErr result (λ why. why ≡ walk.NoMemory)) }
         ensures always { NeverFail K.faults K.spent → AlwaysTold K.rows
             → IfErr result (λ why. why ≡ walk.NoMemory) }
+        ensures own { self.old.kept.told ≡ K.rows self.old.keep }
         ensures same { self.new ≡ record self.old { keep = self.new.keep } }
         ensures alike { K.alike self.old.keep self.new.keep }
     {
@@ -461,8 +465,8 @@ impl<R: Reducer, D: Disk> EventFlows<R, Store<D>> {
         requires others { All CanBeSpelled others.now }
         requires can { CanCommit D.state self.old.keep }
         ensures can { OnOk result (CanCommit D.state self.new.keep) }
-        ensures own { (self.old.kept.mode ≡ R.mode)
-            × (self.old.kept.told ≡ Some self.old.keep.rows.rows) }
+        ensures mode { self.old.kept.mode ≡ R.mode }
+        ensures own { self.old.kept.told ≡ seen_rows D.state self.old.keep }
         ensures commits { CommitsRows D.state D.faults D.spent R.mode entities.now others.now
             self.old.keep self.new.keep result }
         ensures same { self.new

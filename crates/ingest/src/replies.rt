@@ -1,5 +1,5 @@
 //! Replies to what is asked.
-ghost use Rattle.std.specs.Prelude.{◌≡◌, ◌<◌, ℕ, List, Option, length, IfOk, IfErr};
+ghost use Rattle.std.specs.Prelude.{◌≡◌, ◌<◌, ℕ, List, None, Option, Err, length, IfOk, IfErr};
 ghost use Rattle.flow_base.specs.declared.types.Flow.{Flow};
 ghost use Rattle.kept_flows.specs.Answering.{AlwaysTold, AreAnswers, NeverFail, ShowsFor};
 ghost use Rattle.ingest.specs.Asking.{FaultsHaveCauses};
@@ -34,6 +34,8 @@ pub fn answer_question<R: Reducer, K: Keep>(
         IfErr result (λ why. why ≡ fault.NoMemory)) }
     ensures always { NeverFail K.faults K.spent → AlwaysTold K.rows
         → IfErr result (λ why. why ≡ fault.NoMemory) }
+    ensures hidden { (place : ℕ) → result ≡ Err (fault.BadStore place)
+        → K.rows joined.old.keep ≡ None }
     ensures same { joined.new ≡ record joined.old { keep = joined.new.keep } }
     ensures alike { K.alike joined.old.keep joined.new.keep }
 {
@@ -62,6 +64,8 @@ pub fn answer_why<R: Reducer, K: Keep>(
         IfErr result (λ why. why ≡ fault.NoMemory)) }
     ensures always { NeverFail K.faults K.spent → AlwaysTold K.rows
         → IfErr result (λ why. why ≡ fault.NoMemory) }
+    ensures hidden { (place : ℕ) → result ≡ Err (fault.BadStore place)
+        → K.rows joined.old.keep ≡ None }
     ensures same { joined.new ≡ record joined.old { keep = joined.new.keep } }
     ensures alike { K.alike joined.old.keep joined.new.keep }
 {

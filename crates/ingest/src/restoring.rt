@@ -1,9 +1,9 @@
 //! The parts of an engine that are made again from the rows of a store.
-ghost use Rattle.std.specs.Prelude.{◌≡◌, ◌<◌, ℕ, Err, Some, None, IfOk, option_map};
+ghost use Rattle.std.specs.Prelude.{◌≡◌, ◌<◌, ℕ, Err, Some, None, IfOk, IfErr, option_map};
 ghost use Rattle.flow_base.specs.declared.limits.Full.{Full};
 ghost use Rattle.store_check.specs.Store.{newer};
 ghost use Rattle.stored.specs.Words.{state_in, state_of};
-ghost use Rattle.ingest.specs.Restoring.{CanBeRemade, IsRemade};
+ghost use Rattle.ingest.specs.Restoring.{CanBeRemade, IsOther, IsRemade};
 ghost use Rattle.ingest.specs.Stops.{input_full};
 ghost use Rattle.ingest.specs.Waiting.{AreSoundWaiting};
 ghost use Rattle.ingest.specs.declared.restoring.RestoreFault.TheVariants as fault;
@@ -18,11 +18,14 @@ use std::alloc::Global;
 use table_salt::Salt;
 
 /// Why an engine wasn't made again: what waits isn't sound, with the place of the batch that says it; it is sound, and the
-/// bytes that the store has taken are past the limit; or an allocation failed.
+/// bytes that the store has taken are past the limit; a read of the rows failed; a row isn't at its place any more; or an
+/// allocation failed.
 #[derive(Clone, Copy, Debug, PartialEq, Eq)]
 pub enum RestoreFault {
     BadStore(u64),
     Full(Full),
+    StoreFault,
+    BadRow(u64),
     NoMemory,
 }
 
@@ -65,6 +68,7 @@ pub fn make_again(
     ensures full { (full : Full) → result ≡ Err (fault.Full full)
         → (full ≡ input_full limits.now) × (limits.now.input < state.now.taken)
         × AreSoundWaiting limits.now state.now rows.now }
+    ensures other { IfErr result IsOther }
 {
     let Some(join) = restore_join(alloc, limits, state, rows)? else {
         return Err(RestoreFault::BadStore(place));

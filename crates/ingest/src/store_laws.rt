@@ -117,14 +117,16 @@ pub fn a_store_of_a_history_is_no_bad_store()
 
 /// A store that can commit still can while its disk and its log are as they were.
 pub fn what_can_commit_still_can<D: Disk>()
-    ensures { (old new : OnDisk D) → SameBut old new
+    ensures { (old new : OnDisk D) → SameBut D.state D.faults D.spent old new
         → CanCommit D.state old → CanCommit D.state new }
 {}
 
-/// What is saved of a history stays saved while the disk, the saved rows and the mark of the tables are as they were.
+/// What is saved of a history on an observable disk stays saved while the disk is only looked at, and the saved rows and the mark of the
+/// tables are as they were.
 pub fn what_is_saved_stays_saved<D: Disk>()
     ensures { (limits : Limits) (mode : Mode) (h : History) (part : ℕ) (old new : Engine (OnDisk D))
-        → SameBut old.joined.keep new.joined.keep
+        → (D.state old.joined.keep.disk).told
+        → SameBut D.state D.faults D.spent old.joined.keep new.joined.keep
         → new.joined.tables.marked ≡ old.joined.tables.marked
         → IsSaved D.state limits mode old h part → IsSaved D.state limits mode new h part }
 {}

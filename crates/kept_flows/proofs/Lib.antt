@@ -8,3 +8,4 @@ pub mod Recalled
 pub mod Changes
 pub mod Later
 pub mod OnlyMemory
+pub mod Saved

@@ -1,6 +1,6 @@
 -- Told rows and the tables that are theirs.
-use Rattle.std.proofs.Common.{◌≡◌, ℕ, max, List, Option, Some, sym, ap, subst, ◌∙◌}
-use Rattle.std.specs.Option.{option_map}
+use Rattle.std.proofs.Common.{◌≡◌, ℕ, max, List, [], Option, Some, sym, ap, subst, ◌∙◌, arith}
+use Rattle.std.specs.Option.{IfSome, option_map}
 use Rattle.flow_base.specs.declared.types.Flow.{Flow}
 use Rattle.reach_model.specs.declared.modes.Verdict.{Verdict}
 use Rattle.reach_model.specs.Numbers.{beyond}
@@ -15,6 +15,22 @@ use Rattle.kept_flows.proofs.Those.{told, if_told}
 pub tied_to : (stands holds : List Row → Type 0) (all : Option (List Row)) (count objects : ℕ) (R : List Row)
     → AreTied stands holds all count objects → all ≡ Some R → AreTold all count objects R × stands R × holds R
 tied_to stands holds all count objects R tied is = told (λ S. AreTold all count objects S × stands S × holds S) all tied.theirs R is
+
+-- new tables are tied to no rows, whether or not these are told
+pub tied_to_none : (stands holds : List Row → Type 0) (all : Option (List Row)) (count objects : ℕ) → stands [] → holds [] → IfSome all (λ R. R ≡ []) → count ≡ 0 → objects ≡ 0
+    → AreTied stands holds all count objects
+tied_to_none stands holds all count objects stand hold none no_rows no_objects = record {
+  rows = [];
+  counted = record { counted = sym no_rows; ends = λ f there. absurd (omega (arith, there.1)) };
+  held = hold;
+  theirs = if_told (λ R. AreTold all count objects R × stands R × holds R) all (λ R is.
+      let empty = told (λ (R : List Row). R ≡ []) all none R is in
+      subst (λ (S : List Row). AreTold all count objects S × stands S × holds S) (sym empty) (
+        record { rows = is ∙ ap (λ (S : List Row). Some S) empty; counted = sym no_rows; objects_known = sym no_objects },
+        stand,
+        hold,
+      ));
+}
 
 -- tables that follow the rows by a verdict which fits them are tied to these
 pub tied_after : (stands holds : List Row → Type 0) (stand hold : List Row → Type 0) (old new : Option (List Row)) (count objects : ℕ) (f : Flow) (d : Verdict)

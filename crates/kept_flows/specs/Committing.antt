@@ -9,10 +9,11 @@ use Rattle.batch_log.specs.declared.log.CommitFault.TheVariants as commit
 use Rattle.reach_model.specs.declared.modes.Mode.{Mode}
 use Rattle.row_codec.specs.Payload.{IsPayload}
 use Rattle.row_codec.specs.declared.rows.StoreRow.{StoreRow}
-use Rattle.reduced_store.specs.OnDisk.{OnDisk, UnlessNoMemory, payload_between, rows_between}
+use Rattle.reduced_store.specs.OnDisk.{LeadsOn, OnDisk, UnlessNoMemory, payload_between, rows_between}
 
 -- One batch holds the rows since the last commit, between those before and those after. A crash at any moment leaves the batches
--- from before, or these and the new one. If nothing was written nothing has changed, and the rows are as before in any case.
+-- from before, or these and the new one. If nothing was written nothing has changed, and the rows are as before in any case. If the disk
+-- is observable, the rows since the last commit lead from those that it left to those of now.
 pub record CommitsRows {D : Type 0} (state : D → DiskState) (faults : D → ℕ) (spent : D → Type 0) (mode : Mode) (front back : List StoreRow)
     (old new : OnDisk D) (result : Result ⊤ CommitFault) : Type 0 where
   pub payload : UnlessNoMemory result (IsPayload mode (rows_between old front back) (payload_between old mode front back))
@@ -26,7 +27,9 @@ pub record CommitsRows {D : Type 0} (state : D → DiskState) (faults : D → �
       ↔ (passed old.log (length (payload_between old mode front back)) ≡ Some full))
   pub refused : IsRefused result → new ≡ old
   pub uses : UsesDisk state faults spent old.disk new.disk (IsErrOf result commit.StoreFault)
-  pub rows : new.rows ≡ old.rows
+  pub leads : (state old.disk).told → LeadsOn old
+  pub rows : new.rows.rows ≡ old.rows.rows
+  pub lawful : new.rows.lawful ≡ old.rows.lawful
   pub saved : OnOk result (new.saved ≡ new.rows.rows)
   pub unsaved : OnErr result (new.saved ≡ old.saved)
 

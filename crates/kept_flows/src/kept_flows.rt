@@ -1,7 +1,7 @@
 //! A reducer with its rows.
 ghost use Rattle.std.specs.Prelude.{◌≡◌, ◌<◌, ◌≤◌, ◌+◌, ◌^◌, [], List, length, Some};
 ghost use Rattle.std.specs.List.{All};
-ghost use Rattle.std.specs.Prelude.{IfOk, IfErr, OnErr, OnOk};
+ghost use Rattle.std.specs.Prelude.{IfOk, IfErr, IfSome, OnErr, OnOk};
 ghost use Rattle.flow_base.specs.declared.types.Flow.{Flow as AFlow};
 ghost use Rattle.reach_model.specs.Numbers.{known};
 ghost use Rattle.reach_rows.specs.Asked.{subject};
@@ -10,6 +10,7 @@ ghost use Rattle.query_walk.specs.declared.fault.WalkFault.TheVariants as fault;
 ghost use Rattle.reach_model.specs.Rows.{Row as ARow};
 ghost use Rattle.query_walk.specs.Walks.{SameRows};
 ghost use Rattle.row_codec.specs.Rows.{CanBeSpelled};
+ghost use Rattle.reduced_store.specs.OnDisk.{seen_rows};
 ghost use Rattle.kept_flows.specs.Committing.{CanCommit, CommitsRows};
 ghost use Rattle.kept_flows.specs.KeptFlows.{StandsFor, TakesIn, SameFaults, HasCauses, kept_of};
 ghost use Rattle.kept_flows.specs.Restoring.{StandsAgain, RestoresFrom, RestoresAlike};
@@ -57,10 +58,11 @@ impl<R: Reducer, K: Keep> KeptFlows<R, K> {
     pub fn new(reducer: R, rows: K) -> KeptFlows<R, K>
         requires stands { R.stands_for reducer [] }
         requires holds { R.holds reducer [] }
-        requires told { K.rows rows ≡ Some [] }
+        requires none { IfSome (K.rows rows) (λ R. R ≡ []) }
         requires count { K.count rows ≡ 0 }
         requires known { K.known rows ≡ 0 }
-        ensures none { StandsFor result.kept [] }
+        ensures none { K.rows rows ≡ Some [] → StandsFor result.kept [] }
+        ensures kept { result.kept ≡ kept_of R.mode K.rows K.count K.known rows }
         ensures keep { result.keep ≡ rows }
     {
         lawful_flows_grow();
@@ -168,6 +170,7 @@ impl<R: Reducer, K: Keep> KeptFlows<R, K> {
             → IfErr result (λ why. why ≡ fault.NoMemory) }
         ensures always { NeverFail K.faults K.spent → AlwaysTold K.rows
             → IfErr result (λ why. why ≡ fault.NoMemory) }
+        ensures own { self.old.kept.told ≡ K.rows self.old.keep }
         ensures same { self.new.kept ≡ self.old.kept }
         ensures alike { K.alike self.old.keep self.new.keep }
     {
@@ -197,6 +200,7 @@ impl<R: Reducer, K: Keep> KeptFlows<R, K> {
             → IfErr result (λ why. why ≡ fault.NoMemory) }
         ensures always { NeverFail K.faults K.spent → AlwaysTold K.rows
             → IfErr result (λ why. why ≡ fault.NoMemory) }
+        ensures own { self.old.kept.told ≡ K.rows self.old.keep }
         ensures same { self.new.kept ≡ self.old.kept }
         ensures alike { K.alike self.old.keep self.new.keep }
     {
@@ -228,8 +232,8 @@ impl<R: Reducer, D: Disk> KeptFlows<R, Store<D>> {
         requires back { All CanBeSpelled back.now }
         requires can { CanCommit D.state self.old.keep }
         ensures can { OnOk result (CanCommit D.state self.new.keep) }
-        ensures own { (self.old.kept.mode ≡ R.mode)
-            × (self.old.kept.told ≡ Some self.old.keep.rows.rows) }
+        ensures mode { self.old.kept.mode ≡ R.mode }
+        ensures own { self.old.kept.told ≡ seen_rows D.state self.old.keep }
         ensures kept { self.new.kept ≡ self.old.kept }
         ensures commits { CommitsRows D.state D.faults D.spent R.mode front.now back.now
             self.old.keep self.new.keep result }

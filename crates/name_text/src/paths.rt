@@ -36,7 +36,8 @@ fn tidy(alloc: Global, path: &[u8], limit: usize) -> Result<Bytes, NoMemory>
     let absolute = is_absolute(path);
     let mut parts = Vec::new(alloc);
     put_parts(&mut parts, path, absolute)?;
-    cut_path(alloc, parts.as_slice(), absolute, limit)
+    let most = path.len().saturating_add(1);
+    cut_path(alloc, parts.as_slice(), absolute, most, limit)
 }
 
 // The same of a path that is given as the text before a slash and the text after it.
@@ -47,7 +48,8 @@ fn tidy_behind(alloc: Global, front: &[u8], name: &[u8], limit: usize) -> Result
     let mut parts = Vec::new(alloc);
     put_parts(&mut parts, front, absolute)?;
     put_parts(&mut parts, name, absolute)?;
-    cut_path(alloc, parts.as_slice(), absolute, limit)
+    let most = front.len().saturating_add(name.len()).saturating_add(1);
+    cut_path(alloc, parts.as_slice(), absolute, most, limit)
 }
 
 // Whether a path is absolute that has this before a slash.
@@ -119,11 +121,17 @@ fn is_up(part: &[u8]) -> bool
     part == b"..".as_slice()
 }
 
-// The text of the parts of a path, as far as its first bytes.
-fn cut_path(alloc: Global, parts: &[&[u8]], absolute: bool, limit: usize) -> Result<Bytes, NoMemory>
+// The text of the parts of a path, as far as its first bytes. If it has at most `most` bytes, memory is taken once.
+fn cut_path(
+    alloc: Global,
+    parts: &[&[u8]],
+    absolute: bool,
+    most: usize,
+    limit: usize,
+) -> Result<Bytes, NoMemory>
     ensures { IfOk result (λ path. path ≡ take limit (path_of absolute (map (λ p. p.now) parts.now))) }
 {
-    let mut path = Vec::new(alloc);
+    let mut path = Vec::with_capacity(alloc, most)?;
     if absolute {
         path.push(b'/')?;
     } else if parts.is_empty() {

@@ -124,6 +124,10 @@ forks number flags = list_any (nat_eq number) (57 ∷ 58 ∷ []) || (number == 5
 abbrev pub begins : ℕ → Bool
 begins number = list_any (nat_eq number) (56 ∷ 435 ∷ [])
 
+-- the calls that begin a process or a thread: clone, fork, vfork, clone3
+abbrev pub bears : ℕ → Bool
+bears number = list_any (nat_eq number) (56 ∷ 57 ∷ 58 ∷ 435 ∷ [])
+
 -- execve, execveat
 abbrev pub runs : ℕ → Bool
 runs number = list_any (nat_eq number) (59 ∷ 322 ∷ [])
@@ -210,12 +214,20 @@ abbrev pub takes_from : Files → ℕ → Option ℕ → Option ℕ → Takes
 takes_from files pid parent None = takes.Awaited
 takes_from files pid parent (Some fd) = if files pid parent fd then takes.File else takes.Awaited
 
+-- the number of the child that such a call of x86-64 began, if it has succeeded: its answer
+abbrev pub child_in : List ℕ → ℕ → Option ℕ
+child_in line number = if bears number && (is_native line && is_done line) then number_in line (codes "exit") else None
+
 -- the call of a call's record, whose process and number are there
 abbrev pub call_from : Files → List ℕ → Option ℕ → Option ℕ → Option Call
 call_from files line (Some pid) (Some number) =
     if is_native line && list_any (nat_eq number) waiting
-    then Some (record { pid = pid; takes = takes_from files pid (number_in line (codes "ppid")) (hex_in line (codes "a0")) })
-    else Some (record { pid = pid; takes = takes.Nothing })
+    then Some (record {
+      pid = pid;
+      takes = takes_from files pid (number_in line (codes "ppid")) (hex_in line (codes "a0"));
+      child = child_in line number;
+    })
+    else Some (record { pid = pid; takes = takes.Nothing; child = child_in line number })
 call_from files line _ _ = None
 
 abbrev pub call_in : Files → List ℕ → Option Call

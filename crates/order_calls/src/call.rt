@@ -11,9 +11,10 @@ pub enum Takes {
     Awaited,
 }
 
-/// A call: the process that made it, and what it takes.
+/// A call: the process that made it, what it takes, and if it is a fork the number of the child.
 #[derive(Clone, Copy, Debug, PartialEq, Eq)]
 pub struct Call {
     pub pid: u32,
     pub takes: Takes,
+    pub child: Option<u32>,
 }

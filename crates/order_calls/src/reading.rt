@@ -4,7 +4,7 @@ ghost use Rattle.std.specs.List.{list_any};
 ghost use Rattle.audit_lex.specs.FieldTable.{name_of};
 ghost use Rattle.order_calls.specs.Deeds.{Said};
 ghost use Rattle.order_calls.specs.Known.{is_file_at, StandsFor};
-ghost use Rattle.order_calls.specs.Lines.{text_in, number_in, hex_in, is_native, is_done, opens, closes, closes_range, closes_now, copies, copies_from, opens_socket, lacks, is_apart, forks, begins, runs, waiting, deed_with, deed_done, range_in, low_in, deed_in, deed_of_path, deed_of_kind, call_in, call_of_kind, takes_from, HearsKind, HearsLine, saying, deed_of};
+ghost use Rattle.order_calls.specs.Lines.{text_in, number_in, hex_in, is_native, is_done, opens, closes, closes_range, closes_now, copies, copies_from, opens_socket, lacks, is_apart, forks, begins, bears, child_in, runs, waiting, deed_with, deed_done, range_in, low_in, deed_in, deed_of_path, deed_of_kind, call_in, call_of_kind, takes_from, HearsKind, HearsLine, saying, deed_of};
 ghost use Rattle.order_calls.specs.Reads.{IsRead};
 
 use crate::call::{Call, Takes};
@@ -115,10 +115,12 @@ fn call_in(files: &Files, used: &UsedLine<'_>) -> Option<Call>
 {
     let pid = number_in(used, Field::Pid)?;
     let number = number_in(used, Field::Syscall)?;
+    let child = child_in(used, number);
     if !is_native(used) || !may_wait(number) {
         return Some(Call {
             pid,
             takes: Takes::Nothing,
+            child,
         });
     }
     Some(Call {
@@ -129,7 +131,19 @@ fn call_in(files: &Files, used: &UsedLine<'_>) -> Option<Call>
             number_in(used, Field::Ppid),
             hex_in(used, Field::A0),
         ),
+        child,
     })
+}
+
+// The number of the child that a call of this number began, if it has.
+fn child_in(used: &UsedLine<'_>, number: u32) -> Option<u32>
+    ensures { result ≡ child_in used.now.line.now number }
+{
+    if bears(number) && is_native(used) && is_done(used) {
+        number_in(used, Field::Exit)
+    } else {
+        None
+    }
 }
 
 // What a call takes that may wait, from this descriptor.
@@ -337,6 +351,13 @@ fn begins(number: u32) -> bool
     ensures { result ≡ begins number }
 {
     matches!(number, 56 | 435)
+}
+
+// clone, fork, vfork, clone3
+fn bears(number: u32) -> bool
+    ensures { result ≡ bears number }
+{
+    matches!(number, 56 | 57 | 58 | 435)
 }
 
 // execve, execveat

@@ -1,3 +1,4 @@
 pub mod Gate
 pub mod Own
 pub mod Rules
+pub mod Answers

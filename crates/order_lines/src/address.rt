@@ -49,8 +49,8 @@ fn is_address(front: &[u8]) -> bool
     front.ends_with(b"type=SOCKADDR msg=audit")
 }
 
-// The value at the beginning of a text.
-fn value_at(text: &[u8]) -> &[u8]
+/// The value at the beginning of a text.
+pub fn value_at(text: &[u8]) -> &[u8]
     ensures { result.now ≡ value_at text.now }
 {
     before_byte(0x1d, before_byte(b' ', text))

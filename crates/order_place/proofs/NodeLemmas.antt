@@ -10,10 +10,11 @@ use Rattle.std.proofs.lemmas.Map.Lookups.{exact_bytes}
 use Rattle.std.proofs.lemmas.Bool.Decides.{nat_tests}
 use Rattle.order_text.specs.Stamp.{Stamp}
 use Rattle.order_place.specs.declared.places.Place.{Place}
+use Rattle.order_place.specs.declared.slot.Slot.{Slot}
 use Rattle.order_place.specs.Clocks.{others_at}
 use Rattle.order_place.specs.Places.{Seen, SeesNext, Forgets, node_of, is_boot, read_as}
 use Rattle.order_place.specs.Sights.{Sight, Saw, Wrote, Started, StandsFor}
-use Rattle.order_place.specs.Nodes.{AllSeen, is_node, none, fresh, booted, begun, node_at, Keeps, SeesOf, ForgetsOf, sights_of, seen_by, StandsForAll}
+use Rattle.order_place.specs.Nodes.{AllSeen, is_node, none, fresh, booted, begun, node_at, Keeps, SeesOf, ForgetsOf, sights_of, seen_by, slot_of, StandsForAll}
 use Rattle.order_place.proofs.ClockLemmas.{by_test, sees_on}
 
 -- what is taken out leaves the others
@@ -65,15 +66,15 @@ own of name sight before same = rw same refl
 apart : (of name : List ℕ) (sight : Sight) (before : List (List ℕ × Sight)) → is_node of name ≡ false → sights_of name ((of, sight) ∷ before) ≡ sights_of name before
 apart of name sight before isnt = rw isnt refl
 
-sees_own : (boots : Bool) (seen new : Seen) (s : Stamp) (line : List ℕ) (time : ℕ) (of name : List ℕ) (sights : List (List ℕ × Sight)) → is_node of name ≡ true
-    → StandsFor seen (sights_of name sights) → SeesNext (begun boots seen) new s line time → StandsFor new (sights_of name (seen_by boots of (Saw s line time) ++ sights))
-sees_own true seen new s line time of name sights same stands sees =
+sees_own : (boots : Bool) (seen new : Seen) (s : Stamp) (line : List ℕ) (slot : Slot) (of name : List ℕ) (sights : List (List ℕ × Sight)) → is_node of name ≡ true
+    → StandsFor seen (sights_of name sights) → SeesNext (begun boots seen) new s line slot → StandsFor new (sights_of name (seen_by boots of (Saw s line slot) ++ sights))
+sees_own true seen new s line slot of name sights same stands sees =
     subst (λ (l : List Sight). StandsFor new l)
-    (sym (own of name (Saw s line time) ((of, Started) ∷ sights) same ∙ ap (λ (l : List Sight). Saw s line time ∷ l) (own of name Started sights same)))
-    (sees_on (booted seen) new s line time (Started ∷ sights_of name sights) (starts true seen (sights_of name sights) refl stands) sees)
-sees_own false seen new s line time of name sights same stands sees =
-    subst (λ (l : List Sight). StandsFor new l) (sym (own of name (Saw s line time) sights same))
-    (sees_on seen new s line time (sights_of name sights) stands sees)
+    (sym (own of name (Saw s line slot) ((of, Started) ∷ sights) same ∙ ap (λ (l : List Sight). Saw s line slot ∷ l) (own of name Started sights same)))
+    (sees_on (booted seen) new s line slot (Started ∷ sights_of name sights) (starts true seen (sights_of name sights) refl stands) sees)
+sees_own false seen new s line slot of name sights same stands sees =
+    subst (λ (l : List Sight). StandsFor new l) (sym (own of name (Saw s line slot) sights same))
+    (sees_on seen new s line slot (sights_of name sights) stands sees)
 
 sees_apart : (boots : Bool) (sight : Sight) (of name : List ℕ) (sights : List (List ℕ × Sight)) → is_node of name ≡ false
     → sights_of name (seen_by boots of sight ++ sights) ≡ sights_of name sights
@@ -82,15 +83,15 @@ sees_apart false sight of name sights isnt = apart of name sight sights isnt
 
 pub sees_on_all : (old new : AllSeen) (s : Stamp) (line : List ℕ) (p : Place) (sights : List (List ℕ × Sight))
     → StandsForAll old sights → SeesOf old new s line p
-    → StandsForAll new (seen_by (is_boot s.front) (node_of s.front) (Saw s (read_as old.compat s line) p.time) ++ sights)
+    → StandsForAll new (seen_by (is_boot s.front) (node_of s.front) (Saw s (read_as old.compat s line) (slot_of p)) ++ sights)
 sees_on_all old new s line p sights stands sees =
     let read : List ℕ = read_as old.compat s line in
     record {
       each = λ name. by_test (is_node (node_of s.front) name)
-          (λ same. subst (λ (n : List ℕ). StandsFor (node_at new n) (sights_of name (seen_by (is_boot s.front) (node_of s.front) (Saw s read p.time) ++ sights))) (one_node _ _ same)
-          (sees_own (is_boot s.front) (node_at old (node_of s.front)) (node_at new (node_of s.front)) s read p.time (node_of s.front) name sights same
+          (λ same. subst (λ (n : List ℕ). StandsFor (node_at new n) (sights_of name (seen_by (is_boot s.front) (node_of s.front) (Saw s read (slot_of p)) ++ sights))) (one_node _ _ same)
+          (sees_own (is_boot s.front) (node_at old (node_of s.front)) (node_at new (node_of s.front)) s read (slot_of p) (node_of s.front) name sights same
           (subst (λ (n : List ℕ). StandsFor (node_at old n) (sights_of name sights)) (sym (one_node _ _ same)) (stands.each name)) sees.sees))
-          (λ isnt. rw (sees.others name isnt, sees_apart (is_boot s.front) (Saw s read p.time) (node_of s.front) name sights isnt) (stands.each name));
+          (λ isnt. rw (sees.others name isnt, sees_apart (is_boot s.front) (Saw s read (slot_of p)) (node_of s.front) name sights isnt) (stands.each name));
     }
 
 writes_one : (old new : Seen) (event : ℕ × ℕ) (sights : List Sight) → StandsFor old sights → Forgets old new event → StandsFor new (Wrote event ∷ sights)

@@ -7,6 +7,7 @@ use Rattle.order_text.specs.Stamp.{Stamp}
 use Rattle.order_calls.specs.Known.{nothing}
 use Rattle.order_place.specs.declared.clock.Clock.{Clock}
 use Rattle.order_place.specs.declared.places.Place.{Place}
+use Rattle.order_place.specs.declared.slot.Slot.{Slot}
 use Rattle.order_place.specs.Places.{Seen, SeesNext, Forgets, IsPlaceOf, node_of, is_boot, read_as}
 use Rattle.order_place.specs.Sights.{Sight, Started, StandsFor}
 
@@ -53,6 +54,10 @@ pub record Keeps (old new : AllSeen) (name : List ℕ) (node : Seen) : Type 0 wh
   pub here : node_at new name ≡ node
   pub others : (other : List ℕ) → is_node name other ≡ false → node_at new other ≡ node_at old other
 
+-- the slot of a place
+abbrev pub slot_of : Place → Slot
+slot_of p = record { time = p.time; goes_by = p.goes_by }
+
 -- a line of this stamp, or of none, has this place after what was seen
 abbrev pub HasPlace : AllSeen → Option Stamp → Place → Type 0
 HasPlace all None p = p ≡ all.last
@@ -60,7 +65,7 @@ HasPlace all (Some s) p = IsPlaceOf s p
 
 -- A line of a node was seen. If it says that the node was started, the processes and the clock from before are forgotten.
 pub record SeesOf (old new : AllSeen) (s : Stamp) (line : List ℕ) (p : Place) : Type 0 where
-  pub sees : SeesNext (begun (is_boot s.front) (node_at old (node_of s.front))) (node_at new (node_of s.front)) s (read_as old.compat s line) p.time
+  pub sees : SeesNext (begun (is_boot s.front) (node_at old (node_of s.front))) (node_at new (node_of s.front)) s (read_as old.compat s line) (slot_of p)
   pub others : (other : List ℕ) → is_node (node_of s.front) other ≡ false → node_at new other ≡ node_at old other
   pub clock : new.clock ≡ max old.clock (node_at new (node_of s.front)).clock.time
   pub compat : new.compat ≡ old.compat

@@ -1,5 +1,5 @@
 -- The places of lines.
-use Rattle.std.specs.Prelude.{◌≡◌, ◌+◌, ◌||◌, ◌++◌, ℕ, List, [], Bool, false, Option, None, Some, drop, max, min, nat_eq, codes, if◌then◌else◌}
+use Rattle.std.specs.Prelude.{◌≡◌, ◌+◌, ◌||◌, ◌++◌, ℕ, List, [], Bool, false, Option, None, Some, drop, max, min, ◌==◌, nat_eq, nat_lt, codes, if◌then◌else◌}
 use Rattle.std.specs.List.{starts_with, ends_with}
 use Rattle.std.specs.Map.{lookup}
 use Rattle.std.specs.declared.cmp.Ordering.{Ordering}
@@ -16,15 +16,16 @@ use Rattle.order_calls.specs.Known.{Known, is_file_at}
 use Rattle.order_calls.specs.Lines.{HearsIt, deed_of, call_of}
 use Rattle.order_place.specs.declared.clock.Clock.{Clock}
 use Rattle.order_place.specs.declared.places.Place.{Place}
+use Rattle.order_place.specs.declared.slot.Slot.{Slot}
 use Rattle.order_place.specs.Clocks.{clock_after}
 
--- What was seen of a node: its clock, the time before which no call of a process counts, the one at which each event counts
+-- What was seen of a node: its clock, the slot before which no call of a process counts, the one at which each event counts
 -- that is held, by its time and its serial number, and which descriptors are known to be regular files.
 pub record Seen : Type 0 where
   pub clock : Clock
   pub files : Known
-  pub calls : List (ℕ × ℕ)
-  pub events : List ((ℕ × ℕ) × ℕ)
+  pub calls : List (ℕ × Slot)
+  pub events : List ((ℕ × ℕ) × Slot)
 
 -- one process
 abbrev pub is_pid : ℕ → ℕ → Bool
@@ -67,12 +68,12 @@ pub record IsPlaceOf (s : Stamp) (p : Place) : Type 0 where
   pub rank : p.rank ≡ rank_of s
   pub starts : p.starts ≡ is_boot s.front
 
--- the time before which no call of a process counts, if a call of it was seen
-abbrev pub call_at : Seen → ℕ → Option ℕ
+-- the slot before which no call of a process counts, if a call of it was seen, or the fork that began it
+abbrev pub call_at : Seen → ℕ → Option Slot
 call_at seen pid = lookup (is_pid pid) seen.calls
 
--- the time at which an event counts, if it is held
-abbrev pub event_at : Seen → ℕ × ℕ → Option ℕ
+-- the slot at which an event counts, if it is held
+abbrev pub event_at : Seen → ℕ × ℕ → Option Slot
 event_at seen event = lookup (is_event event) seen.events
 
 -- A call that may have waited counts at the time of the clock, and one that takes what stands in a regular file too, but at
@@ -82,54 +83,94 @@ own_time clock ms takes.Nothing = ms
 own_time clock ms takes.File = max ms (min clock (ms + 4))
 own_time clock ms takes.Awaited = max ms clock
 
--- not before this time, if there is one
-abbrev pub not_before : ℕ → Option ℕ → ℕ
+-- not before this slot, if there is one
+abbrev pub not_before : ℕ → Option Slot → ℕ
 not_before time None = time
-not_before time (Some before) = max time before
+not_before time (Some before) = max time before.time
 
 -- the time at which a call counts: not before its entry, nor before the process's call before it
 abbrev pub call_time : Seen → ℕ → Call → ℕ
 call_time seen ms call = not_before (own_time seen.clock.time ms call.takes) (call_at seen call.pid)
 
--- the time at which an event counts that begins with this line
-abbrev pub first_time : Seen → ℕ → Option Call → ℕ
-first_time seen ms None = ms
-first_time seen ms (Some call) = call_time seen ms call
+-- The number by which a fork goes among what counts at its time: that of its process's call before it, if that counts then too,
+-- and else 0; but no greater one than its own.
+abbrev pub fork_number : ℕ → ℕ → Option Slot → ℕ
+fork_number time serial None = 0
+fork_number time serial (Some before) = if time == before.time then min serial before.goes_by else 0
 
--- the time at which an event counts: that of its first line
-abbrev pub time_or : Option ℕ → ℕ → ℕ
-time_or None first = first
-time_or (Some time) first = time
+-- the number by which a call goes among what counts at its time: its serial number, if it isn't a fork
+abbrev pub call_number : ℕ → ℕ → Option ℕ → Option Slot → ℕ
+call_number time serial None before = serial
+call_number time serial (Some child) before = fork_number time serial before
 
-abbrev pub event_time : Seen → ℕ × ℕ → Option Call → ℕ
-event_time seen event call = time_or (event_at seen event) (first_time seen event.0 call)
+-- where a call counts
+abbrev pub call_slot : Seen → ℕ × ℕ → Call → Slot
+call_slot seen event call = record {
+  time = call_time seen event.0 call;
+  goes_by = call_number (call_time seen event.0 call) event.1 call.child (call_at seen call.pid);
+}
 
--- the times before which no calls of processes count, after a call at this time
-abbrev pub calls_after : Seen → Option Call → ℕ → ℕ → Option ℕ
-calls_after seen None time pid = call_at seen pid
-calls_after seen (Some call) time pid = if is_pid call.pid pid then Some time else call_at seen pid
+-- where an event counts that begins with this line
+abbrev pub first_slot : Seen → ℕ × ℕ → Option Call → Slot
+first_slot seen event None = record { time = event.0; goes_by = event.1 }
+first_slot seen event (Some call) = call_slot seen event call
 
--- an event that is held has no further call; the first call of another holds its process's calls back, as far as the clock
--- has come
-abbrev pub calls_of : Seen → Option ℕ → ℕ × ℕ → ℕ → Option Call → ℕ → Option ℕ
-calls_of seen (Some time) event most call pid = call_at seen pid
-calls_of seen None event most call pid = calls_after seen call (min (first_time seen event.0 call) most) pid
+-- where an event counts: at the slot of its first line
+abbrev pub slot_or : Option Slot → Slot → Slot
+slot_or None first = first
+slot_or (Some slot) first = slot
 
--- A line of an event was seen: the event is held at its time, and its call is the last of the process if it is the first line.
+abbrev pub event_slot : Seen → ℕ × ℕ → Option Call → Slot
+event_slot seen event call = slot_or (event_at seen event) (first_slot seen event call)
+
+-- the later of two slots, if there are two; of two at one time it has the greater number
+abbrev pub later_of : Slot → Option Slot → Slot
+later_of slot None = slot
+later_of slot (Some before) =
+    if slot.time == before.time then record { time = slot.time; goes_by = max slot.goes_by before.goes_by }
+    else if nat_lt slot.time before.time then before else slot
+
+-- the slot before which no call of a process counts, if this one's calls are held back to this slot
+abbrev pub held_by : Option ℕ → Slot → ℕ → Option Slot → Option Slot
+held_by None slot pid before = before
+held_by (Some held) slot pid before = if is_pid held pid then Some (later_of slot before) else before
+
+-- what holds back the calls after a call at this time: its serial number is theirs to follow, as far as the clock has come
+abbrev pub held_at : ℕ → ℕ → ℕ → Slot
+held_at time serial most = record { time = min time most; goes_by = serial }
+
+-- the slots before which no calls of processes count, after a call: it holds back its process's calls, and those of its child
+abbrev pub held_after : Option Call → Slot → ℕ → Option Slot → Option Slot
+held_after None slot pid before = before
+held_after (Some call) slot pid before = held_by call.child slot pid (held_by (Some call.pid) slot pid before)
+
+abbrev pub calls_by : Seen → Option Call → ℕ × ℕ → ℕ → ℕ → Option Slot
+calls_by seen call event most pid = held_after call (held_at (first_slot seen event call).time event.1 most) pid (call_at seen pid)
+
+-- the calls of a process are held back to this slot, if there is one
+pub record HoldsBack (old new : Seen) (held : Option ℕ) (slot : Slot) : Type 0 where
+  pub each : (pid : ℕ) → call_at new pid ≡ held_by held slot pid (call_at old pid)
+
+-- an event that is held has no further call; the first call of another holds calls back
+abbrev pub calls_of : Seen → Option Slot → ℕ × ℕ → ℕ → Option Call → ℕ → Option Slot
+calls_of seen (Some slot) event most call pid = call_at seen pid
+calls_of seen None event most call pid = calls_by seen call event most pid
+
+-- A line of an event was seen: the event is held at its slot, and its call is the last of the process if it is the first line.
 pub record HoldsEvent (old new : Seen) (event : ℕ × ℕ) (most : ℕ) (call : Option Call) : Type 0 where
   pub clock : new.clock ≡ old.clock
   pub files : new.files ≡ old.files
   pub calls : (pid : ℕ) → call_at new pid ≡ calls_of old (event_at old event) event most call pid
-  pub events : (other : ℕ × ℕ) → event_at new other ≡ (if is_event event other then Some (event_time old event call) else event_at old other)
+  pub events : (other : ℕ × ℕ) → event_at new other ≡ (if is_event event other then Some (event_slot old event call) else event_at old other)
 
--- A line of this stamp and this call was seen, and counts at this time: that of its event.
-pub record Sees (old new : Seen) (s : Stamp) (call : Option Call) (at : ℕ) : Type 0 where
-  pub time : at ≡ event_time old (s.ms, s.number) call
+-- A line of this stamp and this call was seen, and counts at this slot: that of its event.
+pub record Sees (old new : Seen) (s : Stamp) (call : Option Call) (at : Slot) : Type 0 where
+  pub slot : at ≡ event_slot old (s.ms, s.number) call
   pub clock : new.clock ≡ clock_after old.clock s.ms s.number
   pub calls : (pid : ℕ) → call_at new pid
       ≡ calls_of old (event_at old (s.ms, s.number)) (s.ms, s.number) (clock_after old.clock s.ms s.number).time call pid
   pub events : (other : ℕ × ℕ) → event_at new other
-      ≡ (if is_event (s.ms, s.number) other then Some (event_time old (s.ms, s.number) call) else event_at old other)
+      ≡ (if is_event (s.ms, s.number) other then Some (event_slot old (s.ms, s.number) call) else event_at old other)
 
 -- ---- the line of a 32-bit call as it will be rewritten
 
@@ -146,9 +187,9 @@ read_as compat s line = read_with s line (change_of (record { join = false; comp
 abbrev pub call_by : Seen → List ℕ → Option Call
 call_by seen line = call_of (is_file_at seen.files) line
 
--- A line of this stamp was seen, and counts at this time. Its call is by what was known of descriptors, and what it says of
+-- A line of this stamp was seen, and counts at this slot. Its call is by what was known of descriptors, and what it says of
 -- them is known from then on.
-pub record SeesNext (old new : Seen) (s : Stamp) (line : List ℕ) (at : ℕ) : Type 0 where
+pub record SeesNext (old new : Seen) (s : Stamp) (line : List ℕ) (at : Slot) : Type 0 where
   pub sees : Sees old new s (call_by old line) at
   pub hears : HearsIt old.files new.files (s.ms, s.number) (deed_of line)
 

@@ -1,12 +1,13 @@
 //! What was seen of a node: the times of its processes and of its events.
-ghost use Rattle.std.specs.Prelude.{◌≡◌, ℕ, [], IfOk, OnOk, min};
+ghost use Rattle.std.specs.Prelude.{◌≡◌, ℕ, [], Some, IfOk, OnOk};
 ghost use Rattle.order_calls.specs.Reads.{IsRead};
 ghost use Rattle.order_text.specs.Seen.{stamp_seen};
 ghost use Rattle.order_place.specs.Sights.{StandsFor};
 ghost use Rattle.order_place.specs.Nodes.{fresh, booted};
-ghost use Rattle.order_place.specs.Places.{call_at, own_time, SeesNext, Forgets, HoldsEvent, event_time, first_time, call_time, calls_after};
+ghost use Rattle.order_place.specs.Places.{call_at, own_time, SeesNext, Forgets, HoldsEvent, event_slot, first_slot, call_slot, calls_by, held_by, call_number, not_before, HoldsBack};
 
 use crate::clock::Clock;
+use crate::slot::{Slot, fork_number};
 use audit_lex::UsedLine;
 use flow_base::NoMemory;
 use order_calls::{Call, Files, Takes};
@@ -18,14 +19,14 @@ use std::marker::Model;
 /// The milliseconds within which a read of a regular file counts: a tick of the clock by which calls are entered.
 const TICK: u64 = 4;
 
-/// What was seen of a node since it was started: its clock, which descriptors are known to be regular files, the time of each
-/// process's last call, and the times of the events that wait.
+/// What was seen of a node since it was started: its clock, which descriptors are known to be regular files, the slot before which
+/// no call of a process counts, and the slots of the events that wait.
 #[derive(Drop)]
 pub struct Node {
     clock: Clock,
     files: Files,
-    calls: BTreeMap<u32, u64>,
-    events: BTreeMap<(u64, u32), u64>,
+    calls: BTreeMap<u32, Slot>,
+    events: BTreeMap<(u64, u32), Slot>,
 }
 
 impl Model for Node {
@@ -71,22 +72,22 @@ impl Node {
         self.calls.clear();
     }
 
-    /// The time at which the next line counts, which may have been read.
+    /// Where the next line counts, which may have been read.
     pub fn see(
         &mut self,
         line: &[u8],
         used: &Option<UsedLine<'_>>,
         stamp: &Stamp<'_>,
-    ) -> Result<u64, NoMemory>
+    ) -> Result<Slot, NoMemory>
         requires is { IsRead line.now used.now }
-        ensures { IfOk result (λ time.
-            SeesNext self.old self.new (stamp_seen stamp.now) line.now time) }
+        ensures { IfOk result (λ slot.
+            SeesNext self.old self.new (stamp_seen stamp.now) line.now slot) }
     {
         let call = self.files.see_read(line, used, stamp.ms, stamp.number)?;
         let clock = self.clock.after(stamp.ms, stamp.number);
-        let time = self.time_of(call, stamp, clock.time)?;
+        let slot = self.slot_of(call, stamp, clock.time)?;
         self.clock = clock;
-        Ok(time)
+        Ok(slot)
     }
 
     /// The event was written, so its place is known no longer.
@@ -96,49 +97,120 @@ impl Node {
         let _ = self.events.remove(&(ms, serial));
     }
 
-    // The time at which the event of a line counts: that of its first line.
-    fn time_of(&mut self, call: Option<Call>, stamp: &Stamp<'_>, most: u64) -> Result<u64, NoMemory>
-        ensures time { IfOk result (λ time. time
-            ≡ event_time self.old (stamp.now.ms, stamp.now.number) call) }
+    // Where the event of a line counts: where its first line does.
+    fn slot_of(
+        &mut self,
+        call: Option<Call>,
+        stamp: &Stamp<'_>,
+        most: u64,
+    ) -> Result<Slot, NoMemory>
+        ensures slot { IfOk result (λ slot. slot
+            ≡ event_slot self.old (stamp.now.ms, stamp.now.number) call) }
         ensures holds { OnOk result (HoldsEvent self.old self.new
             (stamp.now.ms, stamp.now.number) most call) }
     {
         let key = (stamp.ms, stamp.number);
-        if let Some(time) = self.events.get(&key) {
-            return Ok(*time);
+        if let Some(slot) = self.events.get(&key) {
+            return Ok(*slot);
         }
-        let time = self.first_time(call, stamp.ms, most)?;
-        self.events.insert(key, time)?;
-        Ok(time)
+        let slot = self.first_slot(call, stamp.ms, stamp.number, most)?;
+        self.events.insert(key, slot)?;
+        Ok(slot)
     }
 
-    // The time at which an event counts that begins with a line of this call. The calls of its process after it count no earlier,
-    // as far as the clock got.
-    fn first_time(&mut self, call: Option<Call>, ms: u64, most: u64) -> Result<u64, NoMemory>
-        ensures time { IfOk result (λ time. time ≡ first_time self.old ms call) }
+    // Where an event counts that begins with a line of this call. The calls of its process after it count no earlier, nor do those of
+    // a child that it began, as far as the clock got.
+    fn first_slot(
+        &mut self,
+        call: Option<Call>,
+        ms: u64,
+        serial: u32,
+        most: u64,
+    ) -> Result<Slot, NoMemory>
+        ensures slot { IfOk result (λ slot. slot ≡ first_slot self.old (ms, serial) call) }
         ensures calls { OnOk result ((pid : ℕ) → call_at self.new pid
-            ≡ calls_after self.old call (min (first_time self.old ms call) most) pid) }
+            ≡ calls_by self.old call (ms, serial) most pid) }
         ensures same { self.new ≡ record self.old { calls = self.new.calls } }
     {
         match call {
-            None => Ok(ms),
+            None => Ok(Slot {
+                time: ms,
+                goes_by: serial,
+            }),
             Some(call) => {
-                let time = self.call_time(call, ms);
-                self.calls.insert(call.pid, time.min(most))?;
-                Ok(time)
+                let slot = self.call_slot(call, ms, serial);
+                let held = Slot {
+                    time: slot.time.min(most),
+                    goes_by: serial,
+                };
+                self.hold_back(call.pid, held)?;
+                self.hold_child_back(call.child, held)?;
+                Ok(slot)
             }
         }
     }
 
-    // The time at which a call counts: not before its entry, nor before the process's call before it.
-    fn call_time(&self, call: Call, ms: u64) -> u64
-        ensures { result ≡ call_time self.now ms call }
+    // A child's calls count no earlier than this, if there is one.
+    fn hold_child_back(&mut self, child: Option<u32>, held: Slot) -> Result<(), NoMemory>
+        ensures holds { OnOk result (HoldsBack self.old self.new child held) }
+        ensures same { self.new ≡ record self.old { calls = self.new.calls } }
     {
-        let own = own_time(self.clock.time, ms, call.takes);
-        match self.calls.get(&call.pid) {
-            Some(before) => own.max(*before),
-            None => own,
+        match child {
+            None => Ok(()),
+            Some(child) => self.hold_back(child, held),
         }
+    }
+
+    // The calls of a process count no earlier than this.
+    fn hold_back(&mut self, pid: u32, held: Slot) -> Result<(), NoMemory>
+        ensures holds { OnOk result (HoldsBack self.old self.new (Some pid) held) }
+        ensures same { self.new ≡ record self.old { calls = self.new.calls } }
+    {
+        let slot = held.later_of(self.call_before(pid));
+        self.calls.insert(pid, slot)?;
+        Ok(())
+    }
+
+    // The slot before which no call of a process counts.
+    fn call_before(&self, pid: u32) -> Option<Slot>
+        ensures { result ≡ call_at self.now pid }
+    {
+        match self.calls.get(&pid) {
+            Some(slot) => Some(*slot),
+            None => None,
+        }
+    }
+
+    // Where a call counts: not before its entry, nor before the process's call before it.
+    fn call_slot(&self, call: Call, ms: u64, serial: u32) -> Slot
+        ensures { result ≡ call_slot self.now (ms, serial) call }
+    {
+        let before = self.call_before(call.pid);
+        let time = not_before(own_time(self.clock.time, ms, call.takes), before);
+        Slot {
+            time,
+            goes_by: call_number(time, serial, call.child, before),
+        }
+    }
+}
+
+// This time, but none before that of the process's call before.
+fn not_before(time: u64, before: Option<Slot>) -> u64
+    ensures { result ≡ not_before time before }
+{
+    match before {
+        Some(before) => time.max(before.time),
+        None => time,
+    }
+}
+
+// The number by which a call goes among those of its time: a fork may go before the calls of its child.
+fn call_number(time: u64, serial: u32, child: Option<u32>, before: Option<Slot>) -> u32
+    ensures { result ≡ call_number time serial child before }
+{
+    match child {
+        Some(_) => fork_number(time, serial, before),
+        None => serial,
     }
 }
 

@@ -8,6 +8,7 @@ ghost use Rattle.order_place.specs.Nodes.{is_node, node_at, begun, HasPlace, Kee
 
 use crate::node::Node;
 use crate::nodes::Nodes;
+use crate::slot::Slot;
 use audit_lex::UsedLine;
 use flow_base::{Bytes, NoMemory};
 use order_lines::{Settings, names_own, rewrite_of};
@@ -15,12 +16,13 @@ use order_text::{Rewrite, Stamp, at_first, read_stamp};
 use std::alloc::Global;
 use std::marker::Model;
 
-/// The place of a line: the time at which its event counts; the serial number, the time and the node of the event; its rank
-/// within that, which is 2 or 3 if the line is one that ends an event, 0 if it names a descriptor, and else 1; and whether the
-/// line says that its node was started.
+/// The place of a line: the time at which its event counts, and the serial number by which that goes among those of this time;
+/// the serial number, the time and the node of the event; its rank within that, which is 2 or 3 if the line is one that ends an
+/// event, 0 if it names a descriptor, and else 1; and whether the line says that its node was started.
 #[derive(Drop)]
 pub struct Place {
     pub time: u64,
+    pub goes_by: u32,
     pub serial: u32,
     pub ms: u64,
     pub node: Bytes,
@@ -36,6 +38,7 @@ impl Place {
         let node = self.node.copy()?;
         Ok(Place {
             time: self.time,
+            goes_by: self.goes_by,
             serial: self.serial,
             ms: self.ms,
             node,
@@ -83,6 +86,7 @@ impl Places {
             nodes: Nodes::new(alloc),
             last: Place {
                 time: 0,
+                goes_by: 0,
                 serial: 0,
                 ms: 0,
                 node: Bytes::new(alloc),
@@ -146,10 +150,11 @@ impl Places {
         let mut node = self.take_node(&name);
         let starts = is_boot(stamp.front);
         start_if(&mut node, starts);
-        let time = see_as(&mut node, self.alloc, self.compat, line, used, stamp)?;
+        let slot = see_as(&mut node, self.alloc, self.compat, line, used, stamp)?;
         self.clock = self.clock.max(node.clock());
         self.last = Place {
-            time,
+            time: slot.time,
+            goes_by: slot.goes_by,
             serial: stamp.number,
             ms: stamp.ms,
             node: name.copy()?,
@@ -192,7 +197,7 @@ impl Places {
     }
 }
 
-// The time at which the next line of a node counts, which is read as the rules on calls alone rewrite it.
+// Where the next line of a node counts, which is read as the rules on calls alone rewrite it.
 fn see_as(
     node: &mut Node,
     alloc: Global,
@@ -200,10 +205,10 @@ fn see_as(
     line: &[u8],
     used: &Option<UsedLine<'_>>,
     stamp: &Stamp<'_>,
-) -> Result<u64, NoMemory>
+) -> Result<Slot, NoMemory>
     requires { IsRead line.now used.now }
-    ensures { IfOk result (λ time. SeesNext node.old node.new (stamp_seen stamp.now)
-        (read_as compat (stamp_seen stamp.now) line.now) time) }
+    ensures { IfOk result (λ slot. SeesNext node.old node.new (stamp_seen stamp.now)
+        (read_as compat (stamp_seen stamp.now) line.now) slot) }
 {
     let settings = Settings {
         join: false,
@@ -218,8 +223,8 @@ fn see_as(
     }
 }
 
-// The line of a stamp with a rewrite, and without a mark.
-fn rewritten(alloc: Global, stamp: &Stamp<'_>, rewrite: &Rewrite) -> Result<Bytes, NoMemory>
+/// The line of a stamp with a rewrite, and without a mark.
+pub fn rewritten(alloc: Global, stamp: &Stamp<'_>, rewrite: &Rewrite) -> Result<Bytes, NoMemory>
     ensures { IfOk result (λ made. made
         ≡ line_of (record (stamp_seen stamp.now) {
           rest = rewrite.now.text ++ drop rewrite.now.len stamp.now.rest.now;

@@ -12,13 +12,16 @@ abbrev pub rank_cmp : Waiting → Waiting → Ordering
 rank_cmp a b =
     ordering_then (nat_cmp a.rank b.rank) (ordering_then (nat_cmp a.number b.number) (slice_cmp nat_cmp a.line b.line))
 
--- The order of two lines by their places: by the time at which their event counts, then by the event's serial number, its own
--- time and its node; within an event by rank, then by number.
+-- the order of two lines by their events: by the serial number, the time and the node; within an event by rank, then by number
+abbrev pub event_cmp : Waiting → Waiting → Ordering
+event_cmp a b =
+    ordering_then (nat_cmp a.serial b.serial)
+    (ordering_then (nat_cmp a.ms b.ms) (ordering_then (slice_cmp nat_cmp a.node b.node) (rank_cmp a b)))
+
+-- The order of two lines by their places: by the time at which their event counts, then by the number by which it goes among those
+-- of that time, then by their events.
 abbrev pub place_cmp : Waiting → Waiting → Ordering
-place_cmp a b =
-    ordering_then (nat_cmp a.time b.time)
-    (ordering_then (nat_cmp a.serial b.serial)
-    (ordering_then (nat_cmp a.ms b.ms) (ordering_then (slice_cmp nat_cmp a.node b.node) (rank_cmp a b))))
+place_cmp a b = ordering_then (nat_cmp a.time b.time) (ordering_then (nat_cmp a.goes_by b.goes_by) (event_cmp a b))
 
 -- the same order turned, for a heap whose greatest element is taken first
 abbrev pub turned_cmp : Reverse Waiting → Reverse Waiting → Ordering

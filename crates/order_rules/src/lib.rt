@@ -35,7 +35,9 @@ mod target;
 mod tests;
 mod under;
 
+pub use call::{Act, Call};
 pub use laws::{nothing_changes_without_a_rule, rewrites_fit_their_lines};
 pub use note::{Note, note_of};
+pub use reading::call_in;
 pub use rules::Rules;
 pub use settings::Settings;

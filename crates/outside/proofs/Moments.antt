@@ -1,5 +1,5 @@
 -- How clauses on the moments of a call are joined over calls in a row.
-use Rattle.std.proofs.Common.{◌⊎◌, ◌∙◌, inl, inr, ⊎_elim, ℕ, List, arith, refl, sym, subst}
+use Rattle.std.proofs.Common.{◌≡◌, ◌⊎◌, ◌∙◌, inl, inr, ⊎_elim, ℕ, Bool, true, false, List, arith, refl, sym, subst}
 use Rattle.outside.specs.Disk.{DiskState, LeavesOnly, OnlyLooks, Only, Settles, IsDisk, UsesDisk}
 
 -- before the first call
@@ -30,24 +30,12 @@ leaves_by_looking old new is looks = record {
   before = λ t c le left. inl (looks.adds_nothing t c le left);
 }
 
-pub looks_in_a_row : (old mid new : DiskState) → OnlyLooks old mid → OnlyLooks mid new → OnlyLooks old new
-looks_in_a_row old mid new first second = record {
-  later = omega (arith, first.later, second.later);
-  keeps = λ t c le left. second.keeps t c (omega (arith, le, first.later)) (first.keeps t c le left);
-  adds_nothing = λ t c le left. first.adds_nothing t c le (second.adds_nothing t c (omega (arith, le, first.later)) left);
-  image = λ c now. first.image c (second.image c now);
-  same = λ told. second.same (first.tells told) ∙ first.same told;
-  tells = λ told. second.tells (first.tells told);
-}
-
-pub no_look : (old : DiskState) → OnlyLooks old old
-no_look old = record {
-  later = omega arith;
-  keeps = λ t c le left. left;
-  adds_nothing = λ t c le left. left;
-  image = λ c now. now;
-  same = λ told. refl;
-  tells = λ told. told;
+-- a run of calls, and then calls that write nothing
+pub leaves_then_looks : (old mid new : DiskState) (P : List ℕ → Type 0) → LeavesOnly old mid P → OnlyLooks mid new → LeavesOnly old new P
+leaves_then_looks old mid new P run looks = record {
+  later = omega (arith, run.later, looks.later);
+  each = λ c left. run.each c (looks.adds_nothing old.moment c run.later left);
+  before = λ t c le left. run.before t c le (looks.adds_nothing t c (omega (arith, le, run.later)) left);
 }
 
 -- a sync, and then calls that write nothing
@@ -69,6 +57,12 @@ pub since_start : (old mid new : DiskState) (P : List ℕ → Type 0) → IsDisk
 since_start old mid new P is looks run c left =
     ⊎_elim (λ past. inl (is.only_now c (looks.adds_nothing old.moment c (omega arith) past))) (λ now. inr now) (run.before old.moment c looks.later left)
 
+-- two values are equal if each is true when the other is
+both : (a b : Bool) → (a ≡ true → b ≡ true) → (b ≡ true → a ≡ true) → a ≡ b
+both true b to back = sym (to refl)
+both false true to back = back refl
+both false false to back = refl
+
 -- calls that use a disk, one after the other
 module _ {D : Type 0} {state : D → DiskState} {faults : D → ℕ} {spent : D → Type 0} where
   pub uses_in_a_row : {P Q : Type 0} (old mid new : D) → UsesDisk state faults spent old mid P → UsesDisk state faults spent mid new Q
@@ -80,3 +74,9 @@ module _ {D : Type 0} {state : D → DiskState} {faults : D → ℕ} {spent : D 
     stays = λ spent. second.stays (first.stays spent);
     rose = λ none. absurd none;
   }
+
+  -- they don't change whether it is observable, also not as a value
+  pub same_tells : {P : Type 0} (old new : D) → IsDisk (state old) → IsDisk (state new) → UsesDisk state faults spent old new P
+      → (state new).tells ≡ (state old).tells
+  same_tells old new was is uses = both ((state new).tells) ((state old).tells)
+      (λ so. was.told_is.0 (uses.told_before (is.told_is.1 so))) (λ so. is.told_is.0 (uses.still_told (was.told_is.1 so)))

@@ -1,10 +1,11 @@
 -- What a disk is at a moment, what its calls do to it, and what a crash may leave of them.
-use Rattle.std.specs.Prelude.{◌≡◌, ◌⊎◌, ℕ, ◌+◌, ◌≤◌, max, List, [], ◌∷◌, ◌++◌, length, take, drop}
+use Rattle.std.specs.Prelude.{◌≡◌, ◌⊎◌, ◌↔◌, ℕ, ◌+◌, ◌≤◌, max, Bool, true, false, List, [], ◌∷◌, ◌++◌, length, take, drop}
 use Rattle.outside.specs.Cause.{Rose}
 
 -- A disk at a moment. A disk that isn't observable has no image, so no clause claims anything of them.
 pub record DiskState : Type 1 where
   pub told : Type 0  -- the disk tells its bytes
+  pub tells : Bool  -- the same as a value, of which what is known of it can be made
   pub reads : List ℕ  -- the bytes that a read gives now
   pub image : List ℕ → Type 0  -- what a crash now may leave
   pub moment : ℕ  -- a clock that never goes back
@@ -89,10 +90,11 @@ pub record Settles (old new : DiskState) : Type 0 where
 
 -- how the meanings of a disk belong together
 pub record IsDisk (state : DiskState) : Type 0 where
+  pub told_is : state.told ↔ (state.tells ≡ true)
   pub counts_now : (t : ℕ) (c : List ℕ) → t ≤ state.moment → state.image c → state.since t c
   pub only_now : (c : List ℕ) → state.since state.moment c → state.image c
   pub read_is_image : state.told → state.image state.reads
 
 -- a disk that isn't observable
 abbrev pub silent : DiskState
-silent = record { told = ⊥; reads = []; image = λ _. ⊥; moment = 0; since = λ _ _. ⊥ }
+silent = record { told = ⊥; tells = false; reads = []; image = λ _. ⊥; moment = 0; since = λ _ _. ⊥ }

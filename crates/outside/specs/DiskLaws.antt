@@ -1,5 +1,5 @@
 -- What a write leaves, and that a disk in memory is a disk.
-use Rattle.std.proofs.Common.{◌≡◌, inl, inr, ℕ, ◌+◌, ◌≤◌, max, List, [], ◌∷◌, ◌++◌, length, take, drop, refl, ◌∙◌, ap, arith, append_assoc, length-append, length-drop, take-append-drop}
+use Rattle.std.proofs.Common.{◌≡◌, true, false, true≢false, sym, inl, inr, ℕ, ◌+◌, ◌≤◌, max, List, [], ◌∷◌, ◌++◌, length, take, drop, refl, ◌∙◌, ap, arith, append_assoc, length-append, length-drop, take-append-drop}
 use Rattle.std.proofs.lemmas.List.{take_at, drop_at, length-take-le}
 use Rattle.outside.specs.Disk.{IsDisk, MayBecome, put_at, silent}
 use Rattle.outside.specs.DiskMemory.{Recorded, reads_of, image_of, left_since, disk_state}
@@ -55,10 +55,11 @@ only_now first (call ∷ before) c (inr past) = absurd (omega (arith, past.0))
 
 pub memory_is_disk : (disk : Recorded) → IsDisk (disk_state disk)
 memory_is_disk disk = record {
+  told_is = (λ told. refl, λ tells. tt);
   counts_now = λ t c le now. counts_now disk.first disk.past t c now;
   only_now = λ c left. only_now disk.first disk.past c left;
   read_is_image = λ told. read_is_image disk.first disk.past;
 }
 
 pub silent_is_disk : IsDisk silent
-silent_is_disk = record { counts_now = λ t c le now. now; only_now = λ c left. left; read_is_image = λ told. absurd told }
+silent_is_disk = record { told_is = (λ told. absurd told, λ tells. absurd (true≢false (sym tells))); counts_now = λ t c le now. now; only_now = λ c left. left; read_is_image = λ told. absurd told }

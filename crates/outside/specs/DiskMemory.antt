@@ -1,5 +1,5 @@
 -- A disk in memory: what it reads as, and what a crash may leave, by the record of its calls.
-use Rattle.std.specs.Prelude.{◌≡◌, ◌⊎◌, ⊤, ℕ, ◌≤◌, min, List, [], ◌∷◌, length}
+use Rattle.std.specs.Prelude.{◌≡◌, ◌⊎◌, ⊤, true, ℕ, ◌≤◌, min, List, [], ◌∷◌, length}
 use Rattle.outside.specs.Disk.{DiskState, put_at, MayBecome}
 use Rattle.outside.specs.declared.mem_disk.DiskCall.{DiskCall}
 use Rattle.outside.specs.declared.mem_disk.DiskCall.TheVariants.{Wrote, Synced}
@@ -34,6 +34,7 @@ left_since first (call ∷ before) t c = image_of first (call ∷ before) c ⊎ 
 abbrev pub state_after : List ℕ → List DiskCall → DiskState
 state_after first past = record {
   told = ⊤;
+  tells = true;
   reads = reads_of first past;
   image = image_of first past;
   moment = length past;

@@ -1,12 +1,12 @@
 -- What the conditions on a store give of its kept rows.
-use Rattle.std.proofs.Common.{◌≡◌, ◌≢◌, ℕ, zero, suc, ◌+◌, ◌^◌, ◌<◌, ◌≤◌, max, List, [], ◌∷◌, ◌++◌, length, get_or, set, map, take, drop, drop-cons, Some, refl, sym, ap, subst, ◌∙◌, arith, inl, inr, append_assoc}
+use Rattle.std.proofs.Common.{◌≡◌, ◌≢◌, ℕ, zero, suc, ◌+◌, ◌^◌, ◌<◌, ◌≤◌, max, List, [], ◌∷◌, ◌++◌, ◌==◌, length, get_or, set, Option, None, map, take, drop, drop-cons, Some, refl, sym, ap, subst, ◌∙◌, arith, inl, inr, append_assoc}
 use Rattle.std.specs.Prelude.{slice_get, nat_eq, Bool, true, false, not, ◌||◌}
 use Rattle.std.specs.List.{Contains, AllByRecursion, IsDistinct, list_any}
 use Rattle.std.proofs.lemmas.List.{get_or_append_left, get_or_push, length-append, length-set, length-map, get_or-set_same, get_or-set_other, map-append, map-set, append-nil, take-append-drop}
 use Rattle.std.proofs.lemmas.Map.Keys.{apart_from_distinct, IsDistinct-from_apart, IsDistinct-head, IsDistinct-tail}
 use Rattle.std.proofs.lemmas.Bool.Decides.{nat_tests}
 use Rattle.std.proofs.lemmas.List.Elements.{All-nil, All-push, All-contains, Contains-get_or, recursion_from_All, All-from_recursion}
-use Rattle.std.proofs.lemmas.Bool.{cases_eq, cases_lt, ne_eqb}
+use Rattle.std.proofs.lemmas.Bool.{cases_eq, cases_lt, eq-eqb, ne_eqb}
 use Rattle.flow_base.specs.declared.types.Flow.{Flow}
 use Rattle.flow_base.specs.declared.types.Key.{Key}
 use Rattle.reach_model.specs.declared.modes.Mode.{Mode}
@@ -18,16 +18,17 @@ use Rattle.reach_model.proofs.Lawful.{lawful_front}
 use Rattle.reach_model.proofs.Members.{from_map}
 use Rattle.reach_model.proofs.Numbering.{numbered_push}
 use Rattle.reach_model.proofs.RowFacts.{carries}
-use Rattle.reach_rows.specs.Kept.{AreRows, row_of_kept}
-use Rattle.reach_rows.specs.declared.rows.Row.{Row as MemoryRow}
+use Rattle.flow_base.specs.declared.types.Stamp.{Stamp}
+use Rattle.reach_rows.specs.Kept.{AreRows, Enters, IsLastAt, IsLastOf, Leaves}
+use Rattle.row_codec.specs.declared.rows.KeptRow.{KeptRow}
 use Rattle.reach_rows.proofs.NextFlow.{comes_after}
 use Rattle.row_codec.specs.declared.rows.ExtendRow.{ExtendRow}
 use Rattle.row_codec.specs.declared.rows.StoreRow.{StoreRow}
 use Rattle.row_codec.specs.declared.rows.StoreRow.TheVariants.{Entity, Kept, Extend, Name, Life, Held, Address, Born, Waiting, State}
 use Rattle.store_check.specs.Conditions.{Bounds, IsLater, MayStand, EachAfter}
-use Rattle.store_check.specs.Store.{keys, flow_of, extended, changed_at, rows_of}
+use Rattle.store_check.specs.Store.{keys, flow_of, extended, changed_at, last_index, one_later, rows_of}
 use Rattle.store_check.proofs.Growing.{keys_push, rows_push, firsts_same}
-use Rattle.reduced_store.specs.Filling.{GoesOnWith, AllGoOn, IsRun, AreInOrder, AreApart, AreSound, last_place}
+use Rattle.reduced_store.specs.Filling.{GoesOnWith, AllGoOn, IsRun, AreInOrder, AreApart, AreSound, IsNext, place_of, row_of_spelled}
 
 -- ---- lists in which B holds between each two
 
@@ -119,12 +120,49 @@ sound_next bounds mode before (Born f b) may s = still_sound bounds.entities bef
 sound_next bounds mode before (Waiting m t c l) may s = still_sound bounds.entities before (Waiting m t c l) s (rows_push before (Waiting m t c l)) (keys_push before (Waiting m t c l) ∙ no_key before)
 sound_next bounds mode before (State t) may s = still_sound bounds.entities before (State t) s (rows_push before (State t)) (keys_push before (State t) ∙ no_key before)
 
+-- the last flow that passes a test
+from_eqb : (a b : ℕ) → (a == b) ≡ true → a ≡ b
+from_eqb a b e = grind (arith, nat_tests, e)
+
+from_not : (a b : ℕ) → (a == b) ≡ false → a ≢ b
+from_not a b e same = absurd (let t = sym e ∙ eq-eqb a b same in cc)
+
+module _ (p : Flow → Bool) (P : Flow → Type 0) (yes : (g : Flow) → p g ≡ true → P g) (no : (g : Flow) → p g ≡ false → ¬ P g) where
+  last_next : (f : Flow) (F : List Flow) (o : Option ℕ) (b : Bool) → p f ≡ b → IsLastOf F P o → IsLastOf (f ∷ F) P (one_later o b)
+  last_next f F (Some i) b is last =
+      let at : suc i ≡ i + 1 = omega arith in
+      subst (IsLastAt (f ∷ F) P) at (record { within = omega (arith, last.within); meets = λ d. last.meets d; no_later = after })
+    where
+      after : (j : ℕ) (d : Flow) → suc i < j → j < length (f ∷ F) → ¬ P (get_or (f ∷ F) j d)
+      after zero d low h = absurd (omega (arith, low))
+      after (suc j) d low h = last.no_later j d (omega (arith, low)) (omega (arith, h))
+  last_next f F None true is last = record { within = omega arith; meets = λ d. yes f is; no_later = after }
+    where
+      after : (j : ℕ) (d : Flow) → 0 < j → j < length (f ∷ F) → ¬ P (get_or (f ∷ F) j d)
+      after zero d low h = absurd (omega (arith, low))
+      after (suc j) d low h = last (get_or F j d) (Contains-get_or F j d (omega (arith, h)))
+  last_next f F None false is last = λ g c. at c.0 g c.1 c.2
+    where
+      at : (j : ℕ) (g : Flow) → j < length (f ∷ F) → get_or (f ∷ F) j g ≡ g → ¬ P g
+      at zero g h e = subst (λ (x : Flow). ¬ P x) e (no f is)
+      at (suc j) g h e = last g (j, omega (arith, h), e)
+
+  last_is : (F : List Flow) → IsLastOf F P (last_index p F)
+  last_is [] = λ g c. absurd (let h = c.1 in omega (arith, h))
+  last_is (f ∷ F) = last_next f F (last_index p F) (p f) refl (last_is F)
+
 goes_with : (bounds : Bounds) (mode : Mode) (before : List StoreRow) (row : StoreRow) → MayStand bounds mode before row → AreSound bounds.entities before → bounds.entities < 2 ^ 32 → GoesOnWith (rows_of before) row
 goes_with bounds mode before (Kept r) may s few = record {
-  ends_differ = may.ends.differ;
-  source_known_or_next = may.ends.from_numbered;
-  target_known_or_next = may.ends.to_numbered;
-  few = omega (arith, may.ends.from, may.ends.to, s.few, few);
+  numbered = record {
+    ends_differ = may.ends.differ;
+    source_known_or_next = may.ends.from_numbered;
+    target_known_or_next = may.ends.to_numbered;
+    few = omega (arith, may.ends.from, may.ends.to, s.few, few);
+  };
+  links = record {
+    before_to = subst (IsLastOf (firsts (rows_of before)) (Enters r.to.0)) (sym may.before_to) (last_is (λ f. target f == r.to.0) (Enters r.to.0) (λ g e. from_eqb (target g) r.to.0 e) (λ g e. from_not (target g) r.to.0 e) (firsts (rows_of before)));
+    before_from = subst (IsLastOf (firsts (rows_of before)) (Leaves r.from.0)) (sym may.before_from) (last_is (λ f. source f == r.from.0) (Leaves r.from.0) (λ g e. from_eqb (source g) r.from.0 e) (λ g e. from_not (source g) r.from.0 e) (firsts (rows_of before)));
+  };
 }
 goes_with bounds mode before (Extend e) may s few = may.there
 goes_with bounds mode before (Entity k) may s few = tt
@@ -191,10 +229,14 @@ kept_apart {mode} l (more {F} {R} f (Extends i) k v) =
 
 -- ---- last places as numbers
 
-place_at : (rows : List MemoryRow) (i : ℕ) (d : Flow) (n : ℕ) → i < length rows → place (get_or (lasts (map row_of_kept rows)) i d) ≡ get_or (map last_place rows) i n
+-- the stamps of last flows
+abbrev stamps : List Row → List Stamp
+stamps R = map (λ (r : Row). r.last.at) R
+
+place_at : (R : List Row) (i : ℕ) (d : Flow) (n : ℕ) → i < length R → place (get_or (lasts R) i d) ≡ get_or (map place_of (stamps R)) i n
 place_at [] i d n h = absurd (omega arith)
-place_at (r ∷ rows) zero d n h = refl
-place_at (r ∷ rows) (suc i) d n h = place_at rows i d n (omega arith)
+place_at (r ∷ R) zero d n h = refl
+place_at (r ∷ R) (suc i) d n h = place_at R i d n (omega arith)
 
 not_same : (a b : ℕ) → nat_eq a b ≡ false → a ≢ b
 not_same a b f e = grind (arith, nat_tests, f, e)
@@ -202,22 +244,22 @@ not_same a b f e = grind (arith, nat_tests, f, e)
 no_test : (a b : ℕ) → a ≢ b → nat_eq a b ≡ false
 no_test a b differ = ne_eqb a b differ
 
-pub apart_rows : (rows : List MemoryRow) → IsDistinct nat_eq (map last_place rows) → AreApart (map row_of_kept rows)
-apart_rows rows distinct i j d low h =
-    let hj : j < length rows = simp (length-map, length-map) at h in
-    let hi : i < length rows = omega arith in
-    let test = apart_from_distinct nat_eq (map last_place rows) i j 0 distinct low (simp length-map hj) in
-    rw (place_at rows i d 0 hi, place_at rows j d 0 hj) (not_same _ _ test)
+pub apart_rows : (R : List Row) → IsDistinct nat_eq (map place_of (stamps R)) → AreApart R
+apart_rows R distinct i j d low h =
+    let hj : j < length R = simp length-map at h in
+    let hi : i < length R = omega arith in
+    let test = apart_from_distinct nat_eq (map place_of (stamps R)) i j 0 distinct low (simp (length-map, length-map) hj) in
+    rw (place_at R i d 0 hi, place_at R j d 0 hj) (not_same _ _ test)
 
-pub distinct_rows : (rows : List MemoryRow) → AreApart (map row_of_kept rows) → IsDistinct nat_eq (map last_place rows)
+pub distinct_rows : (R : List Row) → AreApart R → IsDistinct nat_eq (map place_of (stamps R))
 distinct_rows [] apart = IsDistinct-from_apart nat_eq [] (λ i j d low h. absurd (omega arith))
 distinct_rows (r ∷ rest) apart =
-    let rows = r ∷ rest in
-    let any : Flow = (row_of_kept r).last in
-    IsDistinct-from_apart nat_eq (map last_place rows) (λ i j d low h.
-    let hj : j < length rows = simp length-map at h in
-    let hi : i < length rows = omega arith in
-    no_test _ _ (λ e. apart i j any low (simp (length-map, length-map) hj) (place_at rows i any d hi ∙ e ∙ sym (place_at rows j any d hj))))
+    let R = r ∷ rest in
+    let any : Flow = r.last in
+    IsDistinct-from_apart nat_eq (map place_of (stamps R)) (λ i j d low h.
+    let hj : j < length R = simp (length-map, length-map) at h in
+    let hi : i < length R = omega arith in
+    no_test _ _ (λ e. apart i j any low (simp length-map hj) (place_at R i any d hi ∙ e ∙ sym (place_at R j any d hj))))
 
 at_middle : (P : ℕ → Type 0) (xs : List ℕ) (y : ℕ) (ys : List ℕ) → AllByRecursion P (xs ++ y ∷ ys) → P y
 at_middle P [] y ys all = all.0
@@ -233,48 +275,48 @@ distinct_before (x ∷ xs) y ys d =
     ap (λ (b : Bool). b || list_any (nat_eq y) xs) here ∙ distinct_before xs y ys (IsDistinct-tail nat_eq x (xs ++ y ∷ ys) d)
 
 -- a place that stands before it makes them not distinct
-twice : (rows : List MemoryRow) (i : ℕ) (d : MemoryRow) → i < length rows → list_any (nat_eq (last_place (get_or rows i d))) (map last_place (take i rows)) ≡ true → ¬ IsDistinct nat_eq (map last_place rows)
+twice : (rows : List Stamp) (i : ℕ) (d : Stamp) → i < length rows → list_any (nat_eq (place_of (get_or rows i d))) (map place_of (take i rows)) ≡ true → ¬ IsDistinct nat_eq (map place_of rows)
 twice rows i d h found distinct =
     let row = get_or rows i d in
-    let whole : rows ≡ take i rows ++ row ∷ drop (suc i) rows = sym (take-append-drop i rows) ∙ ap (λ (t : List MemoryRow). take i rows ++ t) (drop-cons rows i d h) in
-    let parts : map last_place rows ≡ map last_place (take i rows) ++ last_place row ∷ map last_place (drop (suc i) rows) = ap (map last_place) whole ∙ map-append last_place (take i rows) (row ∷ drop (suc i) rows) in
-    let none = distinct_before (map last_place (take i rows)) (last_place row) (map last_place (drop (suc i) rows)) (subst (IsDistinct nat_eq) parts distinct) in
+    let whole : rows ≡ take i rows ++ row ∷ drop (suc i) rows = sym (take-append-drop i rows) ∙ ap (λ (t : List Stamp). take i rows ++ t) (drop-cons rows i d h) in
+    let parts : map place_of rows ≡ map place_of (take i rows) ++ place_of row ∷ map place_of (drop (suc i) rows) = ap (map place_of) whole ∙ map-append place_of (take i rows) (row ∷ drop (suc i) rows) in
+    let none = distinct_before (map place_of (take i rows)) (place_of row) (map place_of (drop (suc i) rows)) (subst (IsDistinct nat_eq) parts distinct) in
     absurd (let e = sym found ∙ none in cc)
 
 not_false : (b : Bool) → false ≡ not b → b ≡ true
 not_false true is = refl
 not_false false is = absurd cc
 
-pub second : (rows : List MemoryRow) (i : ℕ) (d : MemoryRow) (keys : List ℕ) (added : Bool) → i < length rows → keys ≡ map last_place (take i rows)
-    → added ≡ not (list_any (nat_eq (last_place (get_or rows i d))) keys) → added ≡ false → ¬ IsDistinct nat_eq (map last_place rows)
+pub second : (rows : List Stamp) (i : ℕ) (d : Stamp) (keys : List ℕ) (added : Bool) → i < length rows → keys ≡ map place_of (take i rows)
+    → added ≡ not (list_any (nat_eq (place_of (get_or rows i d))) keys) → added ≡ false → ¬ IsDistinct nat_eq (map place_of rows)
 second rows i d keys added h is new old =
-    twice rows i d h (subst (λ ks. list_any (nat_eq (last_place (get_or rows i d))) ks ≡ true) is (not_false _ (sym old ∙ new)))
+    twice rows i d h (subst (λ ks. list_any (nat_eq (place_of (get_or rows i d))) ks ≡ true) is (not_false _ (sym old ∙ new)))
 
 -- ---- rows whose last places ascend
 
-step_up : (rows : List MemoryRow) → ((k : ℕ) (d : MemoryRow) → k + 1 < length rows → last_place (get_or rows k d) < last_place (get_or rows (k + 1) d))
-    → (i j : ℕ) (d : MemoryRow) → i < j → j < length rows → last_place (get_or rows i d) < last_place (get_or rows j d)
+step_up : (rows : List Stamp) → ((k : ℕ) (d : Stamp) → k + 1 < length rows → place_of (get_or rows k d) < place_of (get_or rows (k + 1) d))
+    → (i j : ℕ) (d : Stamp) → i < j → j < length rows → place_of (get_or rows i d) < place_of (get_or rows j d)
 step_up rows asc i zero d low h = absurd (omega (arith, low))
 step_up rows asc i (suc j) d low h =
     let next : j + 1 ≡ suc j = omega arith in
-    let step : last_place (get_or rows j d) < last_place (get_or rows (suc j) d) =
-    subst (λ (m : ℕ). last_place (get_or rows j d) < last_place (get_or rows m d)) next (asc j d (omega (arith, h, next))) in
+    let step : place_of (get_or rows j d) < place_of (get_or rows (suc j) d) =
+    subst (λ (m : ℕ). place_of (get_or rows j d) < place_of (get_or rows m d)) next (asc j d (omega (arith, h, next))) in
     elim (cases_lt i j) [
-      | inl before ↦ let front : last_place (get_or rows i d) < last_place (get_or rows j d) = step_up rows asc i j d before (omega (arith, h)) in omega (arith, front, step)
-      | inr last ↦ let same : j ≡ i = omega (arith, low, last) in subst (λ (m : ℕ). last_place (get_or rows m d) < last_place (get_or rows (suc j) d)) same step
+      | inl before ↦ let front : place_of (get_or rows i d) < place_of (get_or rows j d) = step_up rows asc i j d before (omega (arith, h)) in omega (arith, front, step)
+      | inr last ↦ let same : j ≡ i = omega (arith, low, last) in subst (λ (m : ℕ). place_of (get_or rows m d) < place_of (get_or rows (suc j) d)) same step
     ]
 
-map_at : (rows : List MemoryRow) (i : ℕ) (r : MemoryRow) (d : ℕ) → i < length rows → get_or (map last_place rows) i d ≡ last_place (get_or rows i r)
+map_at : (rows : List Stamp) (i : ℕ) (r : Stamp) (d : ℕ) → i < length rows → get_or (map place_of rows) i d ≡ place_of (get_or rows i r)
 map_at [] i r d h = absurd (omega (arith, h))
 map_at (x ∷ rows) zero r d h = refl
 map_at (x ∷ rows) (suc i) r d h = map_at rows i r d (omega (arith, h))
 
-pub rising_rows : (rows : List MemoryRow) → ((k : ℕ) (d : MemoryRow) → k + 1 < length rows → last_place (get_or rows k d) < last_place (get_or rows (k + 1) d)) → IsDistinct nat_eq (map last_place rows)
+pub rising_rows : (rows : List Stamp) → ((k : ℕ) (d : Stamp) → k + 1 < length rows → place_of (get_or rows k d) < place_of (get_or rows (k + 1) d)) → IsDistinct nat_eq (map place_of rows)
 rising_rows [] asc = IsDistinct-from_apart nat_eq [] (λ i j d low h. absurd (omega arith))
 rising_rows (r ∷ rest) asc =
     let rows = r ∷ rest in
-    IsDistinct-from_apart nat_eq (map last_place rows) (λ i j d low h.
+    IsDistinct-from_apart nat_eq (map place_of rows) (λ i j d low h.
     let hj : j < length rows = simp length-map at h in
     let hi : i < length rows = omega arith in
-    let up : last_place (get_or rows i r) < last_place (get_or rows j r) = step_up rows asc i j r low hj in
-    rw (map_at rows i r d hi, map_at rows j r d hj) (no_test (last_place (get_or rows i r)) (last_place (get_or rows j r)) (λ e. absurd (omega (arith, up, e)))))
+    let up : place_of (get_or rows i r) < place_of (get_or rows j r) = step_up rows asc i j r low hj in
+    rw (map_at rows i r d hi, map_at rows j r d hj) (no_test (place_of (get_or rows i r)) (place_of (get_or rows j r)) (λ e. absurd (omega (arith, up, e)))))

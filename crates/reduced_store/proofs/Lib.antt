@@ -4,10 +4,10 @@ pub mod PickLemmas
 pub mod ReadLemmas
 pub mod OpenLemmas
 pub mod StoreLemmas
-pub mod SavedLemmas
-pub mod NewLemmas
-pub mod ExtendLemmas
-pub mod ListedLemmas
+pub mod TakeLemmas
+pub mod PlaceLemmas
+pub mod ToldLemmas
+pub mod LeadLemmas
 pub mod SpellingLemmas
 pub mod CommitLemmas
 pub mod PickedLemmas

@@ -19,7 +19,8 @@ use Rattle.batch_log.specs.Finding.{places}
 use Rattle.store_check.specs.Store.{rows_of}
 use Rattle.stored.specs.Words.{all_of}
 use Rattle.reduced_store.specs.Filling.{AreApart}
-use Rattle.reduced_store.specs.Opening.{AreThere, RepeatsAPlace, last_gate}
+use Rattle.reduced_store.specs.Opening.{RepeatsAPlace, last_gate}
+use Rattle.reduced_store.specs.Placing.{AreThere}
 use Rattle.reduced_store.specs.Reading.{IsRead, IsChecked, HasRead, IsOfMode, IsFound}
 use Rattle.reduced_store.specs.declared.reading.Found.{Found}
 use Rattle.reduced_store.specs.declared.reading.Checked.{Checked}
@@ -66,8 +67,8 @@ read_of : (bounds : Bounds) (payloads : List (List ℕ)) (batches : List (List S
 read_of bounds payloads batches None checked = (Plain, [], subst (λ (ps : List (List ℕ)). IsRead bounds Plain [] ps) (sym checked.1) (record { spelled = tt; continue = tt }))
 read_of bounds payloads batches (Some c) checked = (c.mode, batches, checked.read)
 
-pub store_of : (bounds : Bounds) (payloads : List (List ℕ)) (r : Reading) → HasRead bounds payloads r → (mode : Mode) × (bs : List (List StoreRow)) × IsRead bounds mode bs payloads
-store_of bounds payloads r h = read_of bounds payloads h.batches r.checked h.checked
+pub store_of : (bounds : Bounds) (listed : List Batch) (payloads : List (List ℕ)) (r : Reading) → HasRead bounds listed payloads r → (mode : Mode) × (bs : List (List StoreRow)) × IsRead bounds mode bs payloads
+store_of bounds listed payloads r h = read_of bounds payloads h.batches r.checked h.checked
 
 -- calls that write nothing after a disk has settled
 pub settles_by_looking : (old mid new : DiskState) → Settles old mid → OnlyLooks mid new → mid.told → Settles old new

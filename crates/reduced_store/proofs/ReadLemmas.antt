@@ -1,7 +1,7 @@
 -- Payloads of a store, one more of them.
 use Rattle.std.proofs.Common.{◌≡◌, ◌≢◌, ◌∙◌, refl, sym, ap, subst, ℕ, ◌^◌, ◌<◌, false, List, [], ◌∷◌, ◌++◌, Option, Some, None, append_assoc}
-use Rattle.std.specs.Prelude.{filter, fold, unwrap_or, MatchOption}
-use Rattle.std.specs.List.{AllZip, flat_map}
+use Rattle.std.specs.Prelude.{◌↔◌, Bool, IsTrue, filter, fold, map, nat_eq, true, unwrap_or, MatchOption}
+use Rattle.std.specs.List.{AllZip, IsDistinct, flat_map}
 use Rattle.std.specs.Option.{option_map}
 use Rattle.std.proofs.lemmas.List.{append-nil}
 use Rattle.std.proofs.lemmas.List.Concat.{flat_map-cons}
@@ -16,11 +16,13 @@ use Rattle.store_check.specs.Store.{grown, rows_of}
 use Rattle.store_check.specs.Tables.{Tables, Goes, StandsFor}
 use Rattle.stored.specs.Stored.{AllContinue, last_of}
 use Rattle.stored.specs.Words.{all_of}
-use Rattle.reduced_store.specs.Filling.{AllGoOn, AreSound}
-use Rattle.reduced_store.specs.Reading.{is_of_table, closes, IsRead, AreNoStore, IsChecker, AreChecked, IsChecked, IsOfOther, IsOfMode, HasRead}
+use Rattle.reduced_store.specs.Filling.{AllGoOn, AreApart, AreSound, place_of}
+use Rattle.reduced_store.specs.Reading.{is_of_table, closes, IsRead, AreNoStore, IsChecker, AreChecked, IsChecked, IsOfOther, IsOfMode, HasRead, last_places}
 use Rattle.reduced_store.specs.declared.reading.Checked.{Checked}
 use Rattle.reduced_store.specs.declared.reading.Reading.{Reading}
-use Rattle.reduced_store.proofs.FillLemmas.{batch_goes_on}
+use Rattle.batch_log.specs.declared.find.Batch.{Batch}
+use Rattle.reduced_store.specs.Placing.{ArePlaced}
+use Rattle.reduced_store.proofs.FillLemmas.{apart_rows, batch_goes_on, distinct_rows}
 
 -- a payload has one mode and one list of rows
 abbrev pub Apart : Type 0
@@ -133,12 +135,13 @@ module _ (bounds : Bounds) (payloads : List (List ℕ)) (bytes : List ℕ) where
 
   -- ---- a payload that goes on
 
-  pub goes_on_still : (mode : Mode) (rows : List StoreRow) (old new : Reading) (check now : Tables) (h : HasRead bounds payloads old) → bounds.entities < 2 ^ 32
+  pub goes_on_still : (listed : List Batch) (batch : Batch) (mode : Mode) (rows : List StoreRow) (old new : Reading) (check now : Tables) (h : HasRead bounds listed payloads old) → bounds.entities < 2 ^ 32
       → IsRead bounds mode h.batches payloads → IsChecker bounds mode (all_of h.batches) check → IsPayload mode rows bytes
       → Continues check.bounds check.mode (all_of h.batches) rows → Goes check (all_of h.batches ++ rows) now
       → new.checked ≡ Some (record { mode = mode; check = now }) → new.rows.rows ≡ fold grown old.rows.rows rows → new.rows.lawful ≡ false
-      → new.tables ≡ old.tables ++ filter is_of_table rows → new.closing ≡ filter closes rows → HasRead bounds (payloads ++ bytes ∷ []) new
-  goes_on_still mode rows old new check now h few read checker spelled goes_on goes checked kept unjudged tables closing =
+      → new.tables ≡ old.tables ++ filter is_of_table rows → new.closing ≡ filter closes rows
+      → ArePlaced (listed ++ batch ∷ []) (payloads ++ bytes ∷ []) new.rows → HasRead bounds (listed ++ batch ∷ []) (payloads ++ bytes ∷ []) new
+  goes_on_still listed batch mode rows old new check now h few read checker spelled goes_on goes checked kept unjudged tables closing placed =
       let before = all_of h.batches in
       let all = all_pushed h.batches rows in
       let continues : Continues bounds mode before rows = subst (λ (m : Mode). Continues bounds m before rows) checker.mode_is (subst (λ (b : Bounds). Continues b check.mode before rows) checker.bounds_are goes_on) in
@@ -157,14 +160,15 @@ module _ (bounds : Bounds) (payloads : List (List ℕ)) (bytes : List ℕ) where
         rows = kept ∙ ap (λ (R : List Row). fold grown R rows) h.rows ∙ sym (ap rows_of all ∙ fold-append grown [] before rows);
         unjudged = unjudged;
         sound = subst (AreSound bounds.entities) (sym all) (batch_goes_on bounds mode before rows continues.stand h.sound few).1;
+        placed = placed;
         tables = tables ∙ ap (λ (r : List StoreRow). r ++ filter is_of_table rows) h.tables ∙ sym (ap (filter is_of_table) all ∙ filter-append is_of_table before rows);
         closing = closing ∙ sym (ap (λ (o : Option (List StoreRow)). filter closes (unwrap_or o [])) (last_pushed h.batches rows));
       }
 
 -- what is asked of the rows of a batch that goes on
-pub may_fill : (bounds : Bounds) (payloads : List (List ℕ)) (mode : Mode) (rows : List StoreRow) (old : Reading) (check : Tables) (h : HasRead bounds payloads old) → bounds.entities < 2 ^ 32
+pub may_fill : (bounds : Bounds) (listed : List Batch) (payloads : List (List ℕ)) (mode : Mode) (rows : List StoreRow) (old : Reading) (check : Tables) (h : HasRead bounds listed payloads old) → bounds.entities < 2 ^ 32
     → IsChecker bounds mode (all_of h.batches) check → Continues check.bounds check.mode (all_of h.batches) rows → AllGoOn old.rows.rows rows
-may_fill bounds payloads mode rows old check h few checker goes_on =
+may_fill bounds listed payloads mode rows old check h few checker goes_on =
     let before = all_of h.batches in
     let continues : Continues bounds mode before rows = subst (λ (m : Mode). Continues bounds m before rows) checker.mode_is (subst (λ (b : Bounds). Continues b check.mode before rows) checker.bounds_are goes_on) in
     subst (λ (R : List Row). AllGoOn R rows) (sym h.rows) (batch_goes_on bounds mode before rows continues.stand h.sound few).0
@@ -191,3 +195,18 @@ told_none {A} N S o is m = subst (λ (x : Option A). MatchOption x N S) is m
 
 pub told_some : {A : Type 0} (N : Type 0) (S : A → Type 0) (o : Option A) (a : A) → o ≡ Some a → MatchOption o N S → S a
 told_some {A} N S o a is m = subst (λ (x : Option A). MatchOption x N S) is m
+
+-- ---- last places by the checker
+
+distinct_places : (bounds : Bounds) (batches : List (List StoreRow)) (payloads : List (List ℕ)) (o : Option Checked) → IsChecked bounds batches payloads o → last_places o ≡ map place_of (map (λ (r : Row). r.last.at) (rows_of (all_of batches)))
+distinct_places bounds batches payloads None checked = sym (ap (λ (bs : List (List StoreRow)). map place_of (map (λ (r : Row). r.last.at) (rows_of (all_of bs)))) checked.0)
+distinct_places bounds batches payloads (Some c) checked = ap (map place_of) checked.checker.stands.lasts
+
+-- the rows are lawful if the checker has distinct places
+pub places_apart : (bounds : Bounds) (batches : List (List StoreRow)) (payloads : List (List ℕ)) (o : Option Checked) (lawful apart : Bool) → lawful ≡ apart → IsChecked bounds batches payloads o
+    → (IsTrue apart ↔ IsDistinct nat_eq (last_places o)) → (lawful ≡ true) ↔ AreApart (rows_of (all_of batches))
+places_apart bounds batches payloads o lawful apart is checked told =
+    let places = distinct_places bounds batches payloads o checked in (
+      λ so. apart_rows (rows_of (all_of batches)) (subst (IsDistinct nat_eq) places (told.0 (sym is ∙ so))),
+      λ differ. is ∙ told.1 (subst (IsDistinct nat_eq) (sym places) (distinct_rows (rows_of (all_of batches)) differ)),
+    )

@@ -1,15 +1,18 @@
 -- What an opened store has, from what was read of its disk.
-use Rattle.std.proofs.Common.{◌≡◌, ◌∙◌, sym, ap, subst, true, ℕ, List, Option, Result, Ok, Err}
+use Rattle.std.proofs.Common.{◌≡◌, ◌∙◌, sym, ap, subst, true, ◌↔◌, Bool, ℕ, List, Option, Result, Ok, Err}
 use Rattle.std.specs.Result.{IfOk, IfErr}
 use Rattle.flow_base.specs.declared.limits.Limits.{Limits}
 use Rattle.reach_model.specs.declared.modes.Mode.{Mode}
 use Rattle.outside.specs.Disk.{DiskState, OnlyLooks}
 use Rattle.batch_log.specs.Batches.{HasBatches}
 use Rattle.batch_log.specs.Log.{Log, LogHas, log_of}
-use Rattle.store_check.specs.Conditions.{Bounds}
+use Rattle.store_check.specs.Conditions.{Bounds, bounds_of}
 use Rattle.reduced_store.specs.Opening.{BeginsLast, IsStoreRead}
-use Rattle.reduced_store.specs.Reading.{IsFound}
-use Rattle.reduced_store.specs.Stores.{disk_after, found_of, IsOpenedOver, Agree, Differ, IsWrong, IsOfWrongMode}
+use Rattle.reduced_store.specs.Reading.{IsFound, IsOfMode}
+use Rattle.reduced_store.specs.Filling.{AreApart}
+use Rattle.store_check.specs.Store.{rows_of}
+use Rattle.stored.specs.Words.{all_of}
+use Rattle.reduced_store.specs.Stores.{FindsSame, disk_after, found_of, IsOpenedOver, Agree, Differ, IsWrong, IsOfWrongMode}
 use Rattle.reduced_store.specs.declared.reading.Found.{Found}
 use Rattle.reduced_store.specs.declared.opened.OpenFault.{OpenFault}
 use Rattle.reduced_store.specs.declared.opened.OpenFault.TheVariants.{StoreFault, BadStore, WrongMode, NoMemory}
@@ -34,25 +37,36 @@ pub opened_last : {D : Type 0} (limits : Limits) (bytes : List ℕ) (last : Opti
 opened_last limits bytes last (Ok opened) is begins = subst (BeginsLast limits bytes) (sym is) begins
 opened_last limits bytes last (Err back) is begins = is
 
+-- what differs in room alone
+still_found : (bounds : Bounds) (payloads : List (List ℕ)) (old new : Found) → FindsSame old new → IsFound bounds payloads old → IsFound bounds payloads new
+still_found bounds payloads old new same is = record {
+  batches = is.batches;
+  mode = subst (IsOfMode bounds is.batches payloads) (sym same.mode) is.mode;
+  rows = same.rows ∙ is.rows;
+  sound = is.sound;
+  lawful = subst (λ (b : Bool). (b ≡ true) ↔ AreApart (rows_of (all_of is.batches))) (sym same.lawful) is.lawful;
+  others = same.others ∙ is.others;
+}
+
 module _ {D : Type 0} (log : Log) (found : Found) where
   -- an opened store, made of what was read
   abbrev pub IsMade : Opened D → Type 0
-  IsMade opened = (opened.store.log ≡ log) × (found_of opened ≡ found)
+  IsMade opened = (opened.store.log ≡ log) × FindsSame found (found_of opened)
 
   pub opened_over : (limits : Limits) (bytes : List ℕ) (result : Result (Opened D) (Unopened D)) → IfOk result IsMade
       → IsStoreRead limits bytes (log, found) → IfOk result (IsOpenedOver limits bytes)
   opened_over limits bytes (Ok opened) made read =
-      subst (λ f. IsStoreRead limits bytes (opened.store.log, f)) (sym made.1) (subst (λ l. IsStoreRead limits bytes (l, found)) (sym made.0) read)
+      let whole = subst (λ l. IsStoreRead limits bytes (l, found)) (sym made.0) read in (whole.0, whole.1, still_found (bounds_of limits) whole.0 found (found_of opened) made.1 whole.2)
   opened_over limits bytes (Err back) made read = made
 
   pub opened_found : (bounds : Bounds) (result : Result (Opened D) (Unopened D)) → IfOk result IsMade
       → (payloads : List (List ℕ)) × IsFound bounds payloads found → IfOk result (λ opened. (payloads : List (List ℕ)) × IsFound bounds payloads (found_of opened))
-  opened_found bounds (Ok opened) made some = (some.0, subst (IsFound bounds some.0) (sym made.1) some.1)
+  opened_found bounds (Ok opened) made some = (some.0, still_found bounds some.0 found (found_of opened) made.1 some.1)
   opened_found bounds (Err back) made some = made
 
   pub opened_agree : (asked : Option Mode) (result : Result (Opened D) (Unopened D)) → IfOk result IsMade
       → IfOk result (λ opened. Agree found.mode asked) → IfOk result (λ opened. Agree opened.mode asked)
-  opened_agree asked (Ok opened) made agree = subst (λ (f : Found). Agree f.mode asked) (sym made.1) agree
+  opened_agree asked (Ok opened) made agree = subst (λ m. Agree m asked) (sym made.1.mode) agree
   opened_agree asked (Err back) made agree = made
 
   pub refused_wrong : (limits : Limits) (bytes : List ℕ) (asked : Option Mode) (kept want : Mode) (result : Result (Opened D) (Unopened D))

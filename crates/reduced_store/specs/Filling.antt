@@ -6,15 +6,27 @@ use Rattle.reach_model.specs.Flows.{source, target, time, place}
 use Rattle.reach_model.specs.Numbers.{IsNumbered, known}
 use Rattle.reach_model.specs.Rows.{Row, SamePair, firsts, lasts}
 use Rattle.reach_rows.specs.Kept.{GoesOn}
+use Rattle.reach_rows.specs.InMemory.{HasLinks}
 use Rattle.reach_rows.specs.declared.rows.Row.{Row as KeptRow}
+use Rattle.row_codec.specs.declared.rows.KeptRow.{KeptRow as SpelledRow}
+use Rattle.flow_base.specs.declared.types.Stamp.{Stamp}
 use Rattle.row_codec.specs.declared.rows.StoreRow.{StoreRow}
 use Rattle.row_codec.specs.declared.rows.StoreRow.TheVariants.{Entity, Kept, Extend, Name, Life, Held, Address, Born, Waiting, State}
 use Rattle.store_check.specs.Store.{keys, flow_of, grown, rows_of}
 
--- what the kept rows R ask of a row of the store: a Kept row goes on with their numbering, and an Extend row names one of them
+-- the row that a Kept row says, which ends with the flow with which it begins
+abbrev pub row_of_spelled : SpelledRow → KeptRow
+row_of_spelled r = record { from = r.from; to = r.to; first = r.mark; last = r.mark; before_to = r.before_to; before_from = r.before_from }
+
+-- what flows ask of a Kept row: it goes on with their numbering, and has its links
+pub record IsNext (K : List Flow) (r : SpelledRow) : Type 0 where
+  pub numbered : GoesOn (known K) (flow_of r)
+  pub links : HasLinks K (row_of_spelled r)
+
+-- what the kept rows R ask of a row of the store: a Kept row comes next, and an Extend row names one of them
 abbrev pub GoesOnWith : List Row → StoreRow → Type 0
 GoesOnWith R (Entity k) = ⊤
-GoesOnWith R (Kept r) = GoesOn (known (firsts R)) (flow_of r)
+GoesOnWith R (Kept r) = IsNext (firsts R) r
 GoesOnWith R (Extend e) = e.row < length R
 GoesOnWith R (Name k t) = ⊤
 GoesOnWith R (Life p l) = ⊤
@@ -46,9 +58,9 @@ pub record AreInOrder (R : List Row) : Type 0 where
 abbrev pub AreApart : List Row → Type 0
 AreApart R = (i j : ℕ) (d : Flow) → i < j → j < length (lasts R) → place (slice_index_or (lasts R) i d) ≢ place (slice_index_or (lasts R) j d)
 
--- the place of a row's last flow
-abbrev pub last_place : KeptRow → ℕ
-last_place r = r.last.at.place
+-- the place of a stamp
+abbrev pub place_of : Stamp → ℕ
+place_of at = at.place
 
 -- the kept rows of these rows of a store are in order, and no more objects are known than may be
 pub record AreSound (entities : ℕ) (before : List StoreRow) : Type 0 where

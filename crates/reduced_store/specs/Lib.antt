@@ -1,11 +1,12 @@
 pub mod Held
+pub mod Placing
+pub mod Taking
 pub mod Filling
 pub mod Reading
 pub mod Restoring
 pub mod Storing
 pub mod Opening
 pub mod OneReading
-pub mod Saving
 pub mod OnDisk
 pub mod Stores
 pub mod Committing

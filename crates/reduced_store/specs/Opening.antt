@@ -1,7 +1,6 @@
 -- What opening a disk finds.
 use Rattle.std.specs.Prelude.{◌≡◌, ◌⊎◌, ℕ, suc, ◌-◌, ◌<◌, List, length, take, slice_get, slice_index_or, Option, Some}
 use Rattle.std.specs.Option.{option_map}
-use Rattle.std.specs.List.{AllZip}
 use Rattle.flow_base.specs.declared.limits.Limits.{Limits}
 use Rattle.reach_model.specs.declared.modes.Mode.{Mode}
 use Rattle.row_codec.specs.declared.rows.StoreRow.{StoreRow}
@@ -9,17 +8,12 @@ use Rattle.batch_log.specs.declared.find.Batch.{Batch}
 use Rattle.batch_log.specs.Batches.{HasBatches, IsStore, BreaksAt}
 use Rattle.batch_log.specs.Finding.{places}
 use Rattle.batch_log.specs.Log.{Log}
-use Rattle.batch_log.specs.Payloads.{IsThere}
 use Rattle.store_check.specs.Conditions.{Bounds, bounds_of}
 use Rattle.store_check.specs.Store.{rows_of}
 use Rattle.stored.specs.Words.{all_of}
 use Rattle.reduced_store.specs.Filling.{AreApart}
 use Rattle.reduced_store.specs.Reading.{IsRead, AreNoStore, IsFound}
 use Rattle.reduced_store.specs.declared.reading.Found.{Found}
-
--- the bytes have all of these batches, with these payloads
-abbrev pub AreThere : List ℕ → List Batch → List (List ℕ) → Type 0
-AreThere bytes listed payloads = AllZip (IsThere bytes) listed payloads
 
 -- The payloads up to one of them make a store, and with it they make none. The place is that of its batch's gate.
 pub record StopsAt (bounds : Bounds) (listed : List Batch) (payloads : List (List ℕ)) (place : ℕ) : Type 0 where

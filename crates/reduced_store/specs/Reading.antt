@@ -1,5 +1,5 @@
 -- What was read of a store, payload by payload.
-use Rattle.std.specs.Prelude.{◌≡◌, ◌≢◌, ◌↔◌, ℕ, Bool, true, false, List, [], ◌∷◌, ◌++◌, Option, Some, None, filter, unwrap_or}
+use Rattle.std.specs.Prelude.{length, map, ◌≡◌, ◌≢◌, ◌↔◌, ℕ, Bool, true, false, List, [], ◌∷◌, ◌++◌, Option, Some, None, filter, unwrap_or}
 use Rattle.std.specs.List.{AllZip}
 use Rattle.reach_model.specs.declared.modes.Mode.{Mode}
 use Rattle.row_codec.specs.declared.rows.StoreRow.{StoreRow}
@@ -10,7 +10,9 @@ use Rattle.store_check.specs.Store.{rows_of}
 use Rattle.store_check.specs.Tables.{Tables, StandsFor}
 use Rattle.stored.specs.Stored.{AllContinue, last_of}
 use Rattle.stored.specs.Words.{all_of}
-use Rattle.reduced_store.specs.Filling.{AreApart, AreSound}
+use Rattle.batch_log.specs.declared.find.Batch.{Batch}
+use Rattle.reduced_store.specs.Filling.{AreApart, AreSound, place_of}
+use Rattle.reduced_store.specs.Placing.{ArePlaced}
 use Rattle.reduced_store.specs.declared.reading.Checked.{Checked}
 use Rattle.reduced_store.specs.declared.reading.Reading.{Reading}
 use Rattle.reduced_store.specs.declared.reading.Found.{Found}
@@ -80,20 +82,32 @@ abbrev pub IsOfOther : Mode → Option Checked → Type 0
 IsOfOther mode None = ⊥
 IsOfOther mode (Some c) = c.mode ≢ mode
 
--- what was read of these payloads: they make a store so far, its kept rows aren't judged yet, and the other rows are set aside
-pub record HasRead (bounds : Bounds) (payloads : List (List ℕ)) (r : Reading) : Type 0 where
+-- the places of the last flows of the rows of the batches so far, by their checker
+abbrev pub last_places : Option Checked → List ℕ
+last_places None = []
+last_places (Some c) = map place_of c.check.lasts
+
+-- a payload in a batch that was listed: of these rows, and as long as the batch says
+pub record IsPayloadIn (batch : Batch) (mode : Mode) (rows : List StoreRow) : Type 0 where
+  pub bytes : List ℕ
+  pub is : IsPayload mode rows bytes
+  pub long : length bytes ≡ batch.length
+
+-- what was read of these payloads of listed batches: they make a store so far, its kept rows aren't judged yet, and the other rows are set aside
+pub record HasRead (bounds : Bounds) (listed : List Batch) (payloads : List (List ℕ)) (r : Reading) : Type 0 where
   pub batches : List (List StoreRow)
   pub checked : IsChecked bounds batches payloads r.checked
   pub rows : r.rows.rows ≡ rows_of (all_of batches)
   pub unjudged : r.rows.lawful ≡ false
   pub sound : AreSound bounds.entities (all_of batches)
+  pub placed : ArePlaced listed payloads r.rows
   pub tables : r.tables ≡ table_rows batches
   pub closing : r.closing ≡ closing_rows batches
 
--- one payload more: they still make a store, or they make none
-abbrev pub Further : Bool → Bounds → List (List ℕ) → List ℕ → Reading → Type 0
-Further true bounds payloads payload r = HasRead bounds (payloads ++ payload ∷ []) r
-Further false bounds payloads payload r = AreNoStore bounds (payloads ++ payload ∷ [])
+-- one payload more, that of the last listed batch: they still make a store, or they make none
+abbrev pub Further : Bool → Bounds → List Batch → List (List ℕ) → List ℕ → Reading → Type 0
+Further true bounds listed payloads payload r = HasRead bounds listed (payloads ++ payload ∷ []) r
+Further false bounds listed payloads payload r = AreNoStore bounds (payloads ++ payload ∷ [])
 
 -- no mode and no payload, or a mode and payloads of a store of it
 abbrev pub IsOfMode : Bounds → List (List StoreRow) → List (List ℕ) → Option Mode → Type 0

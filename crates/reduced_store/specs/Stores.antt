@@ -16,6 +16,13 @@ use Rattle.reduced_store.specs.declared.opened.OpenFault.TheVariants.{StoreFault
 abbrev pub found_of : {D : Type 0} → Opened D → Found
 found_of opened = record { mode = opened.mode; rows = opened.store.rows; others = opened.rows }
 
+-- the same was found, but room may differ
+pub record FindsSame (old new : Found) : Type 0 where
+  pub mode : new.mode ≡ old.mode
+  pub rows : new.rows.rows ≡ old.rows.rows
+  pub lawful : new.rows.lawful ≡ old.rows.lawful
+  pub others : new.others ≡ old.others
+
 -- an opened store has the log of these bytes' batches, and what the store of their payloads holds
 abbrev pub IsOpenedOver : {D : Type 0} → Limits → List ℕ → Opened D → Type 0
 IsOpenedOver limits bytes opened = IsStoreRead limits bytes (opened.store.log, found_of opened)

@@ -4,19 +4,18 @@
 //! batch against all batches before it. The result are the kept rows (`StoreRows`), from which
 //! questions are answered and to which a reducer adds, and the rows from which tables are filled.
 //!
-//! A `Store` is a disk with its log and its rows. Beside them it keeps how many rows there were at the
-//! last commit, and the last marks that rows had then which were extended since, so that it is known
-//! what of the rows is new. A commit puts that on the disk.
+//! The rows of a batch that was read don't stay in memory. What stays is where they stand on the disk,
+//! what is known of their objects, and the rows of tables. So a `Store` is a disk with its log, where its
+//! rows stand, and the rows since the last commit. A question reads the rows that it needs from the disk.
+//! A commit puts the rows since the last one on the disk, and from then on they are read from there too.
 //!
 //! The conditions on a store let two rows have one last place, which the laws of rows forbid. No log
 //! leaves such a store, since rows that a mode keeps are lawful. It is refused when it is opened, so the
-//! rows of a `Store` are lawful. Rows that are still being read may be lawful or not.
+//! rows of a `Store` are lawful if its disk is observable.
 #![tactic(auto)]
 
 mod apart;
-mod earlier;
 mod laws;
-mod new_rows;
 mod open;
 mod opened;
 mod picking;
@@ -24,6 +23,7 @@ mod reading;
 mod rows;
 mod spelling;
 mod store;
+mod taking;
 
 pub use laws::{
     a_commit_by_rows_is_that_of_its_moments, a_store_is_no_bad_store, a_store_reads_in_one_way,

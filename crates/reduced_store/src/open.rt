@@ -6,7 +6,8 @@ ghost use Rattle.batch_log.specs.Log.{log_of};
 ghost use Rattle.batch_log.specs.Payloads.{Fits};
 ghost use Rattle.batch_log.specs.declared.open.LogFault.TheVariants as fault;
 ghost use Rattle.store_check.specs.Conditions.{bounds_of};
-ghost use Rattle.reduced_store.specs.Opening.{AreThere, BeginsLast, StopsAt, IsStoreRead, IsBadAt, last_gate as last_gate_of};
+ghost use Rattle.reduced_store.specs.Placing.{ArePlaced, AreThere, IsSettled, StandOn};
+ghost use Rattle.reduced_store.specs.Opening.{BeginsLast, StopsAt, IsStoreRead, IsBadAt, last_gate as last_gate_of};
 ghost use Rattle.reduced_store.specs.Reading.{IsFound};
 
 use crate::reading::{Found, Reading};
@@ -41,6 +42,9 @@ pub fn read_store<D: Disk>(
     ensures store { (D.state disk.old).told
         → IfOk result (λ read. IsStoreRead limits.now (D.state disk.old).reads
         (read.log, read.found)) }
+    ensures settled { IfOk result (λ read. IsSettled read.found.rows) }
+    ensures placed { (D.state disk.old).told
+        → IfOk result (λ read. StandOn (D.state disk.new).reads read.log read.found.rows) }
     ensures last { (D.state disk.old).told
         → IfOk result (λ read. BeginsLast limits.now (D.state disk.old).reads read.last) }
     ensures log { IfOk result (λ read. read.log ≡ log_of limits.now read.log.last) }
@@ -106,6 +110,10 @@ fn read_batches<D: Disk>(
     ensures store { (D.state disk.old).told → (payloads : List (List ℕ))
         → AreThere (D.state disk.old).reads batches.now payloads
         → IfOk result (IsFound (bounds_of limits.now) payloads) }
+    ensures placed { (D.state disk.old).told → (payloads : List (List ℕ))
+        → AreThere (D.state disk.old).reads batches.now payloads
+        → IfOk result (λ found. ArePlaced batches.now payloads found.rows) }
+    ensures settled { IfOk result (λ found. IsSettled found.rows) }
     ensures none { batches.now ≡ [] → IfOk result (IsFound (bounds_of limits.now) []) }
     ensures bad { (D.state disk.old).told → (payloads : List (List ℕ))
         → AreThere (D.state disk.old).reads batches.now payloads
@@ -115,10 +123,10 @@ fn read_batches<D: Disk>(
     ensures uses { UsesDisk D.state D.faults D.spent disk.old disk.new
         (IsErrOf result fault.StoreFault) }
 {
-    let mut reading = Reading::new(alloc, salt);
+    let mut reading = Reading::new(alloc, salt)?;
     for batch in batches {
         let payload = read_payload(alloc, disk, *batch)?;
-        if !reading.take(alloc, limits, payload.as_slice())? {
+        if !reading.take(alloc, limits, *batch, payload.as_slice())? {
             return Err(LogFault::BadStore(batch.gate));
         }
     }

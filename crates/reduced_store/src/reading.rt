@@ -1,14 +1,21 @@
 //! Reading a store, payload by payload.
-ghost use Rattle.std.specs.Prelude.{◌≡◌, ◌↔◌, ℕ, List, [], IfOk, IsTrue, MatchOption};
+ghost use Rattle.std.specs.Prelude.{◌≡◌, ◌↔◌, ◌++◌, ◌∷◌, ℕ, List, [], length, IfOk, IsTrue, MatchOption, nat_eq};
+ghost use Rattle.std.specs.List.{IsDistinct};
 ghost use Rattle.std.specs.Option.{option_map};
+ghost use Rattle.batch_log.specs.Payloads.{Fits as HasPlace};
+ghost use Rattle.batch_log.specs.declared.find.Batch.{Batch as ABatch};
 ghost use Rattle.row_codec.specs.Payload.{IsPayload};
 ghost use Rattle.row_codec.specs.declared.rows.StoreRow.{StoreRow as ARow};
 ghost use Rattle.store_check.specs.Conditions.{bounds_of};
 ghost use Rattle.stored.specs.Words.{all_of};
-ghost use Rattle.reduced_store.specs.Reading.{IsChecked, IsChecker, IsOfOther, IsRead, HasRead, Further, IsFound};
+ghost use Rattle.reduced_store.specs.Placing.{ArePlaced};
+ghost use Rattle.reduced_store.specs.Reading.{IsChecked, IsChecker, IsOfOther, IsPayloadIn, IsRead, HasRead, Further, IsFound, last_places};
 
+use crate::apart::are_apart;
 use crate::picking::{move_after, pick};
 use crate::rows::StoreRows;
+use crate::taking::take_batch;
+use batch_log::Batch;
 use flow_base::{Limits, List, NoMemory};
 use reach_model::Mode;
 use row_codec::{Payload, RowRead, StoreRow, payloads_are_apart, read_payload};
@@ -43,45 +50,62 @@ pub struct Found {
 
 impl Reading {
     /// Before the first payload.
-    pub fn new(alloc: Global, salt: Salt) -> Reading
-        ensures { (limits : _) → HasRead (bounds_of limits) [] result }
+    pub fn new(alloc: Global, salt: Salt) -> Result<Reading, NoMemory>
+        ensures { IfOk result (λ reading. (limits : _)
+            → HasRead (bounds_of limits) [] [] reading) }
     {
-        Reading {
+        let rows = StoreRows::unjudged(alloc, salt)?;
+        Ok(Reading {
             salt,
             checked: None,
-            rows: StoreRows::unjudged(alloc),
+            rows,
             tables: List::new(alloc),
             closing: List::new(alloc),
-        }
+        })
     }
 
-    /// Reads the next payload, and says whether the payloads still make a store.
-    pub fn take(&mut self, alloc: Global, limits: &Limits, bytes: &[u8]) -> Result<bool, NoMemory>
-        requires { (payloads : List (List ℕ)) × HasRead (bounds_of limits.now) payloads self.old }
-        ensures { IfOk result (λ goes. (payloads : List (List ℕ))
-            → HasRead (bounds_of limits.now) payloads self.old
-            → Further goes (bounds_of limits.now) payloads bytes.now self.new) }
+    /// Reads the payload of the next batch, and says whether the payloads still make a store.
+    pub fn take(
+        &mut self,
+        alloc: Global,
+        limits: &Limits,
+        batch: Batch,
+        bytes: &[u8],
+    ) -> Result<bool, NoMemory>
+        requires place { HasPlace batch }
+        requires length { length bytes.now ≡ batch.length }
+        requires read { (listed : List ABatch) × (payloads : List (List ℕ))
+            × HasRead (bounds_of limits.now) listed payloads self.old }
+        ensures { IfOk result (λ goes. (listed : List ABatch) (payloads : List (List ℕ))
+            → HasRead (bounds_of limits.now) listed payloads self.old
+            → Further goes (bounds_of limits.now) (listed ++ batch ∷ []) payloads bytes.now
+            self.new) }
     {
         payloads_are_apart();
         match read_payload(alloc, bytes) {
-            Ok(payload) => self.take_payload(alloc, limits, payload),
+            Ok(payload) => self.take_payload(alloc, limits, batch, payload),
             Err(RowRead::Malformed) => Ok(false),
             Err(RowRead::NoMemory) => Err(NoMemory),
         }
     }
 
-    // Takes in what a payload says.
+    // Takes in what the payload of a batch says.
     fn take_payload(
         &mut self,
         alloc: Global,
         limits: &Limits,
+        batch: Batch,
         payload: Payload,
     ) -> Result<bool, NoMemory>
-        requires { (payloads : List (List ℕ)) × HasRead (bounds_of limits.now) payloads self.old }
-        ensures { IfOk result (λ goes. (payloads : List (List ℕ)) (bytes : List ℕ)
-            → HasRead (bounds_of limits.now) payloads self.old
+        requires place { HasPlace batch }
+        requires spelled { IsPayloadIn batch payload.mode payload.rows }
+        requires read { (listed : List ABatch) × (payloads : List (List ℕ))
+            × HasRead (bounds_of limits.now) listed payloads self.old }
+        ensures { IfOk result (λ goes. (listed : List ABatch) (payloads : List (List ℕ))
+            (bytes : List ℕ) → HasRead (bounds_of limits.now) listed payloads self.old
             → IsPayload payload.mode payload.rows bytes
-            → Further goes (bounds_of limits.now) payloads bytes self.new) }
+            → Further goes (bounds_of limits.now) (listed ++ batch ∷ []) payloads bytes
+            self.new) }
     {
         payloads_are_apart();
         let Payload { mode, rows } = payload;
@@ -91,7 +115,7 @@ impl Reading {
         let Some(check) = check.take(rows.as_slice())? else {
             return Ok(false);
         };
-        self.rows.take_rows(rows.as_slice())?;
+        take_batch(&mut self.rows, alloc, batch, rows.as_slice())?;
         self.checked = Some(Checked { mode, check });
         self.closing = List::new(alloc);
         pick(alloc, rows, &mut self.tables, &mut self.closing)?;
@@ -100,10 +124,12 @@ impl Reading {
 
     /// What the store holds whose payloads were read.
     pub fn finish(self, alloc: Global, limits: &Limits) -> Result<Found, NoMemory>
-        requires { (payloads : List (List ℕ)) × HasRead (bounds_of limits.now) payloads self }
-        ensures { IfOk result (λ found. (payloads : List (List ℕ))
-            → HasRead (bounds_of limits.now) payloads self
-            → IsFound (bounds_of limits.now) payloads found) }
+        requires { (listed : List ABatch) × (payloads : List (List ℕ))
+            × HasRead (bounds_of limits.now) listed payloads self }
+        ensures { IfOk result (λ found. (listed : List ABatch) (payloads : List (List ℕ))
+            → HasRead (bounds_of limits.now) listed payloads self
+            → IsFound (bounds_of limits.now) payloads found
+            × ArePlaced listed payloads found.rows) }
     {
         let Reading {
             salt,
@@ -112,7 +138,7 @@ impl Reading {
             mut tables,
             closing,
         } = self;
-        rows.judge(alloc, salt)?;
+        rows.judge(has_places_apart(alloc, salt, &checked)?);
         move_after(alloc, closing, &mut tables)?;
         let mode = mode_of(&checked);
         Ok(Found {
@@ -120,6 +146,17 @@ impl Reading {
             rows,
             others: tables,
         })
+    }
+}
+
+// Whether no two rows of the batches so far have one last place.
+fn has_places_apart(alloc: Global, salt: Salt, checked: &Option<Checked>) -> Result<bool, NoMemory>
+    ensures { IfOk result (λ apart. IsTrue apart
+        ↔ IsDistinct nat_eq (last_places checked.now)) }
+{
+    match checked {
+        None => Ok(true),
+        Some(checked) => are_apart(alloc, salt, checked.check.lasts()),
     }
 }
 

@@ -1,39 +1,39 @@
 //! The rows of a store, and what is known of their objects.
 //!
+//! The rows of the last commit are read from the disk, those since are in memory (`DiskRows`). What is
+//! known of objects is in memory for all rows, so a row's links are found without a reading.
+//!
 //! The conditions on a store don't ask that no two rows have one last place, and the laws of rows
-//! do. So the rows are judged once, when the store is opened, and are lawful or not from then on. What
-//! is said of rows is said of lawful ones. Opening refuses a store of others, so a `Store` has lawful
-//! rows.
-ghost use Rattle.std.specs.Prelude.{◌≡◌, ◌-◌, ◌+◌, ◌<◌, ◌≤◌, ◌∷◌, ◌++◌, ◌↔◌, [], ℕ, None, true, false, map, fold, length, vec_len, vec_capacity, slice_index_or, IfOk, IfSome, OnOk};
-ghost use Rattle.std.specs.List.{All, flat_map};
-ghost use Rattle.row_codec.specs.Rows.{row as spelling, Fits};
+//! do. So the rows are judged once, when the store is opened. Opening refuses a store of rows that
+//! aren't lawful, so a `Store` has lawful rows.
+ghost use Rattle.std.specs.Prelude.{◌≡◌, ◌≢◌, ◌+◌, ◌-◌, ◌*◌, ◌<◌, ◌≤◌, ◌^◌, ◌∷◌, ◌++◌, [], ℕ, List, Some, false, map, max, length, Ok, vec_len, vec_capacity, IfOk, IsErrOf, OnOk};
+ghost use Rattle.std.specs.List.{All};
+ghost use Rattle.outside.specs.Disk.{OnlyLooks, UsesDisk};
 ghost use Rattle.reach_model.specs.Numbers.{known};
-ghost use Rattle.reach_model.specs.Rows.{Row as ARow, firsts, row_of};
-ghost use Rattle.reach_rows.specs.Kept.{AreRows, GoesOn, IsRowAt, row_of_kept};
-ghost use Rattle.store_check.specs.Store.{changed_at, extended, grown, flow_of as row_flow};
-ghost use Rattle.stored.specs.Batch.{mark_of as flow_mark};
-ghost use Rattle.reduced_store.specs.Filling.{GoesOnWith, AllGoOn, AreInOrder, AreApart};
-ghost use Rattle.reduced_store.specs.Held.{Held, HasRoom, AreHeld, SameLaw, laws_go_along, told_if};
-ghost use Rattle.reduced_store.specs.Saving.{extends_over, kept_after, mark_at};
+ghost use Rattle.reach_model.specs.Rows.{firsts, row_of};
+ghost use Rattle.reach_rows.specs.InMemory.{HasLinks};
+ghost use Rattle.reach_rows.specs.Kept.{Enters, GoesOn, IsFirstOf, IsLastOf, IsRowAt, Leaves, row_of_kept};
+ghost use Rattle.reach_rows.specs.declared.rows.RowFault.TheVariants as fault;
+ghost use Rattle.row_codec.specs.Rows.{CanBeSpelled};
+ghost use Rattle.saved_rows.specs.Joining.{AreOn, batch_rows, mark_in, rows_now, with_cache_of, with_extends};
+ghost use Rattle.saved_rows.specs.Saved.{IsSingle, as_kept};
+ghost use Rattle.store_check.specs.Store.{changed_at, extended};
+ghost use Rattle.reduced_store.specs.Held.{AreHeld, Held, HasRoom};
+ghost use Rattle.reduced_store.specs.Placing.{Follow, IsSettled, IsTied, SameButRoom, SamePlaces, SamePlacesNow, StandFrom, extends_now};
 
-use crate::apart::are_apart;
-use crate::earlier::Earlier;
-use crate::new_rows::extend_rows;
-use crate::spelling::write_kept;
-use flow_base::{Bytes, EntityId, Flow, List, NoMemory};
-use reach_rows::{
-    First, Keep, Mark, Object, Row, RowFault, Rows, Steps, enter, last_from_of, last_into_of, leave,
-};
-use row_codec::{KeptRow, StoreRow};
+use flow_base::{EntityId, Flow, List, NoMemory};
+use outside::Disk;
+use reach_rows::{First, Mark, Object, Row, RowFault, enter, last_from_of, last_into_of, leave};
+use row_codec::ExtendRow;
+use saved_rows::DiskRows;
 use std::alloc::Global;
 use std::marker::Model;
-use std::sync::ledger::Ledger;
 use table_salt::Salt;
 
 /// The rows of a store.
 #[derive(Drop)]
 pub struct StoreRows {
-    rows: Vec<Row>,
+    rows: DiskRows,
     objects: Vec<Object>,
     lawful: bool,
 }
@@ -42,69 +42,45 @@ impl Model for StoreRows {
     ghost Value = { Held };
 
     ghost view = { λ a. record {
-      rows = map row_of_kept a.rows.items;
+      rows = map row_of_kept (rows_now a.rows);
       lawful = a.lawful;
-      rows_room = vec_capacity a.rows - vec_len a.rows;
+      rows_room = a.rows.recent_room;
       objects_room = vec_capacity a.objects - vec_len a.objects;
+      placed = a.rows;
     } };
 
-    ghost invariant = { λ a. AreHeld a.lawful a.rows.items a.objects.items };
+    ghost invariant = { λ a. AreHeld (rows_now a.rows) a.objects.items
+        × All IsSingle a.rows.recent };
 }
 
 impl StoreRows {
     /// No rows, not judged yet.
-    pub(crate) fn unjudged(alloc: Global) -> StoreRows
-        ensures rows { result.rows ≡ [] }
-        ensures unjudged { result.lawful ≡ false }
+    pub(crate) fn unjudged(alloc: Global, salt: Salt) -> Result<StoreRows, NoMemory>
+        ensures rows { IfOk result (λ made. made.rows ≡ []) }
+        ensures unjudged { IfOk result (λ made. made.lawful ≡ false) }
+        ensures settled { IfOk result (λ made. IsSettled made) }
+        ensures there { IfOk result (λ made. (bytes : List ℕ) → AreOn bytes made.placed) }
+        ensures firm { IfOk result (λ made. made.placed.saved.cache.firm ≡ 0) }
     {
-        StoreRows {
-            rows: Vec::new(alloc),
+        let rows = DiskRows::new(alloc, salt, 0)?;
+        Ok(StoreRows {
+            rows,
             objects: Vec::new(alloc),
             lawful: false,
-        }
+        })
     }
 
     /// Makes room for this many more flows.
     pub(crate) fn make_room(&mut self, flows: usize) -> Result<(), NoMemory>
         ensures room { OnOk result (HasRoom self.new flows) }
-        ensures same { (self.new.rows ≡ self.old.rows) × (self.new.lawful ≡ self.old.lawful) }
+        ensures listing { OnOk result (flows ≤ self.new.placed.renewed_room) }
+        ensures rows { self.new.rows ≡ self.old.rows }
+        ensures lawful { self.new.lawful ≡ self.old.lawful }
+        ensures placed { SamePlacesNow self.old.placed self.new.placed }
     {
         self.rows.reserve(flows)?;
-        // Two objects a flow. The room for rows holds fewer than 2^63 flows, so the product doesn't
-        // overflow.
+        // Two objects a flow. There is never room for more than 2^62 rows, so the product doesn't overflow.
         self.objects.reserve(2 * flows)?;
-        Ok(())
-    }
-
-    /// Takes in what a row of a store says of its kept rows. They aren't lawful before they are
-    /// judged.
-    pub(crate) fn take_row(&mut self, row: &StoreRow) -> Result<(), NoMemory>
-        requires unjudged { self.old.lawful ≡ false }
-        requires next { GoesOnWith self.old.rows row.now }
-        ensures rows { OnOk result (self.new.rows ≡ grown self.old.rows row.now) }
-        ensures unjudged { self.new.lawful ≡ false }
-    {
-        match row {
-            StoreRow::Kept(kept) => {
-                self.make_room(1)?;
-                self.push(&flow_of(kept));
-            }
-            StoreRow::Extend(extend) => self.set_last(extend.row, extend.mark),
-            _ => {}
-        }
-        Ok(())
-    }
-
-    /// Takes in what the rows of a batch say.
-    pub(crate) fn take_rows(&mut self, rows: &[StoreRow]) -> Result<(), NoMemory>
-        requires unjudged { self.old.lawful ≡ false }
-        requires next { AllGoOn self.old.rows rows.now }
-        ensures rows { OnOk result (self.new.rows ≡ fold grown self.old.rows rows.now) }
-        ensures unjudged { self.new.lawful ≡ false }
-    {
-        for row in rows {
-            self.take_row(row)?;
-        }
         Ok(())
     }
 
@@ -112,169 +88,230 @@ impl StoreRows {
     pub(crate) fn is_lawful(&self) -> bool
         ensures { result ≡ self.now.lawful }
     {
+        let _ = &self.rows;
         self.lawful
     }
 
-    /// Judges rows that are in order: they are lawful if no two of them have one last place.
-    pub(crate) fn judge(&mut self, alloc: Global, salt: Salt) -> Result<(), NoMemory>
-        requires { AreInOrder self.old.rows }
-        ensures rows { self.new.rows ≡ self.old.rows }
-        ensures lawful { OnOk result ((self.new.lawful ≡ true) ↔ AreApart self.old.rows) }
+    /// Judges the rows lawful or not.
+    pub(crate) fn judge(&mut self, lawful: bool)
+        ensures { self.new ≡ record self.old { lawful = lawful } }
     {
-        self.lawful = are_apart(alloc, salt, self.rows.as_slice())?;
-        Ok(())
+        let _ = &self.rows;
+        self.lawful = lawful;
     }
 
     /// Appends a row whose first and last flow are this one.
     pub(crate) fn push(&mut self, flow: &Flow)
         requires room { (n : ℕ) × HasRoom self.old (n + 1) }
         requires numbered { GoesOn (known (firsts self.old.rows)) flow.now }
-        requires lawful { self.old.lawful ≡ true → AreRows self.old.rows
-            → AreRows (self.old.rows ++ row_of flow.now ∷ []) }
         ensures rows { self.new.rows ≡ self.old.rows ++ row_of flow.now ∷ [] }
         ensures lawful { self.new.lawful ≡ self.old.lawful }
         ensures room { (n : ℕ) → HasRoom self.old (n + 1) → HasRoom self.new n }
+        ensures placed { SamePlaces self.old.placed self.new.placed }
+        ensures renewed { self.new.placed.renewed ≡ self.old.placed.renewed }
+        ensures listing { self.new.placed.renewed_room ≡ self.old.placed.renewed_room }
+        ensures recent { (row : _) × (self.new.placed.recent ≡ self.old.placed.recent ++ row ∷ []) }
     {
-        let row = self.rows.len() as u64;
+        let row = self.next_row(flow);
+        self.append(row);
+    }
+
+    // A row whose first and last flow are this one, with its links.
+    fn next_row(&self, flow: &Flow) -> Row
+        ensures flow { row_of_kept result ≡ row_of flow.now }
+        ensures links { HasLinks (firsts self.now.rows) result }
+    {
+        let _ = &self.rows;
         let mark = mark_of(flow);
-        let kept = Row {
+        Row {
             from: flow.from,
             to: flow.to,
             first: mark,
             last: mark,
             before_to: last_into_of(&self.objects, flow.to),
             before_from: last_from_of(&self.objects, flow.from),
-        };
-        self.rows.push_reserved(kept);
-        leave(&mut self.objects, flow, row);
-        enter(&mut self.objects, flow, row);
+        }
+    }
+
+    /// Appends a row that ends with the flow with which it begins.
+    pub(crate) fn append(&mut self, row: Row)
+        requires room { (n : ℕ) × HasRoom self.old (n + 1) }
+        requires numbered { GoesOn (known (firsts self.old.rows)) (row_of_kept row).first }
+        requires single { IsSingle row }
+        requires links { HasLinks (firsts self.old.rows) row }
+        ensures rows { self.new.rows ≡ self.old.rows ++ row_of_kept row ∷ [] }
+        ensures lawful { self.new.lawful ≡ self.old.lawful }
+        ensures room { (n : ℕ) → HasRoom self.old (n + 1) → HasRoom self.new n }
+        ensures placed { SamePlaces self.old.placed self.new.placed }
+        ensures renewed { self.new.placed.renewed ≡ self.old.placed.renewed }
+        ensures listing { self.new.placed.renewed_room ≡ self.old.placed.renewed_room }
+        ensures recent { self.new.placed.recent ≡ self.old.placed.recent ++ row ∷ [] }
+    {
+        let index = self.rows.count();
+        let flow = row.first_flow();
+        self.rows.push(row);
+        leave(&mut self.objects, &flow, index);
+        enter(&mut self.objects, &flow, index);
     }
 
     /// Gives the last flow of a row this mark.
     pub(crate) fn set_last(&mut self, row: u64, mark: Mark)
+        requires room { 1 ≤ self.old.placed.renewed_room }
         requires row { row < length self.old.rows }
-        requires lawful { self.old.lawful ≡ true → AreRows self.old.rows
-            → AreRows (changed_at row (extended mark) self.old.rows) }
-        ensures { self.new
-            ≡ record self.old { rows = changed_at row (extended mark) self.old.rows } }
+        ensures rows { self.new.rows ≡ changed_at row (extended mark) self.old.rows }
+        ensures lawful { self.new.lawful ≡ self.old.lawful }
+        ensures room { (n : ℕ) → HasRoom self.old n → HasRoom self.new n }
+        ensures placed { SamePlaces self.old.placed self.new.placed }
+        ensures recent { self.new.placed.recent ≡ self.old.placed.recent }
+        ensures here { mark_in self.new.placed.renewed row ≡ Some mark }
+        ensures others { (i : ℕ) → i ≢ row
+            → mark_in self.new.placed.renewed i ≡ mark_in self.old.placed.renewed i }
+        ensures tied { IsTied self.old }
+        ensures listing { self.old.placed.renewed_room ≤ self.new.placed.renewed_room + 1 }
     {
-        self.rows[row as usize].last = mark;
+        self.rows.extend(row, mark);
     }
 }
 
 impl StoreRows {
-    /// The mark of a row's last flow.
-    pub(crate) fn last_mark(&self, row: u64) -> Mark
-        requires { row < length self.now.rows }
-        ensures { (d : ARow) → result ≡ flow_mark (slice_index_or self.now.rows row d).last }
-    {
-        self.rows[row as usize].last
-    }
-
-    /// The row at an index.
-    pub(crate) fn row_at(&self, index: u64) -> Row
-        requires { index < length self.now.rows }
-        ensures exact { IfSome (told_if self.now.lawful self.now.rows)
-            (λ R. IsRowAt R index result) }
-        ensures ends { (result.from.0 < known (firsts self.now.rows))
-            × (result.to.0 < known (firsts self.now.rows)) }
-    {
-        self.rows[index as usize]
-    }
-
-    /// The Extend rows of the rows that are listed with another last place than they have now.
-    pub(crate) fn extends_over(
-        &self,
-        alloc: Global,
-        earlier: &Earlier,
-    ) -> Result<List<StoreRow>, NoMemory>
-        requires { (i : ℕ) → length self.now.rows ≤ i → mark_at earlier.now.all i ≡ None }
-        ensures { IfOk result (λ extends. extends
-            ≡ extends_over (mark_at earlier.now.all) self.now.rows) }
+    /// How many rows there are.
+    pub(crate) fn count(&self) -> u64
+        ensures { result ≡ length self.now.rows }
     {
         let _ = self.lawful;
-        extend_rows(alloc, self.rows.as_slice(), earlier)
+        self.rows.count()
     }
 
-    /// Appends the spellings of the Kept rows of the rows from an index on. At NoMemory a part of them may have been
-    /// appended.
-    pub(crate) fn write_kept_after(&self, count: u64, to: &mut Bytes) -> Result<(), NoMemory>
-        requires { count ≤ length self.now.rows }
-        ensures bytes { OnOk result
-            (to.new ≡ to.old ++ flat_map spelling (kept_after count self.now.rows)) }
-        ensures fit { OnOk result (All Fits (kept_after count self.now.rows)) }
+    /// How many objects are known.
+    pub(crate) fn known(&self) -> u32
+        ensures { result ≡ known (firsts self.now.rows) }
     {
-        write_kept(&self.rows.as_slice()[count as usize..], to)
-    }
-}
-
-impl Rows for StoreRows {
-    ghost rows = { λ s. told_if s.lawful s.rows };
-
-    ghost count = { λ s. length s.rows };
-
-    ghost known = { λ s. known (firsts s.rows) };
-
-    ghost faults = { λ _. 0 };
-
-    ghost spent = { λ _. ⊥ };
-
-    ghost alike = { SameLaw };
-
-    fn count(&self) -> u64 {
-        self.rows.len() as u64
-    }
-
-    fn known(&self) -> u32 {
+        let _ = self.lawful;
         self.objects.len() as u32
     }
 
-    fn first(&self, id: EntityId) -> First {
+    /// The first flow of an object.
+    pub(crate) fn first(&self, id: EntityId) -> First
+        requires { id.0 < known (firsts self.now.rows) }
+        ensures { IsFirstOf (firsts self.now.rows) id.0 result }
+    {
+        let _ = self.lawful;
         self.objects[id.0 as usize].first
     }
 
-    fn last_into(&self, id: EntityId) -> Option<u64> {
+    /// The greatest row that enters an object.
+    pub(crate) fn last_into(&self, id: EntityId) -> Option<u64>
+        requires { id.0 < known (firsts self.now.rows) }
+        ensures { IsLastOf (firsts self.now.rows) (Enters id.0) result }
+    {
+        let _ = self.lawful;
         self.objects[id.0 as usize].last_into
     }
 
-    fn last_from(&self, id: EntityId) -> Option<u64> {
+    /// The greatest row that leaves an object.
+    pub(crate) fn last_from(&self, id: EntityId) -> Option<u64>
+        requires { id.0 < known (firsts self.now.rows) }
+        ensures { IsLastOf (firsts self.now.rows) (Leaves id.0) result }
+    {
+        let _ = self.lawful;
         self.objects[id.0 as usize].last_from
     }
 
-    fn row<L: Ledger>(&mut self, index: u64, steps: &mut Steps<L>) -> Result<Row, RowFault> {
-        steps.tick();
-        Ok(self.row_at(index))
+    /// The row at an index. The store is bad at the place of a row of the last commit that isn't there,
+    /// or that has an end which no row has named.
+    pub(crate) fn row<D: Disk>(&mut self, disk: &mut D, index: u64) -> Result<Row, RowFault>
+        requires index { index < length self.old.rows }
+        requires there { (D.state disk.old).told → AreOn (D.state disk.old).reads self.old.placed }
+        ensures exact { (D.state disk.old).told → IfOk result (IsRowAt self.old.rows index) }
+        ensures good { (D.state disk.old).told
+            → (place : ℕ) → IsErrOf result (fault.BadStore place) → ⊥ }
+        ensures ends { IfOk result (λ row. (row.from.0 < known (firsts self.old.rows))
+            × (row.to.0 < known (firsts self.old.rows))) }
+        ensures same { self.new ≡ record self.old {
+          placed = with_cache_of self.new.placed self.old.placed;
+        } }
+        ensures there { (D.state disk.old).told → AreOn (D.state disk.new).reads self.new.placed }
+        ensures firm { self.new.placed.saved.cache.firm ≡ self.old.placed.saved.cache.firm }
+        ensures looks { OnlyLooks (D.state disk.old) (D.state disk.new) }
+        ensures uses { UsesDisk D.state D.faults D.spent disk.old disk.new
+            (IsErrOf result fault.StoreFault) }
+    {
+        match self.rows.row(disk, index) {
+            Ok(row) => self.with_known_ends(index, row),
+            Err(fault) => Err(fault),
+        }
     }
 
-    ghost goes_along = { laws_go_along };
+    // The row that was read at an index, if both of its ends are known.
+    fn with_known_ends(&self, index: u64, row: Row) -> Result<Row, RowFault>
+        ensures known { (row.from.0 < known (firsts self.now.rows))
+            × (row.to.0 < known (firsts self.now.rows)) → result ≡ Ok row }
+        ensures ends { IfOk result (λ row. (row.from.0 < known (firsts self.now.rows))
+            × (row.to.0 < known (firsts self.now.rows))) }
+        ensures tried { IsErrOf result fault.StoreFault → ⊥ }
+    {
+        let known = self.known();
+        if row.from.0 < known && row.to.0 < known {
+            return Ok(row);
+        }
+        Err(RowFault::BadStore(self.rows.place(index)))
+    }
 }
 
-impl Keep for StoreRows {
-    ghost has_room = { HasRoom };
-
-    fn reserve(&mut self, flows: usize) -> Result<(), NoMemory> {
-        self.make_room(flows)
+impl StoreRows {
+    /// The rows since the last commit, as their Kept rows say them.
+    pub(crate) fn recent(&self) -> &[Row]
+        ensures rows { result.now ≡ self.now.placed.recent }
+        ensures spelled { All (λ r. CanBeSpelled (as_kept r)) result.now }
+        ensures follow { Follow self.now }
+    {
+        let _ = self.lawful;
+        self.rows.recent()
     }
 
-    fn add(&mut self, flow: &Flow) {
-        self.push(flow);
+    /// The Extend rows of the rows that were extended since the last commit.
+    pub(crate) fn extends(&self, alloc: Global) -> Result<List<ExtendRow>, NoMemory>
+        ensures each { IfOk result (λ extends. extends ≡ extends_now self.now.placed) }
+        ensures now { IfOk result (λ extends. map row_of_kept (with_extends
+            (self.now.placed.kept ++ self.now.placed.recent) extends) ≡ self.now.rows) }
+        ensures known { IfOk result (All (λ e. e.row < length self.now.rows)) }
+    {
+        let _ = self.lawful;
+        self.rows.extends(alloc)
     }
 
-    fn extend(&mut self, row: u64, flow: &Flow) {
-        self.set_last(row, mark_of(flow));
+    /// Makes room for the batch of the rows since the last commit, with this many Extend rows.
+    pub(crate) fn reserve_batch(&mut self, extends: usize) -> Result<(), NoMemory>
+        ensures room { OnOk result ((1 ≤ self.new.placed.saved.runs_room)
+            × (extends ≤ self.new.placed.saved.ends_room)) }
+        ensures same { SameButRoom self.old self.new }
+    {
+        let _ = self.lawful;
+        self.rows.reserve_batch(extends)
     }
-}
 
-/// The flow of a Kept row.
-fn flow_of(row: &KeptRow) -> Flow
-    ensures { result ≡ row_flow row.now }
-{
-    Flow {
-        from: row.from,
-        to: row.to,
-        how: row.mark.how,
-        at: row.mark.at,
-        serial: row.mark.serial,
+    /// The rows since the last commit stand on the disk now: their Kept rows from a place on, and
+    /// after them these Extend rows. The bytes before the place `firm` don't change any more.
+    pub(crate) fn settle(&mut self, alloc: Global, firm: u64, place: u64, extends: &[ExtendRow])
+        requires room { (1 ≤ self.old.placed.saved.runs_room)
+            × (length extends.now ≤ self.old.placed.saved.ends_room) }
+        requires fits { place + 46 * length self.old.placed.recent + 30 * length extends.now
+            < 2 ^ 64 }
+        requires rows { All (λ e. e.row < length self.old.rows) extends.now }
+        ensures tied { IsTied self.old }
+        ensures kept { self.new.placed.kept
+            ≡ with_extends (self.old.placed.kept ++ self.old.placed.recent) extends.now }
+        ensures lawful { self.new.lawful ≡ self.old.lawful }
+        ensures settled { IsSettled self.new }
+        ensures firm { self.new.placed.saved.cache.firm
+            ≡ max self.old.placed.saved.cache.firm firm }
+        ensures there { (bytes : List ℕ) → AreOn bytes self.old.placed
+            → StandFrom bytes firm place (batch_rows self.old.placed.recent extends.now)
+            → AreOn bytes self.new.placed }
+    {
+        let _ = self.lawful;
+        let firm = self.rows.firm().max(firm);
+        self.rows.settle(alloc, firm, place, extends);
     }
 }
 

@@ -1,70 +1,78 @@
 //! Rows that are kept on a disk.
-ghost use Rattle.std.specs.Prelude.{◌≡◌, ◌⊎◌, ◌↔◌, ◌+◌, ◌++◌, ◌∷◌, [], Some, true, OnOk, OnErr, IsErrOf, ℕ, List, IfOk, IfErr, MatchOption, map, drop, length};
-ghost use Rattle.outside.specs.Disk.{put_at, IsDurable, LeavesOnly, OnlyLooks, Settles, UsesDisk};
+ghost use Rattle.std.specs.Prelude.{◌≡◌, ◌⊎◌, ◌↔◌, ◌+◌, ◌++◌, ◌∷◌, [], Some, true, OnOk, OnErr, IsErrOf, ℕ, List, IfOk, IfErr, MatchOption, map, length};
+ghost use Rattle.outside.specs.Disk.{IsDurable, LeavesOnly, OnlyLooks, Settles, UsesDisk};
 ghost use Rattle.reach_model.specs.declared.modes.Mode.{Mode as AMode};
-ghost use Rattle.batch_log.specs.Log.{log_of, log_after, next_gate, passed, IsRefused, LogHas, EachHas};
-ghost use Rattle.batch_log.specs.Batches as on_disk;
-ghost use Rattle.batch_log.specs.Batches.{after_gate, IsBeforeOrAfter};
+ghost use Rattle.batch_log.specs.Log.{log_of, log_after, passed, IsRefused, LogHas, EachHas};
+ghost use Rattle.batch_log.specs.Batches.{IsBeforeOrAfter};
 ghost use Rattle.batch_log.specs.declared.log.CommitFault.TheVariants as commit;
 ghost use Rattle.std.specs.List.{All};
 ghost use Rattle.row_codec.specs.Payload.{IsPayload};
 ghost use Rattle.row_codec.specs.Rows.{CanBeSpelled};
-ghost use Rattle.reduced_store.specs.OnDisk.{IsCommit, UnlessNoMemory, rows_between, payload_between};
-ghost use Rattle.row_codec.specs.declared.rows.StoreRow.TheVariants.{Extend};
-ghost use Rattle.stored.specs.Batch.{extends_from, fresh};
+ghost use Rattle.reduced_store.specs.OnDisk.{IsSpelledBetween, IsTold, LeadsOn, UnlessNoMemory, rows_between, payload_between};
+ghost use Rattle.reduced_store.specs.Placing.{IsSettled};
+ghost use Rattle.saved_rows.specs.Saved.{as_kept};
 ghost use Rattle.store_check.specs.Conditions.{bounds_of};
 ghost use Rattle.reduced_store.specs.Opening.{BeginsLast, IsBadAt};
 ghost use Rattle.reduced_store.specs.Reading.{IsFound};
-ghost use Rattle.reduced_store.specs.Stores.{found_of, IsOpenedOver, disk_after, IsBlamed, Agree, IsOfWrongMode, IsWrong, refusal};
+ghost use Rattle.reduced_store.specs.Stores.{FindsSame, found_of, IsOpenedOver, disk_after, IsBlamed, Agree, IsOfWrongMode, IsWrong, refusal};
 ghost use Rattle.reduced_store.specs.declared.opened.OpenFault.TheVariants as fault;
 
-use crate::earlier::Earlier;
 use crate::open::{StoreRead, read_store};
 use crate::opened::{OpenFault, Opened, Unopened};
 use crate::reading::{Found, is_same};
 use crate::rows::{StoreRows, mark_of};
-use crate::spelling::write_rows;
+use crate::spelling::{write_extends, write_kept, write_rows};
 use batch_log::{BatchLog, CommitFault, LogFault};
 use flow_base::{Bytes, EntityId, Flow, Limits, List, NoMemory};
 use outside::Disk;
 use reach_model::Mode;
 use reach_rows::{First, Keep, Row, RowFault, Rows, Steps};
-use row_codec::{StoreRow, write_payload};
+use row_codec::{ExtendRow, StoreRow, write_payload};
 use std::alloc::Global;
 use std::marker::Model;
 use std::sync::ledger::Ledger;
 use table_salt::Salt;
 
-/// A store on a disk: the log of the disk's batches, and the rows. Of the rows it is known what they
-/// were at the last commit: how many there were, and the last marks of those that were extended since.
+/// How many bytes of a batch stand before its payload: a gate and a length.
+const PAYLOAD: u64 = 9;
+
+// The payload of a commit, how many bytes of it stand before the Kept rows, and its Extend rows.
+#[derive(Drop)]
+pub struct Spelled {
+    pub payload: Bytes,
+    pub before: usize,
+    pub extends: List<ExtendRow>,
+}
+
+/// A store on a disk: the log of the disk's batches, and the rows. Those of the last commit are read
+/// from the disk one by one, and those since are in memory.
 ///
-/// The rows are lawful. They are read from memory, so no read of them fails, and no failed call on the
-/// disk counts as one.
+/// The rows are lawful if the disk is observable. A disk that isn't may lose or change rows.
 #[derive(Drop)]
 pub struct Store<D: Disk> {
     log: BatchLog,
     disk: D,
     rows: StoreRows,
-    count: u64,
-    earlier: Earlier,
 }
 
 impl<D: Disk> Model for Store<D> {
-    ghost use Rattle.std.specs.Prelude.{take};
-    ghost use Rattle.reduced_store.specs.OnDisk.{OnDisk, AreLawfulSince};
-    ghost use Rattle.reduced_store.specs.Saving.{mark_at, put_back};
+    ghost use Rattle.std.specs.Prelude.{◌≡◌, map, true};
+    ghost use Rattle.reach_rows.specs.Kept.{row_of_kept};
+    ghost use Rattle.reduced_store.specs.OnDisk.{IsTold, OnDisk, forget_room, since_now};
 
     ghost Value = { OnDisk D };
 
     ghost view = { λ a. record {
       disk = a.disk;
       log = a.log;
-      rows = a.rows;
-      saved = take a.count (put_back (mark_at a.earlier.all) 0 a.rows.rows);
-      listing_room = a.earlier.spare;
+      rows = forget_room a.rows;
+      saved = map row_of_kept a.rows.placed.kept;
+      since = since_now a.rows.placed;
+      listing_room = a.rows.placed.renewed_room;
     } };
 
-    ghost invariant = { λ a. AreLawfulSince a.count (mark_at a.earlier.all) a.rows };
+    ghost invariant = { λ a. (a.rows.lawful ≡ true)
+        × ((D.state a.disk).tells ≡ true → IsTold (D.state a.disk).reads a.log a.rows) };
 }
 
 impl<D: Disk> Store<D> {
@@ -109,7 +117,7 @@ impl<D: Disk> Store<D> {
     {
         let mut disk = disk;
         match read_store(alloc, salt, limits, &mut disk) {
-            Ok(read) => admit(alloc, salt, asked, read, disk),
+            Ok(read) => admit(asked, read, disk),
             Err(fault) => Err(Unopened {
                 fault: refusal_of(fault),
                 disk,
@@ -122,16 +130,6 @@ impl<D: Disk> Store<D> {
         ensures { result ≡ self.now.log.usable }
     {
         self.log.usable()
-    }
-
-    /// The Extend rows since the last commit: one for each row, also a new one, whose last flow has
-    /// another place than what the disk has and the new Kept rows say.
-    pub fn extended_rows(&self, alloc: Global) -> Result<List<StoreRow>, NoMemory>
-        ensures { IfOk result (λ extends. extends ≡ map Extend (extends_from 0 (self.now.saved
-            ++ map fresh (drop (length self.now.saved) self.now.rows.rows)) self.now.rows.rows)) }
-    {
-        let _ = &self.disk;
-        self.rows.extends_over(alloc, &self.earlier)
     }
 
     /// Puts a batch after those that are there, and takes the rows for saved. Its rows are `front`,
@@ -173,12 +171,14 @@ impl<D: Disk> Store<D> {
         ensures refused { IsRefused result → self.new ≡ self.old }
         ensures uses { UsesDisk D.state D.faults D.spent self.old.disk self.new.disk
             (IsErrOf result commit.StoreFault) }
-        ensures rows { self.new.rows ≡ self.old.rows }
+        ensures leads { (D.state self.old.disk).told → LeadsOn self.old }
+        ensures rows { self.new.rows.rows ≡ self.old.rows.rows }
+        ensures lawful { self.new.rows.lawful ≡ self.old.rows.lawful }
         ensures saved { OnOk result (self.new.saved ≡ self.new.rows.rows) }
         ensures unsaved { OnErr result (self.new.saved ≡ self.old.saved) }
     {
         match self.spell(alloc, mode, front, back) {
-            Ok(payload) => self.commit(alloc, payload.as_slice()),
+            Ok(spelled) => self.commit(alloc, &spelled),
             Err(NoMemory) => Err(CommitFault::NoMemory),
         }
     }
@@ -190,56 +190,77 @@ impl<D: Disk> Store<D> {
         mode: Mode,
         front: &[StoreRow],
         back: &[StoreRow],
-    ) -> Result<Bytes, NoMemory>
+    ) -> Result<Spelled, NoMemory>
         requires front { All CanBeSpelled front.now }
         requires back { All CanBeSpelled back.now }
-        ensures { IfOk result
-            (IsPayload mode (rows_between self.now front.now back.now)) }
+        ensures payload { IfOk result (λ spelled. IsPayload mode
+            (rows_between self.now front.now back.now) spelled.payload) }
+        ensures spelled { IfOk result (λ spelled. IsSpelledBetween self.now spelled) }
+        ensures leads { (D.state self.now.disk).tells ≡ true → LeadsOn self.now }
     {
-        let extends = self.extended_rows(alloc)?;
+        let recent = self.recent();
+        let extends = self.rows.extends(alloc)?;
         let mut payload = Bytes::new(alloc);
         write_payload(mode, front, &mut payload)?;
-        self.rows.write_kept_after(self.count, &mut payload)?;
-        write_rows(extends.as_slice(), &mut payload)?;
+        let before = payload.as_slice().len();
+        write_kept(recent, &mut payload)?;
+        write_extends(extends.as_slice(), &mut payload)?;
         write_rows(back, &mut payload)?;
-        Ok(payload)
+        Ok(Spelled {
+            payload,
+            before,
+            extends,
+        })
     }
 
-    /// Puts a batch with this payload after those that are there, and takes the rows for saved. A
-    /// crash at any moment leaves a store of the batches from before, or of these and the new one.
-    /// After `StoreFault` either may be there, and the disk has to be opened again. After `Full` and
-    /// `NoMemory` nothing has changed.
-    pub fn commit(&mut self, alloc: Global, payload: &[u8]) -> Result<(), CommitFault>
-        requires batch { IsCommit self.old payload.now }
+    // The rows since the last commit, which lead from its rows to those of now.
+    fn recent(&self) -> &[Row]
+        ensures rows { result.now ≡ self.now.rows.placed.recent }
+        ensures spelled { All (λ r. CanBeSpelled (as_kept r)) result.now }
+        ensures leads { (D.state self.now.disk).tells ≡ true → LeadsOn self.now }
+    {
+        let _ = &self.disk;
+        self.rows.recent()
+    }
+
+    // Puts a batch with this payload after those that are there. After Ok the rows are those of the
+    // last commit.
+    fn commit(&mut self, alloc: Global, spelled: &Spelled) -> Result<(), CommitFault>
+        requires spelled { IsSpelledBetween self.old spelled.now }
         requires usable { self.old.log.usable ≡ true }
         requires stands { (D.state self.old.disk).told → (payloads : List (List ℕ))
             × LogHas self.old.log payloads (D.state self.old.disk).reads }
-        ensures written { (D.state self.old.disk).told → OnOk result ((D.state self.new.disk).reads
-            ≡ put_at (next_gate self.old.log) (on_disk.OPEN ∷ after_gate payload.now)
-            (D.state self.old.disk).reads) }
         ensures adds { (D.state self.old.disk).told → (payloads : List (List ℕ))
             → LogHas self.old.log payloads (D.state self.old.disk).reads
-            → OnOk result
-            (LogHas self.new.log (payloads ++ payload.now ∷ []) (D.state self.new.disk).reads) }
+            → OnOk result (LogHas self.new.log (payloads ++ spelled.now.payload ∷ [])
+            (D.state self.new.disk).reads) }
         ensures durable { OnOk result (IsDurable (D.state self.new.disk)) }
         ensures any_moment { (D.state self.old.disk).told → (payloads : List (List ℕ))
             → EachHas self.old.log payloads (D.state self.old.disk).image
             → LeavesOnly (D.state self.old.disk) (D.state self.new.disk)
-            (IsBeforeOrAfter self.old.log.most payloads payload.now) }
-        ensures log { self.new.log ≡ log_after self.old.log (9 + length payload.now) result }
-        ensures full { (full : _) → IsErrOf result (commit.Full full)
-            ↔ (passed self.old.log (length payload.now) ≡ Some full) }
+            (IsBeforeOrAfter self.old.log.most payloads spelled.now.payload) }
+        ensures log { self.new.log
+            ≡ log_after self.old.log (9 + length spelled.now.payload) result }
+        ensures full { (full : _) → UnlessNoMemory result (IsErrOf result (commit.Full full)
+            ↔ (passed self.old.log (length spelled.now.payload) ≡ Some full)) }
         ensures refused { IsRefused result → self.new ≡ self.old }
         ensures uses { UsesDisk D.state D.faults D.spent self.old.disk self.new.disk
             (IsErrOf result commit.StoreFault) }
-        ensures rows { self.new.rows ≡ self.old.rows }
+        ensures rows { self.new.rows.rows ≡ self.old.rows.rows }
+        ensures lawful { self.new.rows.lawful ≡ self.old.rows.lawful }
         ensures saved { OnOk result (self.new.saved ≡ self.new.rows.rows) }
         ensures unsaved { OnErr result (self.new.saved ≡ self.old.saved) }
     {
-        match self.log.commit(&mut self.disk, payload) {
+        let extends = spelled.extends.as_slice();
+        let Ok(()) = self.rows.reserve_batch(extends.len()) else {
+            return Err(CommitFault::NoMemory);
+        };
+        let gate = self.log.next_gate();
+        match self.log.commit(&mut self.disk, spelled.payload.as_slice()) {
             Ok(()) => {
-                self.count = self.rows.count();
-                self.earlier = Earlier::new(alloc, self.earlier.salt());
+                let firm = self.log.next_gate();
+                let place = gate + PAYLOAD + spelled.before as u64;
+                self.rows.settle(alloc, firm, place, extends);
                 Ok(())
             }
             Err(fault) => Err(fault),
@@ -255,24 +276,22 @@ impl<D: Disk> Store<D> {
 }
 
 impl<D: Disk> Rows for Store<D> {
-    ghost use Rattle.std.specs.Prelude.{◌≡◌, ◌<◌, ◌+◌, length, IfOk, Some};
+    ghost use Rattle.std.specs.Prelude.{length};
     ghost use Rattle.reach_model.specs.Numbers.{known};
     ghost use Rattle.reach_model.specs.Rows.{firsts};
-    ghost use Rattle.reach_rows.specs.Kept.{IsRowAt};
-    ghost use Rattle.reach_rows.specs.Reading.{IsReading};
-    ghost use Rattle.reduced_store.specs.OnDisk.{SameBut, stores_go_along};
+    ghost use Rattle.reduced_store.specs.OnDisk.{SameBut, seen_rows, stores_go_along};
 
-    ghost rows = { λ s. Some s.rows.rows };
+    ghost rows = { seen_rows D.state };
 
     ghost count = { λ s. length s.rows.rows };
 
     ghost known = { λ s. known (firsts s.rows.rows) };
 
-    ghost faults = { λ s. 0 };
+    ghost faults = { λ s. D.faults s.disk };
 
-    ghost spent = { λ s. ⊥ };
+    ghost spent = { λ s. D.spent s.disk };
 
-    ghost alike = { SameBut };
+    ghost alike = { SameBut D.state D.faults D.spent };
 
     fn count(&self) -> u64 {
         self.rows.count()
@@ -294,89 +313,43 @@ impl<D: Disk> Rows for Store<D> {
         self.rows.last_from(id)
     }
 
-    fn row<L: Ledger>(&mut self, index: u64, steps: &mut Steps<L>) -> Result<Row, RowFault>
-        requires { index < length self.old.rows.rows }
-        ensures exact { IfOk result (IsRowAt self.old.rows.rows index) }
-        ensures ends { IfOk result (λ row. (row.from.0 < known (firsts self.old.rows.rows))
-            × (row.to.0 < known (firsts self.old.rows.rows))) }
-        ensures rows { self.new.rows ≡ self.old.rows }
-        ensures same { SameBut self.old self.new }
-        ensures cause { IsReading (Some self.old.rows.rows) 0 0 ⊥ ⊥ result }
-        ensures step { steps.new ≡ steps.old + 1 }
-    {
-        let _ = &self.disk;
+    fn row<L: Ledger>(&mut self, index: u64, steps: &mut Steps<L>) -> Result<Row, RowFault> {
         steps.tick();
-        Ok(self.rows.row_at(index))
+        self.rows.row(&mut self.disk, index)
     }
 
     ghost goes_along = { stores_go_along };
 }
 
 impl<D: Disk> Keep for Store<D> {
-    ghost use Rattle.std.specs.Prelude.{◌≡◌, ◌<◌, ◌+◌, ◌++◌, ◌∷◌, [], max, length, slice_index_or, OnOk};
-    ghost use Rattle.reach_model.specs.declared.modes.Verdict.TheVariants as Verdict;
-    ghost use Rattle.reach_model.specs.Numbers.{known, beyond};
-    ghost use Rattle.reach_model.specs.Rows.{Row as ARow, SamePair, firsts, row_of, rows_after};
-    ghost use Rattle.reach_rows.specs.Kept.{ComesAfter, GoesOn};
-    ghost use Rattle.store_check.specs.Store.{changed_at, extended};
-    ghost use Rattle.stored.specs.Batch.{mark_of as flow_mark};
-    ghost use Rattle.reduced_store.specs.OnDisk.{HasRoomFor, SameBut};
+    ghost use Rattle.reduced_store.specs.OnDisk.{HasRoomFor};
 
     ghost has_room = { HasRoomFor };
 
-    fn reserve(&mut self, flows: usize) -> Result<(), NoMemory>
-        ensures room { OnOk result (HasRoomFor self.new flows) }
-        ensures rows { self.new.rows.rows ≡ self.old.rows.rows }
-        ensures same { SameBut self.old self.new }
-    {
-        self.rows.make_room(flows)?;
-        self.earlier.reserve(flows)
+    fn reserve(&mut self, flows: usize) -> Result<(), NoMemory> {
+        let _ = &self.disk;
+        self.rows.make_room(flows)
     }
 
-    fn add(&mut self, flow: &Flow)
-        requires room { (n : ℕ) × HasRoomFor self.old (n + 1) }
-        requires numbered { GoesOn (known (firsts self.old.rows.rows)) flow.now }
-        requires later { ComesAfter self.old.rows.rows flow.now }
-        ensures rows { self.new.rows.rows ≡ self.old.rows.rows ++ row_of flow.now ∷ [] }
-        ensures known { known (firsts self.new.rows.rows)
-            ≡ max (known (firsts self.old.rows.rows)) (beyond flow.now) }
-        ensures same { SameBut self.old self.new }
-        ensures room { (n : ℕ) → HasRoomFor self.old (n + 1) → HasRoomFor self.new n }
-    {
+    fn add(&mut self, flow: &Flow) {
+        let _ = &self.disk;
         self.rows.push(flow);
     }
 
-    fn extend(&mut self, row: u64, flow: &Flow)
-        requires room { (n : ℕ) × HasRoomFor self.old (n + 1) }
-        requires row { row < length self.old.rows.rows }
-        requires pair { (d : ARow)
-            → SamePair (slice_index_or self.old.rows.rows row d).last flow.now }
-        requires later { ComesAfter self.old.rows.rows flow.now }
-        ensures rows { self.new.rows.rows
-            ≡ changed_at row (extended (flow_mark flow.now)) self.old.rows.rows }
-        ensures after { self.new.rows.rows
-            ≡ rows_after self.old.rows.rows flow.now (Verdict.Extend row) }
-        ensures counts { (length self.new.rows.rows ≡ length self.old.rows.rows)
-            × (known (firsts self.new.rows.rows) ≡ known (firsts self.old.rows.rows)) }
-        ensures same { SameBut self.old self.new }
-        ensures room { (n : ℕ) → HasRoomFor self.old (n + 1) → HasRoomFor self.new n }
-    {
-        self.earlier.note(row, self.rows.last_mark(row));
+    fn extend(&mut self, row: u64, flow: &Flow) {
+        let _ = &self.disk;
         self.rows.set_last(row, mark_of(flow));
     }
 }
 
 // Makes a store of what was found, unless it is of another mode than was asked for.
-fn admit<D: Disk>(
-    alloc: Global,
-    salt: Salt,
-    asked: Option<Mode>,
-    read: StoreRead,
-    disk: D,
-) -> Result<Opened<D>, Unopened<D>>
-    requires { read.found.rows.lawful ≡ true }
+fn admit<D: Disk>(asked: Option<Mode>, read: StoreRead, disk: D) -> Result<Opened<D>, Unopened<D>>
+    requires lawful { read.found.rows.lawful ≡ true }
+    requires placed { (D.state disk).tells ≡ true
+        → IsTold (D.state disk).reads read.log read.found.rows }
+    requires settled { IsSettled read.found.rows }
     ensures store { IfOk result (λ opened.
-        (opened.store.log ≡ read.log) × (found_of opened ≡ read.found)) }
+        (opened.store.log ≡ read.log) × FindsSame read.found (found_of opened)) }
     ensures last { IfOk result (λ opened. opened.last ≡ read.last) }
     ensures saved { IfOk result (λ opened. opened.store.saved ≡ opened.store.rows.rows) }
     ensures lawful { IfOk result (λ opened. opened.store.rows.lawful ≡ true) }
@@ -389,13 +362,7 @@ fn admit<D: Disk>(
         Some(fault) => Err(Unopened { fault, disk }),
         None => {
             let Found { mode, rows, others } = found;
-            let store = Store {
-                log,
-                disk,
-                count: rows.count(),
-                rows,
-                earlier: Earlier::new(alloc, salt),
-            };
+            let store = Store { log, disk, rows };
             Ok(Opened {
                 store,
                 mode,

@@ -19,7 +19,7 @@ use Rattle.saved_rows.specs.declared.runs.Run.{Run}
 use Rattle.saved_rows.specs.Runs.{AreRuns, IsRunOf, KEPT, place_in}
 use Rattle.saved_rows.specs.Saved.{AreEnds, AreSpelledFrom, Gives, HasLast, HasRows, IsSingle, IsSpelledAt, Saved, as_extend, as_kept, end_of, kept_row, with_firm}
 use Rattle.saved_rows.proofs.SpelledLemmas.{kept_long}
-use Rattle.saved_rows.proofs.RunLemmas.{Found, run_before, run_last}
+use Rattle.saved_rows.proofs.RunLemmas.{run_before, run_last}
 
 -- ---- bytes that read the same before the firm place
 
@@ -167,14 +167,18 @@ pub fault_same : {A B : Type 0} (e : RowFault) (a : A) (b : B) → Gives {T = A}
 fault_same StoreFault a b g = tt
 fault_same (BadStore place) a b g = absurd g
 
--- the Kept row of a row stands where it is looked for
-pub row_there : (bytes : List ℕ) (saved : Saved) (R : List Row) (runs : List Run) (run : Run) (index : ℕ) (d : Row) → HasRows bytes saved R → saved.runs ≡ runs → index < saved.count
-    → Found runs run index → IsSpelledAt bytes saved.cache.firm (place_in run index) (as_kept (get_or R index d))
-row_there bytes saved R runs run index d has same h found =
+-- a place at which the Kept row of a row is looked for
+abbrev pub IsPlaced : List Run → ℕ → ℕ → Type 0
+IsPlaced runs index place = (k : ℕ) × IsRunOf runs index k × ((d : Run) → place ≡ place_in (get_or runs k d) index)
+
+-- it stands where it is looked for
+pub row_there : (bytes : List ℕ) (saved : Saved) (R : List Row) (place index : ℕ) (d : Row) → HasRows bytes saved R → index < saved.count
+    → IsPlaced saved.runs index place → IsSpelledAt bytes saved.cache.firm place (as_kept (get_or R index d))
+row_there bytes saved R place index d has h found =
     let k = found.0 in
-    let at : run ≡ get_or saved.runs k run = found.2 run ∙ ap (λ ys. get_or ys k run) (sym same) in
-    subst (λ (x : Run). IsSpelledAt bytes saved.cache.firm (place_in x index) (as_kept (get_or R index d))) (sym at)
-    (has.kept index k d run (omega (arith, h, has.all)) (subst (λ ys. IsRunOf ys index k) (sym same) found.1))
+    let e : Run = record { first = 0; place = 0 } in
+    subst (λ (n : ℕ). IsSpelledAt bytes saved.cache.firm n (as_kept (get_or R index d))) (sym (found.2 e))
+    (has.kept index k d e (omega (arith, h, has.all)) found.1)
 
 -- the row by its Kept row and its last mark
 pub row_read : (r : Row) (kept : KeptRow) (last : Mark) → kept ≡ kept_row r → last ≡ r.last

@@ -1,5 +1,5 @@
 //! The rows of a store: those of its last commit, read from its disk, and those since, in memory.
-ghost use Rattle.std.specs.Prelude.{◌≡◌, ◌≤◌, ◌<◌, ◌+◌, ◌*◌, ◌++◌, ◌∷◌, ◌^◌, ℕ, List, [], None, length, slice_index_or, IfOk, IsErrOf, OnOk};
+ghost use Rattle.std.specs.Prelude.{◌≡◌, ◌≢◌, ◌≤◌, ◌<◌, ◌+◌, ◌*◌, ◌++◌, ◌∷◌, ◌^◌, ℕ, List, [], None, Some, length, slice_index_or, IfOk, IsErrOf, OnOk};
 ghost use Rattle.std.specs.List.{All};
 ghost use Rattle.outside.specs.Disk.{OnlyLooks, UsesDisk};
 ghost use Rattle.reach_rows.specs.declared.rows.Row.{Row as ARow};
@@ -84,6 +84,24 @@ impl DiskRows {
         self.saved.count() + self.recent.len() as u64
     }
 
+    /// The place before which the disk's bytes don't change.
+    pub fn firm(&self) -> u64
+        ensures { result ≡ self.now.saved.cache.firm }
+    {
+        let _ = &self.kept;
+        self.saved.firm()
+    }
+
+    /// The place at which the disk has the row at an index, or 0 for a row since the last commit.
+    pub fn place(&self, index: u64) -> u64 {
+        let _ = &self.kept;
+        if index < self.saved.count() {
+            self.saved.place(index)
+        } else {
+            0
+        }
+    }
+
     /// Makes room for this many more flows, each of which is a row or extends one. There is no room
     /// for more rows than there may be.
     pub fn reserve(&mut self, flows: usize) -> Result<(), NoMemory>
@@ -130,6 +148,9 @@ impl DiskRows {
         ensures recent { self.new.recent ≡ self.old.recent }
         ensures room { self.old.renewed_room ≤ self.new.renewed_room + 1 }
         ensures recent_room { self.new.recent_room ≡ self.old.recent_room }
+        ensures here { mark_in self.new.renewed index ≡ Some mark }
+        ensures others { (i : ℕ) → i ≢ index
+            → mark_in self.new.renewed i ≡ mark_in self.old.renewed i }
     {
         match self.renewed.insert(index, mark) {
             Ok(_) => {}
@@ -179,6 +200,7 @@ impl DiskRows {
     pub fn recent(&self) -> &[Row]
         ensures rows { result.now ≡ self.now.recent }
         ensures single { All IsSingle result.now }
+        ensures few { length self.now.kept + length result.now ≤ most }
     {
         let _ = &self.kept;
         self.recent.as_slice()

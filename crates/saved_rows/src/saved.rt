@@ -7,6 +7,8 @@ ghost use Rattle.reach_rows.specs.declared.rows.Row.{Row as ARow};
 ghost use Rattle.reach_rows.specs.declared.rows.RowFault.TheVariants as fault;
 ghost use Rattle.reach_rows.specs.Packed.{with_last};
 ghost use Rattle.row_codec.specs.declared.rows.StoreRow.TheVariants.{Extend};
+ghost use Rattle.saved_rows.specs.Runs.{IsRunOf, place_in};
+ghost use Rattle.saved_rows.specs.declared.runs.Run.{Run as ARun};
 ghost use Rattle.saved_rows.specs.Saved.{AreSpelledFrom, Gives, HasLast, HasRows, IsSingle, IsSpelledAt, SameRows, as_kept, end_of, kept_row, with_firm};
 
 use crate::reading::{KEPT, kept_at, mark_at};
@@ -82,6 +84,26 @@ impl SavedRows {
         self.cache.raise(firm);
     }
 
+    /// The place before which the disk's bytes don't change.
+    pub fn firm(&self) -> u64
+        ensures { result ≡ self.now.cache.firm }
+    {
+        let _ = self.count;
+        self.cache.firm()
+    }
+
+    /// The place of the Kept row of the row at an index.
+    pub fn place(&self, index: u64) -> u64
+        requires index { index < self.now.count }
+        ensures place { (k : ℕ) × IsRunOf self.now.runs index k
+            × ((d : ARun) → result ≡ place_in (slice_index_or self.now.runs k d) index) }
+        ensures fits { result + 46 < 2 ^ 64 }
+    {
+        let _ = self.count;
+        let run = run_of(self.runs.as_slice(), index);
+        run.place + KEPT as u64 * (index - run.first)
+    }
+
     /// Makes room for the rows of one more batch, of which this many are Extend rows.
     pub fn reserve(&mut self, extends: usize) -> Result<(), NoMemory>
         ensures room { OnOk result ((1 ≤ self.new.runs_room) × (extends ≤ self.new.ends_room)) }
@@ -149,8 +171,7 @@ impl SavedRows {
         ensures uses { UsesDisk D.state D.faults D.spent disk.old disk.new
             (IsErrOf result fault.StoreFault) }
     {
-        let run = run_of(self.runs.as_slice(), index);
-        let place = run.place + KEPT as u64 * (index - run.first);
+        let place = self.place(index);
         match kept_at(&mut self.cache, disk, place) {
             Ok(kept) => self.row_of(disk, index, kept),
             Err(fault) => Err(fault),

@@ -121,6 +121,14 @@ impl StoreCheck {
         Ok(Some(self))
     }
 
+    /// The stamp of the last flow of each row of the store.
+    pub fn lasts(&self) -> &[Stamp]
+        ensures { result.now ≡ self.now.lasts }
+    {
+        let _ = self.limit;
+        self.lasts.as_slice()
+    }
+
     /// Whether an Entity row may stand next: its key is new, and there is room for it.
     fn entity_fits(&self, key: &Key) -> bool
         ensures { IsTrue result ↔ EntityFits self.now key.now }

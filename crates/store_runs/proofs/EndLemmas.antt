@@ -72,8 +72,8 @@ hears_from Stood Stood2 limits mode log asked left outcome opens hears = λ h be
 -- ---- `query`
 
 -- the engine of a reopened store, which takes no log, is at the moment of its history
-pub at_query : {D : Type 0} (state : D → DiskState) (limits : Limits) (mode : Mode) (engine : Engine (OnDisk D)) (left : Option (List ℕ)) (h : History) (before : ℕ)
-    → StaysSaved state → ((d : D) → IsDisk (state d)) → IsReopened state mode limits engine h before → left ≡ Some []
+pub at_query : {D : Type 0} {faults : D → ℕ} {spent : D → Type 0} (state : D → DiskState) (limits : Limits) (mode : Mode) (engine : Engine (OnDisk D)) (left : Option (List ℕ)) (h : History) (before : ℕ)
+    → StaysSaved state faults spent → ((d : D) → IsDisk (state d)) → IsReopened state mode limits engine h before → left ≡ Some []
     → At (kind_of mode false (IsPutAway state (record { begun = record { history = h; before = before; part = before; log = [] }; rows = engine.joined.keep }) limits)) limits engine left (querying mode h)
 at_query state limits mode engine left h before stays lawful x told = record {
   in_mode = refl;

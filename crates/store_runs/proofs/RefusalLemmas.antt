@@ -19,7 +19,8 @@ use Rattle.row_codec.specs.declared.state.StateRow.{StateRow}
 use Rattle.store_check.specs.Conditions.{bounds_of}
 use Rattle.store_check.specs.Store.{rows_of}
 use Rattle.stored.specs.Words.{all_of, state_of}
-use Rattle.ingest.specs.Restoring.{IsBadWaiting, IsPastInput, OfState}
+use Rattle.reduced_store.specs.OnDisk.{OnDisk}
+use Rattle.ingest.specs.Restoring.{IsBadWaiting, IsHidden, IsPastInput, OfState}
 use Rattle.ingest.specs.Waiting.{AreSoundWaiting}
 use Rattle.ingest.specs.declared.restoring.RestoreFault.{RestoreFault}
 use Rattle.ingest.specs.declared.restoring.RestoreFault.TheVariants as restore
@@ -103,13 +104,13 @@ unsound_opened others last limits asked bytes place opened read begins u =
       unsound = subst (λ (rs : List StoreRow). OfState rs (λ state. ¬ AreSoundWaiting limits state rs)) rows u.stores.unsound;
     }
 
-pub opened_refuses : {D : Type 0} → BadNowhere → OneMode → SameOthers → OneLast → (limits : Limits) (disk : DiskState) (asked : Option Mode) (opened : Opened D) (ended : Status)
+pub opened_refuses : {D : Type 0} (state : D → DiskState) → BadNowhere → OneMode → SameOthers → OneLast → (limits : Limits) (disk : DiskState) (asked : Option Mode) (opened : Opened D) (ended : Status)
     → (disk.told → IsOpenedOver limits disk.reads opened) → (disk.told → BeginsLast limits disk.reads opened.last) → opened.store.rows.lawful ≡ true → Agree opened.mode asked
-    → RefusesUnsound limits opened ended → AlwaysRefuses limits disk asked ended
-opened_refuses nowhere one others last limits disk asked opened ended store begins lawful agree refuses = record {
+    → (disk.told → (state opened.store.disk).told) → RefusesUnsound state limits opened ended → AlwaysRefuses limits disk asked ended
+opened_refuses state nowhere one others last limits disk asked opened ended store begins lawful agree tells refuses = record {
   bad = λ told place at. absurd (nowhere limits disk.reads (opened.store.log, found_of opened) place (store told) lawful at);
   wrong = λ told kept want w. absurd (never_wrong one limits disk.reads asked kept want (opened.store.log, found_of opened) (store told) agree w);
-  unsound = λ told place u. refuses place (unsound_opened others last limits asked disk.reads place opened (store told) (begins told) u);
+  unsound = λ told place u. refuses (tells told) place (unsound_opened others last limits asked disk.reads place opened (store told) (begins told) u);
 }
 
 -- ---- a store of which no engine was made
@@ -120,16 +121,18 @@ not_sound limits rows sound unsound =
     let same : sound.0 ≡ unsound.0 = cc in
     unsound.2 (subst (λ (state : StateRow). AreSoundWaiting limits state rows) same sound.2)
 
-pub unrestored_refuses : {D K : Type 0} (limits : Limits) (opened : Opened D) (back : Unrestored K) (why : RestoreFault) → back.why ≡ why → IsBadWaiting limits opened back → IsPastInput limits opened back
-    → RefusesUnsound limits opened (store_status (Err (restore_halt why)))
-unrestored_refuses limits opened back (restore.BadStore p) is bad past = λ place waits. inl (ap status.BadStore ((bad p is).0 ∙ sym waits.is))
-unrestored_refuses limits opened back (restore.Full full) is bad past = λ place waits. absurd (not_sound limits opened.rows (past full is).2 waits.unsound)
-unrestored_refuses limits opened back restore.NoMemory is bad past = λ place waits. inr (inl refl)
+pub unrestored_refuses : {D : Type 0} (state : D → DiskState) (limits : Limits) (opened : Opened D) (back : Unrestored (OnDisk D)) (why : RestoreFault) → back.why ≡ why → IsBadWaiting limits opened back → IsPastInput limits opened back
+    → IsHidden state opened.store back → RefusesUnsound state limits opened (store_status (Err (restore_halt why)))
+unrestored_refuses state limits opened back (restore.BadStore p) is bad past hidden = λ told place waits. inl (ap status.BadStore ((bad p is).0 ∙ sym waits.is))
+unrestored_refuses state limits opened back (restore.Full full) is bad past hidden = λ told place waits. absurd (not_sound limits opened.rows (past full is).2 waits.unsound)
+unrestored_refuses state limits opened back restore.StoreFault is bad past hidden = λ told place waits. inr (inr refl)
+unrestored_refuses state limits opened back (restore.BadRow p) is bad past hidden = λ told place waits. absurd (hidden p is told)
+unrestored_refuses state limits opened back restore.NoMemory is bad past hidden = λ told place waits. inr (inl refl)
 
 -- an engine is made only of a store in which what waits is sound
-pub restored_refuses : {D : Type 0} (limits : Limits) (opened : Opened D) (ended : Status) → ((state : StateRow) → state_of opened.rows ≡ Some state → AreSoundWaiting limits state opened.rows)
-    → RefusesUnsound limits opened ended
-restored_refuses limits opened ended sound place waits = absurd (waits.unsound.2 (sound waits.unsound.0 waits.unsound.1))
+pub restored_refuses : {D : Type 0} (state : D → DiskState) (limits : Limits) (opened : Opened D) (ended : Status) → ((state : StateRow) → state_of opened.rows ≡ Some state → AreSoundWaiting limits state opened.rows)
+    → RefusesUnsound state limits opened ended
+restored_refuses state limits opened ended sound told place waits = absurd (waits.unsound.2 (sound waits.unsound.0 waits.unsound.1))
 
 -- ---- a store without a batch
 
@@ -141,8 +144,8 @@ no_rows limits opened found none =
     is.others ∙ ap (λ (bs : List (List StoreRow)). table_rows bs ++ closing_rows bs) empty
 
 -- nothing waits in it
-pub nothing_unsound : {D : Type 0} (limits : Limits) (opened : Opened D) (ended : Status) → WasFound limits opened → opened.mode ≡ None → RefusesUnsound limits opened ended
-nothing_unsound limits opened ended found none place waits =
+pub nothing_unsound : {D : Type 0} (state : D → DiskState) (limits : Limits) (opened : Opened D) (ended : Status) → WasFound limits opened → opened.mode ≡ None → RefusesUnsound state limits opened ended
+nothing_unsound state limits opened ended found none told place waits =
     let rows = no_rows limits opened found none in
     let bad : ◌≡◌ {A = Option StateRow} None (Some waits.unsound.0) = sym (ap state_of rows) ∙ waits.unsound.1 in
     absurd (cc)

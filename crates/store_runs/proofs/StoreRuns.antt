@@ -1,5 +1,5 @@
 -- Runs over a store, from the opening of its disk on.
-use Rattle.std.proofs.Common.{◌+◌, Bool, true, false, drop, length, ◌≤◌, ◌<◌, ◌≡◌, ℕ, List, [], refl, ap, sym, subst, arith, ◌∙◌, Option, Some, None, inl, inr}
+use Rattle.std.proofs.Common.{◌+◌, Bool, true, false, drop, length, ◌≤◌, ◌<◌, ◌≡◌, ℕ, List, [], refl, ap, sym, subst, arith, ◌∙◌, Option, Some, None, inl, inr, ⊎_elim}
 use Rattle.std.specs.Prelude.{◌⊎◌, ⊤, Result, Ok, Err, IfErr, IsErrOf, OnErr, OnOk}
 use Rattle.std.proofs.lemmas.List.{append-nil}
 use Rattle.ingest.specs.Counting.{bytes_in}
@@ -8,6 +8,8 @@ use Rattle.flow_base.specs.declared.limits.Limits.{Limits}
 use Rattle.name_text.specs.Addresses.{text_of}
 use Rattle.outside.specs.Cause.{Rose}
 use Rattle.outside.specs.Disk.{DiskState, IsDisk, IsDurable, LeavesOnly, OnlyLooks, Settles, UsesDisk}
+use Rattle.outside.specs.Looking.{looks_at_none, looks_in_a_row, no_look}
+use Rattle.outside.proofs.Moments.{leaves_by_looking, leaves_more, uses_in_a_row}
 use Rattle.audit_lex.specs.History.{History}
 use Rattle.batch_log.specs.Log.{Log, log_of}
 use Rattle.reach_model.specs.declared.modes.Mode.{Mode}
@@ -28,7 +30,7 @@ use Rattle.stored.specs.Stored.{ClosesAt}
 use Rattle.stored.specs.Words.{state_of}
 use Rattle.ingest.specs.Asking.{StandsStill}
 use Rattle.ingest.specs.Parts.{Engine}
-use Rattle.ingest.specs.Restoring.{IsPastInput, StandsForStored}
+use Rattle.ingest.specs.Restoring.{IsHidden, IsPastInput, StandsForStored}
 use Rattle.ingest.specs.Stops.{Stops}
 use Rattle.ingest.specs.Soundness.{WaitsSoundly}
 use Rattle.ingest.specs.Storing.{StoresHistory, moment_of}
@@ -48,8 +50,8 @@ use Rattle.store_runs.specs.Stores.{AnswerCourse, FitsDialogue, FitsWhole, HasBe
 use Rattle.dialogue.specs.Runs.{HasTaken, MayBeUnopened, MayLeave, WroteFront, WroteStat, begun_of, first_of, settled_all, steps_of, whole_of}
 use Rattle.store_runs.specs.Statuses.{RefusesStore, status_for, store_status}
 use Rattle.dialogue.proofs.TalkLemmas.{appends_none, nothing_said, other_halt}
-use Rattle.dialogue.proofs.SaveLemmas.{away_leaves, counted_whole, cut_leaves, cut_passes, is_of_begun, settled_whole, since_begun, since_whole}
-use Rattle.dialogue.proofs.StoreLemmas.{StaysSaved, front_none, leaves_still, synced_before, synced_by_looking, uses_blamed}
+use Rattle.dialogue.proofs.SaveLemmas.{counted_whole, cut_leaves, cut_passes, is_of_begun, settled_whole, since_begun, since_whole}
+use Rattle.dialogue.proofs.StoreLemmas.{StaysSaved, front_none, leaves_looked, synced_before, synced_by_looking, uses_blamed}
 
 -- ---- what is found in an opened store
 
@@ -122,25 +124,52 @@ pub open_images : {D : Type 0} (state : D → DiskState) (limits : Limits) (mode
     → (bytes : List ℕ) → (state opened.store.disk).image bytes → StoresHistory limits mode bytes h part
 open_images state limits mode opened h part x bytes left = subst (λ (bs : List ℕ). StoresHistory limits mode bs h part) (sym (x.open_on.durable bytes left)) x.stores
 
--- the engine of a store that was opened
-pub reopened : {D : Type 0} (state : D → DiskState) (limits : Limits) (mode : Mode) (opened : Opened D) (engine : Engine (OnDisk D)) (h : History) (before : ℕ)
-    → StandsForStored state limits mode opened engine → SameBut opened.store engine.joined.keep → IsOpenAt state limits mode opened h before → IsReopened state mode limits engine h before
-reopened {D} state limits mode opened engine h before stored alike x =
+-- ---- looks at a disk
+
+-- a disk by another name
+pub looks_same : {D : Type 0} (state : D → DiskState) (a b : D) → b ≡ a → OnlyLooks (state a) (state b)
+looks_same {D} state a b same = subst (λ (d : D). OnlyLooks (state a) (state d)) (sym same) (no_look (state a))
+
+-- a look, at a disk that then has another name
+pub looks_as : {D : Type 0} (state : D → DiskState) (a b c : D) → c ≡ b → OnlyLooks (state a) (state b) → OnlyLooks (state a) (state c)
+looks_as {D} state a b c same looks = subst (λ (d : D). OnlyLooks (state a) (state d)) (sym same) looks
+
+-- a look leaves what a crash would have left
+leaves_by_look : (a b : DiskState) (P : List ℕ → Type 0) → IsDisk a → OnlyLooks a b → ((bytes : List ℕ) → a.image bytes → P bytes) → LeavesOnly a b P
+leaves_by_look a b P disk looks images = leaves_more a b a.image P (leaves_by_looking a b disk looks) images
+
+-- what a run leaves that began with a look
+may_leave_looked : (outcome : Result Unit StoreHalt) (a b c : DiskState) (P : List ℕ → Type 0) → IsDisk a → OnlyLooks a b → MayLeave outcome b c P → MayLeave outcome a c P
+may_leave_looked outcome a b c P disk looks (inl unopened) = inl (unopened.0, looks_in_a_row a b c looks unopened.1)
+may_leave_looked outcome a b c P disk looks (inr once) = inr (record {
+  synced = once.synced;
+  after = (let early = looks.later in let late = once.after in omega (arith, early, late));
+  by_now = once.by_now;
+  since = once.since;
+  ever = leaves_looked a b c (λ bytes. a.image bytes ⊎ P bytes) disk looks (λ bytes image. inl image)
+      (leaves_more b c (λ bytes. b.image bytes ⊎ P bytes) (λ bytes. a.image bytes ⊎ P bytes) once.ever (λ bytes x. ⊎_elim (λ image. inl (looks.image bytes image)) (λ p. inr p) x));
+})
+
+-- ---- the engine of a store that was opened
+
+pub reopened : {D : Type 0} {faults : D → ℕ} {spent : D → Type 0} (state : D → DiskState) (limits : Limits) (mode : Mode) (opened : Opened D) (engine : Engine (OnDisk D)) (h : History) (before : ℕ)
+    → StandsForStored state limits mode opened engine → SameBut state faults spent opened.store engine.joined.keep → IsOpenAt state limits mode opened h before → IsReopened state mode limits engine h before
+reopened state limits mode opened engine h before stored alike x =
     let both = stored h before x.open_on x.stores in
     record {
       stands = both.0;
       saved = both.1;
-      told = subst (λ (d : D). (state d).told) (sym alike.disk) x.open_on.told;
-      images = λ bs left. open_images state limits mode opened h before x bs (subst (λ (d : D). (state d).image bs) alike.disk left);
+      told = alike.disk.looks.tells x.open_on.told;
+      images = λ bs left. open_images state limits mode opened h before x bs (alike.disk.looks.image bs left);
     }
 
 -- ---- the begin of a run
 
 -- the engine of a reopened store, with so many bytes in its part of a log, has put away what it stands for
-pub reopened_away : {D : Type 0} (state : D → DiskState) (limits : Limits) (m : Moment) (engine engine2 : Engine (OnDisk D)) (before part : ℕ) → StaysSaved state → ((d : D) → IsDisk (state d))
-    → SameBut engine.joined.keep engine2.joined.keep → engine2.joined.tables.marked ≡ engine.joined.tables.marked → engine2.part ≡ part → part ≤ bytes_in m.history → IsReopened state m.mode limits engine m.history before
+pub reopened_away : {D : Type 0} {faults : D → ℕ} {spent : D → Type 0} (state : D → DiskState) (limits : Limits) (m : Moment) (engine engine2 : Engine (OnDisk D)) (before part : ℕ) → StaysSaved state faults spent → ((d : D) → IsDisk (state d))
+    → SameBut state faults spent engine.joined.keep engine2.joined.keep → engine2.joined.tables.marked ≡ engine.joined.tables.marked → engine2.part ≡ part → part ≤ bytes_in m.history → IsReopened state m.mode limits engine m.history before
     → IsPutAway state (record { begun = record { history = m.history; before = before; part = part; log = m.log }; rows = engine.joined.keep }) limits engine2 m
-reopened_away {D} state limits m engine engine2 before part stays lawful same marked counted within x =
+reopened_away state limits m engine engine2 before part stays lawful same marked counted within x =
     let begun : Begun = record { history = m.history; before = before; part = part; log = m.log } in
     let along : IsOf begun m = is_of_begun begun m refl refl in
     let none : since begun m ≡ [] = since_begun begun m refl in
@@ -148,21 +177,21 @@ reopened_away {D} state limits m engine engine2 before part stays lawful same ma
     record {
       moment = along;
       has_part = record { counted = omega (arith, counted, few); within = omega (arith, within, few) };
-      told = subst (λ (d : D). (state d).told) (sym same.disk) x.told;
+      told = same.disk.looks.tells x.told;
       first = m.history;
       more = [];
       saved_part = before;
       parts = sym (append-nil m.history);
-      saved = stays limits m.mode m.history before engine engine2 same marked x.saved;
+      saved = stays limits m.mode m.history before engine engine2 x.told same marked x.saved;
       reached = λ bytes stores. inl stores;
-      leaves = leaves_still state engine.joined.keep.disk engine2.joined.keep.disk (IsReached limits m.mode begun (since begun m)) same.disk (lawful engine.joined.keep.disk) (λ bytes left. inl (x.images bytes left));
+      leaves = leaves_by_look (state engine.joined.keep.disk) (state engine2.joined.keep.disk) (IsReached limits m.mode begun (since begun m)) (lawful engine.joined.keep.disk) same.disk.looks (λ bytes left. inl (x.images bytes left));
     }
 
 -- at a new part of a log
-pub at_new_part : {D : Type 0} (state : D → DiskState) (limits : Limits) (mode : Mode) (engine engine2 : Engine (OnDisk D)) (log : Option (List ℕ)) (h : History) (before : ℕ) (bytes : List ℕ)
-    → StaysSaved state → ((d : D) → IsDisk (state d)) → engine2 ≡ record engine { part = 0 } → StandsStill engine engine2 → IsReopened state mode limits engine h before → log ≡ Some bytes
+pub at_new_part : {D : Type 0} {faults : D → ℕ} {spent : D → Type 0} (state : D → DiskState) (limits : Limits) (mode : Mode) (engine engine2 : Engine (OnDisk D)) (log : Option (List ℕ)) (h : History) (before : ℕ) (bytes : List ℕ)
+    → StaysSaved state faults spent → ((d : D) → IsDisk (state d)) → engine2 ≡ record engine { part = 0 } → StandsStill engine engine2 → IsReopened state mode limits engine h before → log ≡ Some bytes
     → HasBegun state mode limits engine engine2 log (begun_of false h before bytes)
-at_new_part {D} state limits mode engine engine2 log h before bytes stays lawful is still x told =
+at_new_part {D} {faults} {spent} state limits mode engine engine2 log h before bytes stays lawful is still x told =
     let keep : engine2.joined.keep ≡ engine.joined.keep = ap (λ (e : Engine (OnDisk D)). e.joined.keep) is in
     record {
       at = record {
@@ -170,15 +199,15 @@ at_new_part {D} state limits mode engine engine2 log h before bytes stays lawful
         may_take = refl;
         stands_at = record { stands = still.stands limits h x.stands.stands; told = told };
         holds = reopened_away state limits (first_of mode (begun_of false h before bytes)) engine engine2 before 0 stays lawful
-            (subst (λ (k : OnDisk D). SameBut engine.joined.keep k) (sym keep) (stores_go_along.same engine.joined.keep)) (ap (λ (e : Engine (OnDisk D)). e.joined.tables.marked) is)
+            (subst (λ (k : OnDisk D). SameBut state faults spent engine.joined.keep k) (sym keep) (stores_go_along.same engine.joined.keep)) (ap (λ (e : Engine (OnDisk D)). e.joined.tables.marked) is)
             (ap (λ (e : Engine (OnDisk D)). e.part) is) (omega arith) x;
       };
     }
 
 -- behind the bytes that were taken of a log before
-at_same_part : {D : Type 0} (state : D → DiskState) (limits : Limits) (mode : Mode) (engine : Engine (OnDisk D)) (log : Option (List ℕ)) (h : History) (before : ℕ) (bytes : List ℕ)
-    → StaysSaved state → ((d : D) → IsDisk (state d)) → IsReopened state mode limits engine h before → log ≡ Some (drop before bytes) → HasBegun state mode limits engine engine log (begun_of true h before bytes)
-at_same_part {D} state limits mode engine log h before bytes stays lawful x told = record {
+at_same_part : {D : Type 0} {faults : D → ℕ} {spent : D → Type 0} (state : D → DiskState) (limits : Limits) (mode : Mode) (engine : Engine (OnDisk D)) (log : Option (List ℕ)) (h : History) (before : ℕ) (bytes : List ℕ)
+    → StaysSaved state faults spent → ((d : D) → IsDisk (state d)) → IsReopened state mode limits engine h before → log ≡ Some (drop before bytes) → HasBegun state mode limits engine engine log (begun_of true h before bytes)
+at_same_part state limits mode engine log h before bytes stays lawful x told = record {
   at = record {
     in_mode = refl;
     may_take = refl;
@@ -189,8 +218,8 @@ at_same_part {D} state limits mode engine log h before bytes stays lawful x told
 }
 
 -- where a run goes on in a log
-pub begun_on : {D : Type 0} (state : D → DiskState) (limits : Limits) (mode : Mode) (engine : Engine (OnDisk D)) (left : Option (List ℕ)) (h : History) (before : ℕ) (bytes : List ℕ) (resume : Bool) (taken : ℕ) (r : Result Unit StoreHalt)
-    → StaysSaved state → ((d : D) → IsDisk (state d)) → resume ≡ true → taken ≡ engine.part → IsReopened state mode limits engine h before → OnOk r (left ≡ Some (drop taken bytes))
+pub begun_on : {D : Type 0} {faults : D → ℕ} {spent : D → Type 0} (state : D → DiskState) (limits : Limits) (mode : Mode) (engine : Engine (OnDisk D)) (left : Option (List ℕ)) (h : History) (before : ℕ) (bytes : List ℕ) (resume : Bool) (taken : ℕ) (r : Result Unit StoreHalt)
+    → StaysSaved state faults spent → ((d : D) → IsDisk (state d)) → resume ≡ true → taken ≡ engine.part → IsReopened state mode limits engine h before → OnOk r (left ≡ Some (drop taken bytes))
     → OnOk r (HasBegun state mode limits engine engine left (begun_of resume h before bytes))
 begun_on state limits mode engine left h before bytes resume taken (Err why) stays lawful resumes is x passed = tt
 begun_on state limits mode engine left h before bytes resume taken (Ok t) stays lawful resumes is x passed =
@@ -315,25 +344,27 @@ reduces_by resume state start limits mode rows left old new (Err why) h before b
       short = λ taken had is. absurd (let no = is in cc);
     }
 
--- the disk is as the engine has it, and a crash leaves what it stands for
+-- the engine's disk is only looked at, and a crash leaves what the engine stands for
 pub still_reached : {D : Type 0} (state : D → DiskState) (limits : Limits) (mode : Mode) (engine : Engine (OnDisk D)) (disk : D) (resume : Bool) (outcome : Result Unit StoreHalt) (h : History) (before : ℕ) (bytes : List ℕ) (steps : History) → ((d : D) → IsDisk (state d))
-    → disk ≡ engine.joined.keep.disk → IsReopened state mode limits engine h before → MayLeave outcome (state engine.joined.keep.disk) (state disk) (IsReached limits mode (begun_of resume h before bytes) steps)
-still_reached state limits mode engine disk resume outcome h before bytes steps lawful same x =
+    → OnlyLooks (state engine.joined.keep.disk) (state disk) → IsReopened state mode limits engine h before → MayLeave outcome (state engine.joined.keep.disk) (state disk) (IsReached limits mode (begun_of resume h before bytes) steps)
+still_reached state limits mode engine disk resume outcome h before bytes steps lawful looks x =
     synced_before outcome (state engine.joined.keep.disk) (state disk) (IsReached limits mode (begun_of resume h before bytes) steps)
-    (leaves_still state engine.joined.keep.disk disk (IsReached limits mode (begun_of resume h before bytes) steps) same (lawful engine.joined.keep.disk) (λ bs image. inl (x.images bs image)))
+    (leaves_by_look (state engine.joined.keep.disk) (state disk) (IsReached limits mode (begun_of resume h before bytes) steps) (lawful engine.joined.keep.disk) looks (λ bs image. inl (x.images bs image)))
 
 -- the same over the engine of a reopened store
 pub failed_run : {D : Type 0} (resume : Bool) (state : D → DiskState) (limits : Limits) (mode : Mode) (engine : Engine (OnDisk D)) (disk : D) (log left old : Option (List ℕ)) (why : StoreHalt) → ((d : D) → IsDisk (state d))
-    → disk ≡ engine.joined.keep.disk → NamesNoBatch why → IsRunDue never why
+    → OnlyLooks (state engine.joined.keep.disk) (state disk) → NamesNoBatch why → IsRunDue never why
     → ((h : History) (before : ℕ) (bytes : List ℕ) → IsReopened state mode limits engine h before → log ≡ Some bytes → (taken had : ℕ) → ◌≡◌ {A = Result Unit StoreHalt} (Err why) (Err (over.ShortLog taken had)) → IsShort resume before bytes taken had)
     → IsReduceRun resume (IsReopened state mode limits engine) limits mode (state engine.joined.keep.disk) (state disk) log left old old (Err why)
-failed_run resume state limits mode engine disk log left old why lawful same none due short = λ h before bytes x told.
+failed_run resume state limits mode engine disk log left old why lawful looks none due short = λ h before bytes x told.
     reduced_none resume limits mode (state engine.joined.keep.disk) (state disk) left old why h before bytes none (due_never (Stops limits (whole_of (begun_of resume h before bytes))) why due)
-    (still_reached state limits mode engine disk resume (Err why) h before bytes (steps_of (begun_of resume h before bytes)) lawful same x) (short h before bytes x told)
+    (still_reached state limits mode engine disk resume (Err why) h before bytes (steps_of (begun_of resume h before bytes)) lawful looks x) (short h before bytes x told)
 
 -- a refusal of a store says nothing of a log
 restore_long : (why : RestoreFault) (taken had : ℕ) → ◌≡◌ {A = Result Unit StoreHalt} (Err (restore_halt why)) (Err (over.ShortLog taken had)) → ⊥
 restore_long (restore.BadStore place) taken had is = cc
+restore_long restore.StoreFault taken had is = cc
+restore_long (restore.BadRow place) taken had is = cc
 restore_long restore.NoMemory taken had is = cc
 restore_long (restore.Full full) taken had is = cc
 
@@ -346,6 +377,8 @@ open_long opening.NoMemory taken had is = cc
 -- nor of a limit on a batch
 restore_names : (why : RestoreFault) → NamesNoBatch (restore_halt why)
 restore_names (restore.BadStore place) full is = cc
+restore_names restore.StoreFault full is = cc
+restore_names (restore.BadRow place) full is = cc
 restore_names restore.NoMemory full is = cc
 restore_names (restore.Full other) full is = cc
 
@@ -362,20 +395,22 @@ memory_long : (taken had : ℕ) → ◌≡◌ {A = Result Unit StoreHalt} (Err (
 memory_long taken had is = cc
 
 -- a store of which no engine was made
-restore_due : {D K : Type 0} (state : D → DiskState) (limits : Limits) (mode : Mode) (opened : Opened D) (h : History) (part : ℕ) (back : Unrestored K) (passes : Full → Type 0) → Was → IsOpenAt state limits mode opened h part
-    → IsPastInput limits opened back → (why : RestoreFault) → back.why ≡ why → IsRunDue passes (restore_halt why)
-restore_due state limits mode opened h part back passes law x past (restore.BadStore place) is = tt
-restore_due state limits mode opened h part back passes law x past restore.NoMemory is = tt
-restore_due state limits mode opened h part back passes law x past (restore.Full full) is = absurd (not_past state limits mode opened h part back full law x past is)
+restore_due : {D : Type 0} (state : D → DiskState) (limits : Limits) (mode : Mode) (opened : Opened D) (h : History) (part : ℕ) (back : Unrestored (OnDisk D)) (passes : Full → Type 0) → Was → IsOpenAt state limits mode opened h part
+    → IsPastInput limits opened back → IsHidden state opened.store back → (why : RestoreFault) → back.why ≡ why → IsRunDue passes (restore_halt why)
+restore_due state limits mode opened h part back passes law x past hidden (restore.BadStore place) is = tt
+restore_due state limits mode opened h part back passes law x past hidden restore.StoreFault is = tt
+restore_due state limits mode opened h part back passes law x past hidden (restore.BadRow place) is = absurd (hidden place is x.open_on.told)
+restore_due state limits mode opened h part back passes law x past hidden restore.NoMemory is = tt
+restore_due state limits mode opened h part back passes law x past hidden (restore.Full full) is = absurd (not_past state limits mode opened h part back full law x past is)
 
 pub refused_run : {D : Type 0} (resume : Bool) (state : D → DiskState) (limits : Limits) (mode : Mode) (opened : Opened D) (back : Unrestored (OnDisk D)) (disk : D) (log old : Option (List ℕ)) (outcome : StoreHalt) → Was
-    → ((d : D) → IsDisk (state d)) → SameBut opened.store back.keep → disk ≡ back.keep.disk → IsPastInput limits opened back → outcome ≡ restore_halt back.why
+    → ((d : D) → IsDisk (state d)) → OnlyLooks (state opened.store.disk) (state disk) → IsPastInput limits opened back → IsHidden state opened.store back → outcome ≡ restore_halt back.why
     → IsReduceRun resume (IsOpenAt state limits mode opened) limits mode (state opened.store.disk) (state disk) log log old old (Err outcome)
-refused_run resume state limits mode opened back disk log old outcome law lawful alike same past is = λ h before bytes x told.
+refused_run resume state limits mode opened back disk log old outcome law lawful looks past hidden is = λ h before bytes x told.
     rw is (reduced_none resume limits mode (state opened.store.disk) (state disk) log old (restore_halt back.why) h before bytes (restore_names back.why)
-    (restore_due state limits mode opened h before back (Stops limits (whole_of (begun_of resume h before bytes))) law x past back.why refl)
+    (restore_due state limits mode opened h before back (Stops limits (whole_of (begun_of resume h before bytes))) law x past hidden back.why refl)
     (synced_before (Err (restore_halt back.why)) (state opened.store.disk) (state disk) (IsReached limits mode (begun_of resume h before bytes) (steps_of (begun_of resume h before bytes)))
-    (leaves_still state opened.store.disk disk (IsReached limits mode (begun_of resume h before bytes) (steps_of (begun_of resume h before bytes))) (same ∙ alike.disk) (lawful opened.store.disk)
+    (leaves_by_look (state opened.store.disk) (state disk) (IsReached limits mode (begun_of resume h before bytes) (steps_of (begun_of resume h before bytes))) (lawful opened.store.disk) looks
     (λ bs left. inl (open_images state limits mode opened h before x bs left))))
     (λ taken had short. absurd (restore_long back.why taken had short)))
 
@@ -386,13 +421,26 @@ renamed {D} resume state limits mode a b last disk left old new outcome h before
     subst (λ (d : D). Reduces resume limits mode (state a) (state d) left old new outcome h before bytes) (sym same)
     (subst (λ (d : D). Reduces resume limits mode (state d) (state last) left old new outcome h before bytes) first run)
 
+-- a run that began with a look
+reduces_looked : (resume : Bool) (limits : Limits) (mode : Mode) (a b after : DiskState) (left old new : Option (List ℕ)) (outcome : Result Unit StoreHalt) (h : History) (before : ℕ) (bytes : List ℕ)
+    → IsDisk a → OnlyLooks a b → Reduces resume limits mode b after left old new outcome h before bytes → Reduces resume limits mode a after left old new outcome h before bytes
+reduces_looked resume limits mode a b after left old new outcome h before bytes disk looks r = record {
+  reduced = r.reduced;
+  leaves = may_leave_looked outcome a b after (IsReached limits mode (begun_of resume h before bytes) (steps_of (begun_of resume h before bytes))) disk looks r.leaves;
+  front = r.front;
+  due = r.due;
+  passes = r.passes;
+  enough = r.enough;
+  short = r.short;
+}
+
 -- a run from the engine on
-pub engine_run : {D : Type 0} (resume : Bool) (state : D → DiskState) (limits : Limits) (mode : Mode) (opened : Opened D) (engine : Engine (OnDisk D)) (last disk : D) (log left old new : Option (List ℕ)) (outcome : Result Unit StoreHalt)
-    → disk ≡ last → SameBut opened.store engine.joined.keep → ((h : History) (before : ℕ) → IsOpenAt state limits mode opened h before → IsReopened state mode limits engine h before)
-    → IsReduceRun resume (IsReopened state mode limits engine) limits mode (state engine.joined.keep.disk) (state last) log left old new outcome
-    → IsReduceRun resume (IsOpenAt state limits mode opened) limits mode (state opened.store.disk) (state disk) log left old new outcome
-engine_run {D} resume state limits mode opened engine last disk log left old new outcome same alike opens run = λ h before bytes x told.
-    renamed resume state limits mode opened.store.disk engine.joined.keep.disk last disk left old new outcome h before bytes alike.disk same (run h before bytes (opens h before x) told)
+pub engine_run : {D : Type 0} (resume : Bool) (state : D → DiskState) (limits : Limits) (mode : Mode) (opened : Opened D) (engine : Engine (OnDisk D)) (after : DiskState) (log left old new : Option (List ℕ)) (outcome : Result Unit StoreHalt)
+    → ((d : D) → IsDisk (state d)) → OnlyLooks (state opened.store.disk) (state engine.joined.keep.disk) → ((h : History) (before : ℕ) → IsOpenAt state limits mode opened h before → IsReopened state mode limits engine h before)
+    → IsReduceRun resume (IsReopened state mode limits engine) limits mode (state engine.joined.keep.disk) after log left old new outcome
+    → IsReduceRun resume (IsOpenAt state limits mode opened) limits mode (state opened.store.disk) after log left old new outcome
+engine_run resume state limits mode opened engine after log left old new outcome lawful looks opens run = λ h before bytes x told.
+    reduces_looked resume limits mode (state opened.store.disk) (state engine.joined.keep.disk) after left old new outcome h before bytes (lawful opened.store.disk) looks (run h before bytes (opens h before x) told)
 
 -- a run from the disk on
 pub opened_run : {D : Type 0} (resume : Bool) (state : D → DiskState) (limits : Limits) (mode : Mode) (disk : D) (opened : Opened D) (after : DiskState) (log left old new : Option (List ℕ)) (outcome : Result Unit StoreHalt) → ((d : D) → IsDisk (state d))
@@ -514,7 +562,7 @@ watched_saved state start limits mode engine engine2 left old new (Ok t) begun a
   along = subst (λ (b : Begun). IsOf b talked.to) same all.moment;
   leaves = synced_before (Ok t) (state start.rows.disk) (state engine2.joined.keep.disk) (IsReached limits mode begun (since begun talked.to))
       (subst (λ (b : Begun). LeavesOnly (state start.rows.disk) (state engine2.joined.keep.disk) (IsReached limits mode b (since b talked.to))) same
-      (away_leaves state start limits mode engine2 engine2.joined.keep talked.to talked.at.in_mode (stores_go_along.same engine2.joined.keep) away));
+      (subst (λ (k : Mode). LeavesOnly (state start.rows.disk) (state engine2.joined.keep.disk) (IsReached limits k start.begun (since start.begun talked.to))) talked.at.in_mode away.leaves));
   no_further = refl;
   passes = tt;
   whole = λ taken had is. let no = is in cc;
@@ -544,18 +592,18 @@ watched_saved state start limits mode engine engine2 left old new (Err why) begu
   whole = λ taken had is. let no = is in cc;
 }
 
-restore_never : {D K : Type 0} (state : D → DiskState) (limits : Limits) (mode : Mode) (opened : Opened D) (h : History) (part : ℕ) (back : Unrestored K) → Was → IsOpenAt state limits mode opened h part
-    → IsPastInput limits opened back → IsRunDue never (restore_halt back.why)
-restore_never state limits mode opened h part back law x past = restore_due state limits mode opened h part back never law x past back.why refl
+restore_never : {D : Type 0} (state : D → DiskState) (limits : Limits) (mode : Mode) (opened : Opened D) (h : History) (part : ℕ) (back : Unrestored (OnDisk D)) → Was → IsOpenAt state limits mode opened h part
+    → IsPastInput limits opened back → IsHidden state opened.store back → IsRunDue never (restore_halt back.why)
+restore_never state limits mode opened h part back law x past hidden = restore_due state limits mode opened h part back never law x past hidden back.why refl
 
 pub refused_watch : {D : Type 0} (state : D → DiskState) (limits : Limits) (mode : Mode) (opened : Opened D) (back : Unrestored (OnDisk D)) (disk : D) (log asked old : Option (List ℕ)) (outcome : StoreHalt) → Was
-    → ((d : D) → IsDisk (state d)) → SameBut opened.store back.keep → disk ≡ back.keep.disk → IsPastInput limits opened back → outcome ≡ restore_halt back.why
+    → ((d : D) → IsDisk (state d)) → OnlyLooks (state opened.store.disk) (state disk) → IsPastInput limits opened back → IsHidden state opened.store back → outcome ≡ restore_halt back.why
     → IsWatchRun (IsOpenAt state limits mode opened) limits mode (state opened.store.disk) (state disk) log log asked old old (Err outcome)
-refused_watch state limits mode opened back disk log asked old outcome law lawful alike same past is = λ h before bytes questions x told tells.
+refused_watch state limits mode opened back disk log asked old outcome law lawful looks past hidden is = λ h before bytes questions x told tells.
     rw is (watched_none limits mode (state opened.store.disk) (state disk) log old (restore_halt back.why) (begun_of false h before bytes) questions (restore_names back.why)
-    (restore_never state limits mode opened h before back law x past)
+    (restore_never state limits mode opened h before back law x past hidden)
     (λ steps. synced_before (Err (restore_halt back.why)) (state opened.store.disk) (state disk) (IsReached limits mode (begun_of false h before bytes) steps)
-    (leaves_still state opened.store.disk disk (IsReached limits mode (begun_of false h before bytes) steps) (same ∙ alike.disk) (lawful opened.store.disk) (λ bs left. inl (open_images state limits mode opened h before x bs left))))
+    (leaves_by_look (state opened.store.disk) (state disk) (IsReached limits mode (begun_of false h before bytes) steps) (lawful opened.store.disk) looks (λ bs left. inl (open_images state limits mode opened h before x bs left))))
     (restore_long back.why))
 
 pub renamed_watch : {D : Type 0} (state : D → DiskState) (limits : Limits) (mode : Mode) (a b last disk : D) (left old new : Option (List ℕ)) (outcome : Result Unit StoreHalt) (begun : Begun) (asked : List ℕ)
@@ -564,12 +612,28 @@ renamed_watch {D} state limits mode a b last disk left old new outcome begun ask
     subst (λ (d : D). Watches limits mode (state a) (state d) left old new outcome begun asked) (sym same)
     (subst (λ (d : D). Watches limits mode (state d) (state last) left old new outcome begun asked) first run)
 
-pub engine_watch : {D : Type 0} (state : D → DiskState) (limits : Limits) (mode : Mode) (opened : Opened D) (engine : Engine (OnDisk D)) (last disk : D) (log left asked old new : Option (List ℕ)) (outcome : Result Unit StoreHalt)
-    → disk ≡ last → SameBut opened.store engine.joined.keep → ((h : History) (before : ℕ) → IsOpenAt state limits mode opened h before → IsReopened state mode limits engine h before)
-    → IsWatchRun (IsReopened state mode limits engine) limits mode (state engine.joined.keep.disk) (state last) log left asked old new outcome
-    → IsWatchRun (IsOpenAt state limits mode opened) limits mode (state opened.store.disk) (state disk) log left asked old new outcome
-engine_watch {D} state limits mode opened engine last disk log left asked old new outcome same alike opens run = λ h before bytes questions x told tells.
-    renamed_watch state limits mode opened.store.disk engine.joined.keep.disk last disk left old new outcome (begun_of false h before bytes) questions alike.disk same (run h before bytes questions (opens h before x) told tells)
+watches_looked : (limits : Limits) (mode : Mode) (a b after : DiskState) (left old new : Option (List ℕ)) (outcome : Result Unit StoreHalt) (begun : Begun) (asked : List ℕ)
+    → IsDisk a → OnlyLooks a b → Watches limits mode b after left old new outcome begun asked → Watches limits mode a after left old new outcome begun asked
+watches_looked limits mode a b after left old new outcome begun asked disk looks w = record {
+  to = w.to;
+  bytes = w.bytes;
+  wrote = w.wrote;
+  course = w.course;
+  stored = w.stored;
+  last = w.last;
+  along = w.along;
+  leaves = may_leave_looked outcome a b after (IsReached limits mode begun (since begun w.last)) disk looks w.leaves;
+  no_further = w.no_further;
+  passes = w.passes;
+  whole = w.whole;
+}
+
+pub engine_watch : {D : Type 0} (state : D → DiskState) (limits : Limits) (mode : Mode) (opened : Opened D) (engine : Engine (OnDisk D)) (after : DiskState) (log left asked old new : Option (List ℕ)) (outcome : Result Unit StoreHalt)
+    → ((d : D) → IsDisk (state d)) → OnlyLooks (state opened.store.disk) (state engine.joined.keep.disk) → ((h : History) (before : ℕ) → IsOpenAt state limits mode opened h before → IsReopened state mode limits engine h before)
+    → IsWatchRun (IsReopened state mode limits engine) limits mode (state engine.joined.keep.disk) after log left asked old new outcome
+    → IsWatchRun (IsOpenAt state limits mode opened) limits mode (state opened.store.disk) after log left asked old new outcome
+engine_watch state limits mode opened engine after log left asked old new outcome lawful looks opens run = λ h before bytes questions x told tells.
+    watches_looked limits mode (state opened.store.disk) (state engine.joined.keep.disk) after left old new outcome (begun_of false h before bytes) questions (lawful opened.store.disk) looks (run h before bytes questions (opens h before x) told tells)
 
 pub opened_watch : {D : Type 0} (state : D → DiskState) (limits : Limits) (mode : Mode) (disk : D) (opened : Opened D) (after : DiskState) (log left asked old new : Option (List ℕ)) (outcome : Result Unit StoreHalt) → ((d : D) → IsDisk (state d))
     → OnlyLooks (state disk) (state opened.store.disk) → ((state disk).told → ⊥ ⊎ Settles (state disk) (state opened.store.disk))
@@ -661,24 +725,31 @@ pub uses_renamed : {D : Type 0} (state : D → DiskState) (faults : D → ℕ) (
 uses_renamed {D} state faults spent a last disk read write hidden bad wrong short r same uses causes = subst (λ (d : D). UsesDisk state faults spent a d (IsErrOf r (over.Run halt.StoreFault))) (sym same)
     (uses_blamed state faults spent a last ⊥ (IsErrOf r (over.Run halt.StoreFault)) uses (blamed_for read write (Rose (faults a) (faults last) (spent last)) hidden bad wrong short r causes))
 
--- a count of a disk that nobody called is at its end
-rose_once : (a : ℕ) (spent : Type 0) → Rose a a spent → spent
-rose_once a spent (inl above) = absurd (let no : a < a = above in omega (arith, no))
-rose_once a spent (inr ended) = ended
-
-pub rose_unchanged : {D : Type 0} (faults : D → ℕ) (spent : D → Type 0) (old now disk : D) → now ≡ old → disk ≡ now → Rose (faults old) (faults now) (spent now) → Rose (faults disk) (faults disk) (spent disk)
-rose_unchanged {D} faults spent old now disk same last rose =
-    let here : Rose (faults now) (faults now) (spent now) = subst (λ (d : D). Rose (faults d) (faults now) (spent now)) (sym same) rose in
-    inr (subst spent (sym last) (rose_once (faults now) (spent now) here))
-
-pub rose_spent : (a b : ℕ) (spent : Type 0) → Rose b b spent → Rose a b spent
-rose_spent a b spent rose = inr (rose_once b spent rose)
-
 -- a count that rose after a look
 pub looked_rose : {D : Type 0} (state : D → DiskState) (faults : D → ℕ) (spent : D → Type 0) (disk opened after : D) (blamed : Type 0) → UsesDisk state faults spent disk opened blamed
     → Rose (faults opened) (faults after) (spent after) → Rose (faults disk) (faults after) (spent after)
 looked_rose state faults spent disk opened after blamed uses (inl above) = let low = uses.later in inl (omega (arith, low, above))
 looked_rose state faults spent disk opened after blamed uses (inr none) = inr none
+
+-- calls after a look, blamed as they are
+pub looked_uses : {D : Type 0} (state : D → DiskState) (faults : D → ℕ) (spent : D → Type 0) (disk opened after : D) (P Q : Type 0) → UsesDisk state faults spent disk opened P → UsesDisk state faults spent opened after Q
+    → UsesDisk state faults spent disk after Q
+looked_uses state faults spent disk opened after P Q first second =
+    uses_blamed state faults spent disk after ⊥ Q (uses_in_a_row disk opened after first second) (λ is. looked_rose state faults spent disk opened after P first (second.rose is))
+
+-- a run that ended without a call on its disk
+pub uses_still : {D : Type 0} (state : D → DiskState) (faults : D → ℕ) (spent : D → Type 0) (a disk : D) (Q : Type 0) → disk ≡ a → (Q → ⊥) → UsesDisk state faults spent a disk Q
+uses_still {D} state faults spent a disk Q same blameless =
+    uses_blamed state faults spent a disk ⊥ Q (subst (λ (d : D). UsesDisk state faults spent a d ⊥) (sym same) (looks_at_none a).uses) (λ is. absurd (blameless is))
+
+-- why no engine was made of a store has its cause
+pub restore_causes : {K : Type 0} (back : Unrestored K) (read write store hidden : Type 0) (bad : ℕ → Type 0) (wrong : Mode → Mode → Type 0) (short : ℕ → ℕ → Type 0) → ((place : ℕ) → back.why ≡ restore.BadStore place → bad place)
+    → (back.why ≡ restore.StoreFault → store) → ((place : ℕ) → back.why ≡ restore.BadRow place → hidden) → (why : RestoreFault) → back.why ≡ why → HasStoreCauses read write store hidden bad wrong short (restore_halt why)
+restore_causes back read write store hidden bad wrong short places failed rows (restore.BadStore place) is = places place is
+restore_causes back read write store hidden bad wrong short places failed rows (restore.Full full) is = tt
+restore_causes back read write store hidden bad wrong short places failed rows restore.StoreFault is = failed is
+restore_causes back read write store hidden bad wrong short places failed rows (restore.BadRow place) is = rows place is
+restore_causes back read write store hidden bad wrong short places failed rows restore.NoMemory is = tt
 
 -- what waits isn't sound in the bytes of the disk
 pub bad_opened : {D : Type 0} (limits : Limits) (opened : Opened D) (bytes : List ℕ) (place : ℕ) → IsOpenedOver limits bytes opened → BeginsLast limits bytes opened.last → WaitsUnsoundly limits opened place
@@ -717,11 +788,13 @@ queried_unopened limits mode h asked rest old (opening.BadStore place) = queried
 queried_unopened limits mode h asked rest old (opening.WrongMode kept want) = record { to = querying mode h; bytes = []; wrote = appends_none old; course = refl; names = open_names (opening.WrongMode kept want); heard = tt }
 queried_unopened limits mode h asked rest old opening.NoMemory = queried_none limits mode h asked rest old
 
-pub queried_unrestored : {D K : Type 0} (state : D → DiskState) (limits : Limits) (mode : Mode) (opened : Opened D) (h : History) (part : ℕ) (asked : List ℕ) (rest old : Option (List ℕ)) (back : Unrestored K) → Was
-    → IsOpenAt state limits mode opened h part → IsPastInput limits opened back → (why : RestoreFault) → back.why ≡ why → IsQueried limits mode h asked rest old old (Err (restore_halt why))
-queried_unrestored state limits mode opened h part asked rest old back law x past (restore.BadStore place) is = queried_bad limits mode h asked rest old place
-queried_unrestored state limits mode opened h part asked rest old back law x past restore.NoMemory is = queried_none limits mode h asked rest old
-queried_unrestored state limits mode opened h part asked rest old back law x past (restore.Full full) is = absurd (not_past state limits mode opened h part back full law x past is)
+pub queried_unrestored : {D : Type 0} (state : D → DiskState) (limits : Limits) (mode : Mode) (opened : Opened D) (h : History) (part : ℕ) (asked : List ℕ) (rest old : Option (List ℕ)) (back : Unrestored (OnDisk D)) → Was
+    → IsOpenAt state limits mode opened h part → IsPastInput limits opened back → IsHidden state opened.store back → (why : RestoreFault) → back.why ≡ why → IsQueried limits mode h asked rest old old (Err (restore_halt why))
+queried_unrestored state limits mode opened h part asked rest old back law x past hidden (restore.BadStore place) is = queried_bad limits mode h asked rest old place
+queried_unrestored state limits mode opened h part asked rest old back law x past hidden restore.StoreFault is = queried_unopened limits mode h asked rest old opening.StoreFault
+queried_unrestored state limits mode opened h part asked rest old back law x past hidden (restore.BadRow place) is = absurd (hidden place is x.open_on.told)
+queried_unrestored state limits mode opened h part asked rest old back law x past hidden restore.NoMemory is = queried_none limits mode h asked rest old
+queried_unrestored state limits mode opened h part asked rest old back law x past hidden (restore.Full full) is = absurd (not_past state limits mode opened h part back full law x past is)
 
 -- the causes of a dialogue without a log
 none_rose : Rose 0 0 ⊥ → ⊥

@@ -32,6 +32,7 @@ pub record AlwaysRefuses (limits : Limits) (disk : DiskState) (asked : Option Mo
 abbrev pub RefusesNoBatch : Limits → DiskState → (ended : Status) → Type 0
 RefusesNoBatch limits disk ended = disk.told → (place : ℕ) → StoresNothing limits place disk.reads → EndsUnlessFailed ended (status.BadStore place)
 
--- an opened store is refused at its last batch if what waits by it isn't sound
-abbrev pub RefusesUnsound : {D : Type 0} → Limits → Opened D → (ended : Status) → Type 0
-RefusesUnsound limits opened ended = (place : ℕ) → WaitsUnsoundly limits opened place → EndsUnlessFailed ended (status.BadStore place)
+-- an opened store whose disk is observable is refused at its last batch if what waits by it isn't sound
+abbrev pub RefusesUnsound : {D : Type 0} → (D → DiskState) → Limits → Opened D → (ended : Status) → Type 0
+RefusesUnsound state limits opened ended =
+    (state opened.store.disk).told → (place : ℕ) → WaitsUnsoundly limits opened place → EndsUnlessFailed ended (status.BadStore place)

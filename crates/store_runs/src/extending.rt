@@ -164,8 +164,9 @@ fn extend_opened<D: Disk, L: Source, Q: Source, O: Sink>(
         → questions.new ≡ questions.old }
     ensures refused { IsRefusal result.outcome → (log.new ≡ log.old)
         × (questions.new ≡ questions.old) × (out.new ≡ out.old)
-        × (result.disk ≡ opened.store.disk) }
-    ensures unsound { RefusesUnsound limits.now opened (store_status result.outcome) }
+        × OnlyLooks (D.state opened.store.disk) (D.state result.disk) }
+    ensures unsound { RefusesUnsound D.state limits.now opened
+        (store_status result.outcome) }
     ensures causes { IfErr result.outcome (HasStoreCauses
         (Rose (L.faults log.old) (L.faults log.new) (L.spent log.new)
         ⊎ Rose (Q.faults questions.old) (Q.faults questions.new) (Q.spent questions.new))
@@ -256,8 +257,9 @@ fn extend_with<R: Reducer + Drop, D: Disk, L: Source, Q: Source, O: Sink>(
         → questions.new ≡ questions.old }
     ensures refused { IsRefusal result.outcome → (log.new ≡ log.old)
         × (questions.new ≡ questions.old) × (out.new ≡ out.old)
-        × (result.disk ≡ opened.store.disk) }
-    ensures unsound { RefusesUnsound limits.now opened (store_status result.outcome) }
+        × OnlyLooks (D.state opened.store.disk) (D.state result.disk) }
+    ensures unsound { RefusesUnsound D.state limits.now opened
+        (store_status result.outcome) }
     ensures causes { IfErr result.outcome (HasStoreCauses
         (Rose (L.faults log.old) (L.faults log.new) (L.spent log.new)
         ⊎ Rose (Q.faults questions.old) (Q.faults questions.new) (Q.spent questions.new))
@@ -478,7 +480,8 @@ fn begin_part<R: Reducer, D: Disk, L: Source>(
         (Rose (L.faults log.old) (L.faults log.new) (L.spent log.new)) ⊥ ⊥ ⊥
         no_place no_modes (shorter_in resume)) }
     ensures written { IfErr result NamesNoBatch }
-    ensures alike { SameBut session.old.engine.joined.keep session.new.engine.joined.keep }
+    ensures alike { SameBut D.state D.faults D.spent
+        session.old.engine.joined.keep session.new.engine.joined.keep }
     ensures counts { GoesUp
         (L.faults log.old) (L.faults log.new) (L.spent log.old) (L.spent log.new) }
 {
@@ -605,7 +608,8 @@ fn write_stat<R: Reducer, D: Disk, O: Sink>(
         (HasCauses ⊥ (Rose (O.faults out.old) (O.faults out.new) (O.spent out.new))
         (RoseIn D.faults D.spent engine.old.joined.keep engine.new.joined.keep)
         (IsHiddenIn D.state engine.old.joined.keep) ⊥) }
-    ensures alike { SameBut engine.old.joined.keep engine.new.joined.keep }
+    ensures alike { SameBut D.state D.faults D.spent
+        engine.old.joined.keep engine.new.joined.keep }
 {
     Store::<D>::reads_lawfully();
     let reply = reply_of(engine, &Ask::Stat)?;

@@ -31,8 +31,8 @@ use reduced_store::{Opened, Store, a_store_reads_in_one_way, what_is_found_was_s
 use std::alloc::Global;
 use table_salt::Salt;
 
-/// Opens a disk as a store, and answers questions over what it has. It takes no log, and leaves the disk
-/// as it is.
+/// Opens a disk as a store, and answers questions over what it has, whose rows it reads from the disk. It
+/// takes no log, and writes nothing on the disk.
 pub fn query<D: Disk, Q: Source, O: Sink>(
     alloc: Global,
     salt: Salt,
@@ -84,18 +84,21 @@ fn query_opened<D: Disk, Q: Source, O: Sink>(
     ensures run { IsQueryRun (λ kept h. (part : ℕ) × IsOpenAt D.state limits.now kept opened h part)
         limits.now (Q.left questions.old) (Q.left questions.new) (O.written out.old)
         (O.written out.new) result.outcome }
-    ensures same { result.disk ≡ opened.store.disk }
+    ensures looks { OnlyLooks (D.state opened.store.disk) (D.state result.disk) }
     ensures refused { IsRefusal result.outcome
         → (questions.new ≡ questions.old) × (out.new ≡ out.old) }
-    ensures unsound { RefusesUnsound limits.now opened (store_status result.outcome) }
+    ensures unsound { RefusesUnsound D.state limits.now opened
+        (store_status result.outcome) }
     ensures none { opened.mode ≡ None → result.outcome ≡ Err (over.BadStore 0) }
     ensures causes { IfErr result.outcome (HasStoreCauses
         (Rose (Q.faults questions.old) (Q.faults questions.new) (Q.spent questions.new))
         (Rose (O.faults out.old) (O.faults out.new) (O.spent out.new))
-        (Rose (D.faults result.disk) (D.faults result.disk) (D.spent result.disk))
+        (Rose (D.faults opened.store.disk) (D.faults result.disk) (D.spent result.disk))
         (IsHiddenIn D.state opened.store)
         (λ place. WaitsUnsoundly limits.now opened place ⊎ HasNoBatch opened place)
         no_modes no_lengths) }
+    ensures uses { UsesDisk D.state D.faults D.spent opened.store.disk result.disk
+        (IsErrOf result.outcome (over.Run halt.StoreFault)) }
 {
     match opened.mode {
         None => Ran {
@@ -153,17 +156,20 @@ fn query_with<R: Reducer + Drop, D: Disk, Q: Source, O: Sink>(
     ensures run { IsQueryRun (λ kept h. (part : ℕ) × IsOpenAt D.state limits.now kept opened h part)
         limits.now (Q.left questions.old) (Q.left questions.new) (O.written out.old)
         (O.written out.new) result.outcome }
-    ensures same { result.disk ≡ opened.store.disk }
+    ensures looks { OnlyLooks (D.state opened.store.disk) (D.state result.disk) }
     ensures refused { IsRefusal result.outcome
         → (questions.new ≡ questions.old) × (out.new ≡ out.old) }
-    ensures unsound { RefusesUnsound limits.now opened (store_status result.outcome) }
+    ensures unsound { RefusesUnsound D.state limits.now opened
+        (store_status result.outcome) }
     ensures causes { IfErr result.outcome (HasStoreCauses
         (Rose (Q.faults questions.old) (Q.faults questions.new) (Q.spent questions.new))
         (Rose (O.faults out.old) (O.faults out.new) (O.spent out.new))
-        (Rose (D.faults result.disk) (D.faults result.disk) (D.spent result.disk))
+        (Rose (D.faults opened.store.disk) (D.faults result.disk) (D.spent result.disk))
         (IsHiddenIn D.state opened.store)
         (λ place. WaitsUnsoundly limits.now opened place ⊎ HasNoBatch opened place)
         no_modes no_lengths) }
+    ensures uses { UsesDisk D.state D.faults D.spent opened.store.disk result.disk
+        (IsErrOf result.outcome (over.Run halt.StoreFault)) }
 {
     what_can_commit_still_can::<D>();
     what_is_found_was_stored();
@@ -190,13 +196,15 @@ fn query_engine<R: Reducer + Drop, D: Disk, Q: Source, O: Sink>(
         → Q.left questions.old ≡ Some asked
         → IsQueried limits.now R.mode h asked (Q.left questions.new) (O.written out.old)
         (O.written out.new) result.outcome }
-    ensures same { result.disk ≡ engine.joined.keep.disk }
+    ensures looks { OnlyLooks (D.state engine.joined.keep.disk) (D.state result.disk) }
     ensures causes { IfErr result.outcome (HasStoreCauses
         (Rose (Q.faults questions.old) (Q.faults questions.new) (Q.spent questions.new))
         (Rose (O.faults out.old) (O.faults out.new) (O.spent out.new))
-        (Rose (D.faults result.disk) (D.faults result.disk) (D.spent result.disk))
+        (Rose (D.faults engine.joined.keep.disk) (D.faults result.disk) (D.spent result.disk))
         (IsHiddenIn D.state engine.joined.keep)
         no_place no_modes no_lengths) }
+    ensures uses { UsesDisk D.state D.faults D.spent engine.joined.keep.disk result.disk
+        (IsErrOf result.outcome (over.Run halt.StoreFault)) }
 {
     let piece = match room_for_a_read(alloc) {
         Ok(piece) => piece,

@@ -48,9 +48,9 @@ fn disk_after<D: Disk + Drop>(engine: OverDisk<D>, piece: &[u8], last: bool) -> 
     }
 }
 
-/// Takes a piece of a log, and settles if it is the last one. The store's disk stays as it is.
+/// Takes a piece of a log, and settles if it is the last one. The store's disk is only looked at.
 fn takes<D: Disk>(engine: &mut OverDisk<D>, piece: &[u8], last: bool) -> bool
-    ensures { SameBut engine.old.joined.keep engine.new.joined.keep }
+    ensures { SameBut D.state D.faults D.spent engine.old.joined.keep engine.new.joined.keep }
 {
     if engine.feed(piece).is_err() {
         return false;

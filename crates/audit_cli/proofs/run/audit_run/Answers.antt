@@ -12,7 +12,7 @@ use Rattle.store_runs.specs.Statuses.{RefusesStore, store_status}
 use Rattle.store_runs.specs.Stores.{FitsDialogue, FitsWhole, IsBadIn, IsWrongIn, StoodAt}
 use Rattle.dialogue.specs.Runs.{begun_of}
 use Rattle.store_runs.specs.declared.extending.Taking.TheVariants as taking
-use Rattle.outside.proofs.Moments.{no_look}
+use Rattle.outside.specs.Looking.{no_look}
 use Rattle.store_runs.proofs.RefusalLemmas.{failed_refuses, no_memory}
 use Rattle.store_runs.specs.Refusals.{AlwaysRefuses}
 use Rattle.store_runs.specs.declared.status.Status.TheVariants as status

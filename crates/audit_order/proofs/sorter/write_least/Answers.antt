@@ -21,7 +21,7 @@ returns-in-Some-clause-moves c =
         turned = subst (λ (q : Held). Turned (record (state_of c.args.sorter.now) { waits = q.waits }) (state_of c.write_item.new.sorter) c.in-Some.item
             (tally_with (event_of c.args.sorter.now.turn) c.args.sorter.now.tally c.in-Some.item)) waits turned;
       };
-      gives = gives;
+      gives = record { child = gives.child; told = gives.told; gives = gives.gives };
     }))
 
 pub returns-in-Some-clause-fewer : goal.returns-in-Some-clause-fewer

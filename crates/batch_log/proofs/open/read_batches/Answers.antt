@@ -2,7 +2,8 @@ use Rattle.std.proofs.Common.{ℕ, List, ◌≡◌, inr, drop, sym, subst, arith
 use Rattle.std.proofs.lemmas.List.Elements.{All-push}
 use Rattle.std.specs.List.{All}
 use Rattle.batch_log.specs.Payloads.{Fits}
-use Rattle.outside.proofs.Moments.{looks_in_a_row, uses_in_a_row}
+use Rattle.outside.proofs.Moments.{uses_in_a_row}
+use Rattle.outside.specs.Looking.{looks_in_a_row}
 use Rattle.batch_log.specs.Batches.{BreaksAt}
 use Rattle.batch_log.specs.Finding.{Finds}
 use Rattle.batch_log.proofs.Known.{known_more, known_broken}

@@ -151,7 +151,7 @@ returns-in-Some-Settle-clause-causes g c = rw c.if-takes-2.true (causes_on _ _ _
 pub returns-in-Some-clause-causes : goal.returns-in-Some-clause-causes
 returns-in-Some-clause-causes g c =
     let old = c.args.session.now.engine.joined.keep in
-    asked_causes _ _ _ _ _ _ _ (g.K.Saves.hidden old) _ c.reply_of.result (c.reads_lawfully.ensures.seen old) c.reply_of.ensures.memory (c.reads_lawfully.ensures.failed old c.reply_of.new.engine.joined.keep) c.reply_of.ensures.causes
+    asked_causes _ _ _ _ _ (g.K.Saves.hidden old) _ c.reply_of.result (c.reads_lawfully.ensures.unseen old) (c.reads_lawfully.ensures.failed old c.reply_of.new.engine.joined.keep) c.reply_of.ensures.causes
 
 pub returns-in-None-clause-adds : goal.returns-in-None-clause-adds
 returns-in-None-clause-adds g c = λ start limits m most h pace. pace_free (g.K.Saves.adds start limits) c.args.session.now.batch c.args.session.now.engine.joined.keep c.args.session.now.engine.joined.keep c.args.session.now.unsaved _ most _ (λ n so. so) pace

@@ -13,4 +13,4 @@ returns-in-Err-clause-due g c = λ limits h stands.
     rw c.halt_of_ask.ensures (asked_due c.in-Err.fault (λ place is. none_told _ _ (c.in-Err.ensures.cause.bad_store place (ap Err is)) told))
 
 pub returns-in-Err-clause-causes : goal.returns-in-Err-clause-causes
-returns-in-Err-clause-causes g c = rw c.halt_of_ask.ensures (asked_with c.in-Err.fault _ _ (λ is. c.in-Err.ensures.cause.store_fault (ap Err is)) (λ place is. c.in-Err.ensures.cause.bad_store place (ap Err is)))
+returns-in-Err-clause-causes g c = rw c.halt_of_ask.ensures (asked_with c.in-Err.fault _ _ (λ is. c.in-Err.ensures.cause.store_fault (ap Err is)) (λ place is. c.in-Err.ensures.hidden place (ap Err is)))

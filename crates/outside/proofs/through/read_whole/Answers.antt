@@ -1,5 +1,6 @@
 use Rattle.std.proofs.Common.{ℕ, List, ◌+◌, ◌∙◌, ap, take, drop, rules}
-use Rattle.outside.proofs.Moments.{looks_in_a_row, uses_in_a_row}
+use Rattle.outside.proofs.Moments.{uses_in_a_row}
+use Rattle.outside.specs.Looking.{looks_in_a_row}
 use Rattle.outside.proofs.ReadLemmas.{reads_more}
 use Rattle.outside.proofs.through.read_whole.Goals as goal
 

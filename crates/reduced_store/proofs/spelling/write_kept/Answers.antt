@@ -1,5 +1,5 @@
 use Rattle.row_codec.specs.Rows.{row, Fits}
-use Rattle.reduced_store.specs.Saving.{as_kept}
+use Rattle.saved_rows.specs.Saved.{as_kept}
 use Rattle.reduced_store.proofs.SpellingLemmas.{put_next}
 use Rattle.reduced_store.proofs.spelling.write_kept.Goals as goal
 

@@ -1,7 +1,7 @@
 use Rattle.std.proofs.Common.{◌≡◌, ◌++◌, take}
 use Rattle.std.specs.List.{flat_map, All}
 use Rattle.row_codec.specs.Rows.{row, Fits}
-use Rattle.reduced_store.specs.Saving.{as_kept}
+use Rattle.saved_rows.specs.Saved.{as_kept}
 use Rattle.reduced_store.proofs.spelling.write_kept.Given as goal
 
 -- the Kept rows of the rows so far stand after the bytes, and each of them fits

@@ -1,5 +1,5 @@
-use Rattle.std.proofs.Common.{inl, inr, refl, Some, subst, sym}
-use Rattle.outside.specs.Disk.{OnlyLooks}
+use Rattle.std.proofs.Common.{inl, inr, refl, Some}
+use Rattle.outside.specs.Looking.{looks_in_a_row}
 use Rattle.store_runs.specs.Stores.{AsksTold, IsBadIn, IsOpenAt, IsWrongIn, StoodAt, WaitsUnsoundly, is_resumed}
 use Rattle.dialogue.specs.StoreHalts.{no_modes, shorter_in}
 use Rattle.store_runs.proofs.StoreRuns.{bad_opened, causes_by, looked_rose, open_at, open_causes, opened_run, opened_watch, unopened_run, unopened_watch}
@@ -60,7 +60,7 @@ returns-in-Ok-clause-lacks g c =
 pub returns-in-Ok-clause-refused : goal.returns-in-Ok-clause-refused
 returns-in-Ok-clause-refused g c = λ is.
     let left = c.extend_opened.ensures.refused is in
-    (left.0, left.1, left.2, subst (λ (d : g.row.D.Denot). OnlyLooks (g.D.Disk.state c.args.disk) (g.D.Disk.state d)) (sym left.3) c.in-Ok.ensures.looks)
+    (left.0, left.1, left.2, looks_in_a_row (g.D.Disk.state c.args.disk) (g.D.Disk.state c.in-Ok.opened.store.disk) (g.D.Disk.state c.extend_opened.result.disk) c.in-Ok.ensures.looks left.3)
 
 pub returns-in-Err-clause-always : goal.returns-in-Err-clause-always
 returns-in-Err-clause-always g c =
@@ -69,9 +69,9 @@ returns-in-Err-clause-always g c =
 
 pub returns-in-Ok-clause-always : goal.returns-in-Ok-clause-always
 returns-in-Ok-clause-always g c =
-    opened_refuses c.a_store_reads_in_one_way.ensures.never_bad c.a_store_reads_in_one_way.ensures.mode c.a_store_reads_in_one_way.ensures.others c.a_store_reads_in_one_way.ensures.last c.args.limits.now
+    opened_refuses g.D.Disk.state c.a_store_reads_in_one_way.ensures.never_bad c.a_store_reads_in_one_way.ensures.mode c.a_store_reads_in_one_way.ensures.others c.a_store_reads_in_one_way.ensures.last c.args.limits.now
     (g.D.Disk.state c.args.disk) (Some c.args.mode) c.in-Ok.opened (store_status c.extend_opened.result.outcome) c.in-Ok.ensures.store c.in-Ok.ensures.last c.in-Ok.ensures.lawful c.in-Ok.ensures.agree
-    c.extend_opened.ensures.unsound
+    c.in-Ok.ensures.looks.tells c.extend_opened.ensures.unsound
 
 pub returns-in-Err-clause-heard : goal.returns-in-Err-clause-heard
 returns-in-Err-clause-heard g c = λ is h before bytes questions stood told tells. tt

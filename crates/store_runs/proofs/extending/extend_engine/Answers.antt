@@ -5,7 +5,7 @@ use Rattle.dialogue.specs.declared.halt.Halt.TheVariants as halt
 use Rattle.dialogue.specs.declared.halt.StoreHalt.TheVariants as over
 use Rattle.store_runs.specs.Stores.{AsksTold, IsReopened, is_resumed}
 use Rattle.dialogue.specs.Runs.{LacksIn, begun_of, steps_of}
-use Rattle.store_runs.proofs.StoreRuns.{causes_renamed, renamed, renamed_watch, still_reached, unbegun_run, unbegun_watch, uses_renamed}
+use Rattle.store_runs.proofs.StoreRuns.{causes_renamed, looks_same, renamed, renamed_watch, still_reached, unbegun_run, unbegun_watch, uses_renamed, uses_still}
 use Rattle.dialogue.specs.Dialogue.{asks, lines_in}
 use Rattle.dialogue.specs.Settles.{settles}
 use Rattle.dialogue.proofs.AddLemmas.{adds_as, adds_none, unsaved_none}
@@ -19,13 +19,15 @@ pub returns-in-Err-clause-reduced : goal.returns-in-Err-clause-reduced
 returns-in-Err-clause-reduced g c = λ resume is.
     let last : c.into_disk.result ≡ c.args.engine.joined.keep.disk = c.into_disk.ensures ∙ ap (λ (k : OnDisk g.row.D.Denot). k.disk) c.into_keep.ensures in
     unbegun_run resume (IsReopened g.D.Disk.state g.R.Reducer.mode c.args.limits.now c.args.engine) c.args.limits.now g.R.Reducer.mode (g.D.Disk.state c.args.engine.joined.keep.disk) (g.D.Disk.state c.into_disk.result) _ _
-    (λ h before bytes x. still_reached g.D.Disk.state c.args.limits.now g.R.Reducer.mode c.args.engine c.into_disk.result resume (Err (over.Run halt.NoMemory)) h before bytes (steps_of (begun_of resume h before bytes)) g.met.D.Disk.lawful last x)
+    (λ h before bytes x. still_reached g.D.Disk.state c.args.limits.now g.R.Reducer.mode c.args.engine c.into_disk.result resume (Err (over.Run halt.NoMemory)) h before bytes (steps_of (begun_of resume h before bytes)) g.met.D.Disk.lawful
+    (looks_same g.D.Disk.state c.args.engine.joined.keep.disk c.into_disk.result last) x)
 
 pub returns-in-Err-clause-watched : goal.returns-in-Err-clause-watched
 returns-in-Err-clause-watched g c = λ is.
     let last : c.into_disk.result ≡ c.args.engine.joined.keep.disk = c.into_disk.ensures ∙ ap (λ (k : OnDisk g.row.D.Denot). k.disk) c.into_keep.ensures in
     unbegun_watch (IsReopened g.D.Disk.state g.R.Reducer.mode c.args.limits.now c.args.engine) c.args.limits.now g.R.Reducer.mode (g.D.Disk.state c.args.engine.joined.keep.disk) (g.D.Disk.state c.into_disk.result) _ _ _
-    (λ h before bytes steps x. still_reached g.D.Disk.state c.args.limits.now g.R.Reducer.mode c.args.engine c.into_disk.result false (Err (over.Run halt.NoMemory)) h before bytes steps g.met.D.Disk.lawful last x)
+    (λ h before bytes steps x. still_reached g.D.Disk.state c.args.limits.now g.R.Reducer.mode c.args.engine c.into_disk.result false (Err (over.Run halt.NoMemory)) h before bytes steps g.met.D.Disk.lawful
+    (looks_same g.D.Disk.state c.args.engine.joined.keep.disk c.into_disk.result last) x)
 
 pub returns-clause-reduced : goal.returns-clause-reduced
 returns-clause-reduced g c = λ resume is h before bytes x told.
@@ -95,3 +97,8 @@ returns-clause-watch_adds g c = λ is asked tells h before bytes rest x told lef
     adds_as c.args.limits.now old old new (g.D.Disk.state c.into_disk-2.result) _ refl (sym (ap (λ (d : g.row.D.Denot). (g.D.Disk.state d).reads) last))
     (unsaved_none c.args.limits.now old new (length (begun_of false h before bytes).log - length rest) c.args.limits.now.batch (settles (asks c.args.limits.now (lines_in asked)) + 1)
     (c.take_in-outcome.ensures.watch_adds is asked tells h before bytes rest x told left))
+
+pub returns-in-Err-clause-uses : goal.returns-in-Err-clause-uses
+returns-in-Err-clause-uses g c =
+    let last : c.into_disk.result ≡ c.args.engine.joined.keep.disk = c.into_disk.ensures ∙ ap (λ (k : OnDisk g.row.D.Denot). k.disk) c.into_keep.ensures in
+    uses_still g.D.Disk.state g.D.Disk.faults g.D.Disk.spent c.args.engine.joined.keep.disk c.into_disk.result _ last (λ is. let no = is in cc)

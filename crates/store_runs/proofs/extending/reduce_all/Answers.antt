@@ -72,7 +72,8 @@ returns-clause-stored g c = λ start limits m at.
     let taken = c.in_ok-_taken.ensures.took _ start limits m at in
     let whole = taken_whole m (log_fits limits c.take.new.session.engine m taken.stands_at.stands) in
     let all = subst (λ (x : Moment). IsAllPutAway g.D.Disk.state start limits c.settle_all.new.session.engine.joined.keep (settled_on x)) whole (c.in_ok-_settled.ensures.all _ start limits _ (taken_on all_of m) taken) in
-    on_ok c.write_stat.result _ (all_alike g.D.Disk.state start limits c.settle_all.new.session.engine.joined.keep c.write_stat.new.engine.joined.keep (settled_all m) c.write_stat.ensures.alike all)
+    let away = (c.in_ok-_settled.ensures.settled _ start limits _ (taken_on all_of m) taken).holds in
+    on_ok c.write_stat.result _ (all_alike g.D.Disk.state start limits c.settle_all.new.session.engine.joined.keep c.write_stat.new.engine.joined.keep (settled_all m) away.told c.write_stat.ensures.alike all)
 
 pub returns-clause-leaves : goal.returns-clause-leaves
 returns-clause-leaves g c = λ start limits m at.
@@ -144,7 +145,7 @@ returns-clause-lacks g c = λ start limits m at was.
     let few = session.few in
     let batch = c.settle_all.ensures.batch in
     let batch2 = c.take.ensures.batch in
-    lacks_if SameBut (LacksInStore g.D.Disk.state) c.lacks_lawfully.ensures start limits g.R.Reducer.mode session.engine.joined.keep c.write_stat.new.engine.joined.keep _ c.write_stat.result session.unsaved c.args.session.now.batch
+    lacks_if (SameBut g.D.Disk.state g.D.Disk.faults g.D.Disk.spent) (LacksInStore g.D.Disk.state) c.lacks_lawfully.ensures start limits g.R.Reducer.mode session.engine.joined.keep c.write_stat.new.engine.joined.keep _ c.write_stat.result session.unsaved c.args.session.now.batch
     c.write_stat.ensures.alike (omega (arith, few, batch, batch2)) (c.in_ok-_settled.ensures.lacks _ start limits _ (taken_on all_of m) taken (c.in_ok-_taken.ensures.lacks _ start limits m at was))
 
 pub returns-in_err-_taken-clause-adds : goal.returns-in_err-_taken-clause-adds

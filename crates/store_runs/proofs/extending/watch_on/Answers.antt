@@ -1,8 +1,7 @@
-use Rattle.std.proofs.Common.{◌+◌, ◌*◌, false, length, refl, ap, arith}
+use Rattle.std.proofs.Common.{◌+◌, ◌*◌, false, length, refl, arith}
 use Rattle.std.specs.Prelude.{Ok}
 use Rattle.std.proofs.lemmas.Result.{err_from_is_err_and}
 use Rattle.reduced_store.specs.OnDisk.{OnDisk, SameBut}
-use Rattle.ingest.specs.Parts.{Engine}
 use Rattle.dialogue.specs.Saves.{AddsToStore, LacksInStore, Start}
 use Rattle.dialogue.specs.Runs.{begun_of, first_of}
 use Rattle.store_runs.proofs.StoreRuns.{at_new_part, watched_saved, watched_short}
@@ -48,9 +47,8 @@ returns-in_err-watch-clause-lacks g c = λ h before bytes tells x told.
     let start : Start (OnDisk g.row.D.Denot) = record { begun = begun; rows = c.args.session.now.engine.joined.keep } in
     let at = (at_new_part g.D.Disk.state limits g.R.Reducer.mode c.args.session.now.engine c.new_part.new.self (g.L.Source.left c.args.log.now) h before bytes c.what_is_saved_stays_saved.ensures g.met.D.Disk.lawful
     c.new_part.ensures.part c.new_part.ensures.stands x told).at in
-    let same = ap (λ (e : Engine (OnDisk g.row.D.Denot)). e.joined.keep.disk) c.new_part.ensures.part in
     let first = lacks_at_begin c.payloads_are_apart.ensures c.a_disk_reads_in_one_way.ensures.one_list g.D.Disk.state limits g.R.Reducer.mode c.args.session.now.engine.joined.keep.disk c.new_part.new.self.joined.keep.disk false h before bytes
-    (g.L.Source.left c.args.log.now) c.args.session.now.unsaved same x.images (left_all _ bytes _ told) in
+    (g.L.Source.left c.args.log.now) c.args.session.now.unsaved c.new_part.ensures.alike.disk.looks x.images (left_all _ bytes _ told) in
     rw p.1 (c.in_err-watch.ensures.lacks start m tells.0 at tells.1 first)
 
 pub returns-clause-lacks : goal.returns-clause-lacks
@@ -61,16 +59,15 @@ returns-clause-lacks g c = λ h before bytes tells x told.
     let start : Start (OnDisk g.row.D.Denot) = record { begun = begun; rows = c.args.session.now.engine.joined.keep } in
     let at = (at_new_part g.D.Disk.state limits g.R.Reducer.mode c.args.session.now.engine c.new_part.new.self (g.L.Source.left c.args.log.now) h before bytes c.what_is_saved_stays_saved.ensures g.met.D.Disk.lawful
     c.new_part.ensures.part c.new_part.ensures.stands x told).at in
-    let same = ap (λ (e : Engine (OnDisk g.row.D.Denot)). e.joined.keep.disk) c.new_part.ensures.part in
     let first = lacks_at_begin c.payloads_are_apart.ensures c.a_disk_reads_in_one_way.ensures.one_list g.D.Disk.state limits g.R.Reducer.mode c.args.session.now.engine.joined.keep.disk c.new_part.new.self.joined.keep.disk false h before bytes
-    (g.L.Source.left c.args.log.now) c.args.session.now.unsaved same x.images (left_all _ bytes _ told) in
+    (g.L.Source.left c.args.log.now) c.args.session.now.unsaved c.new_part.ensures.alike.disk.looks x.images (left_all _ bytes _ told) in
     let talked = c.in_ok-watch.ensures.talked start m tells.0 at tells.1 in
     let here = talked.at in
     let session = c.watch.new.session in
     let few = session.few in
     let batch = c.watch.ensures.batch in
     let saved = c.save.ensures.lacks start limits _ talked.to session.unsaved here.in_mode here.stands_at.stands here.holds here.stands_at.told (c.in_ok-watch.ensures.lacks start m tells.0 at tells.1 first) in
-    lacks_run _ c.save.result (lacks_last SameBut (LacksInStore g.D.Disk.state) c.lacks_lawfully.ensures start limits g.R.Reducer.mode c.save.new.engine.joined.keep _ c.save.result session.unsaved c.args.session.now.batch
+    lacks_run _ c.save.result (lacks_last (SameBut g.D.Disk.state g.D.Disk.faults g.D.Disk.spent) (LacksInStore g.D.Disk.state) c.lacks_lawfully.ensures start limits g.R.Reducer.mode c.save.new.engine.joined.keep _ c.save.result session.unsaved c.args.session.now.batch
     (omega (arith, few, batch)) saved)
 
 pub returns-in_err-watch-clause-heard : goal.returns-in_err-watch-clause-heard
@@ -101,14 +98,13 @@ returns-in_err-watch-clause-adds g c = λ asked tells h before bytes rest x told
     let batch = c.args.session.now.batch in
     let unsaved = c.args.session.now.unsaved in
     let few = c.args.session.now.few in
-    let same = ap (λ (e : Engine (OnDisk g.row.D.Denot)). (g.D.Disk.state e.joined.keep.disk).reads) c.new_part.ensures.part in
-    let none = adds_none limits (g.D.Disk.state c.args.session.now.engine.joined.keep.disk) (g.D.Disk.state c.new_part.new.self.joined.keep.disk) 0 same in
-    let first = pace_begun adds batch c.new_part.new.self.joined.keep unsaved (g.L.Source.left c.args.log.now) begun.log at.stands_at.told none in
+    let none = adds_none limits (g.D.Disk.state c.args.session.now.engine.joined.keep.disk) (g.D.Disk.state c.new_part.new.self.joined.keep.disk) 0 (c.new_part.ensures.alike.disk.looks.same x.told) in
+    let first = pace_begun adds batch c.new_part.new.self.joined.keep unsaved (g.L.Source.left c.args.log.now) begun.log at.stands_at.told (λ seen. none) in
     let count = settles (asks limits (lines_in asked)) in
     let most = unsaved + length begun.log in
     let rows = c.watch.new.session.engine.joined.keep in
     pace_adds g.D.Disk.state start limits rows batch unsaved (count + 1) (most + count * batch) begun.log rest (g.L.Source.left c.watch.new.log) (omega (arith, few)) (omega arith) left
-    (c.in_err-watch.ensures.adds start m asked most at tells first)
+    (c.in_err-watch.ensures.adds start m asked most at tells first) (c.watch.ensures.uses.still_told (c.new_part.ensures.alike.disk.looks.tells x.told))
 
 pub returns-clause-adds : goal.returns-clause-adds
 returns-clause-adds g c = λ asked tells h before bytes rest x told left.
@@ -122,9 +118,8 @@ returns-clause-adds g c = λ asked tells h before bytes rest x told left.
     let batch = c.args.session.now.batch in
     let unsaved = c.args.session.now.unsaved in
     let few = c.args.session.now.few in
-    let same = ap (λ (e : Engine (OnDisk g.row.D.Denot)). (g.D.Disk.state e.joined.keep.disk).reads) c.new_part.ensures.part in
-    let none = adds_none limits (g.D.Disk.state c.args.session.now.engine.joined.keep.disk) (g.D.Disk.state c.new_part.new.self.joined.keep.disk) 0 same in
-    let first = pace_begun adds batch c.new_part.new.self.joined.keep unsaved (g.L.Source.left c.args.log.now) begun.log at.stands_at.told none in
+    let none = adds_none limits (g.D.Disk.state c.args.session.now.engine.joined.keep.disk) (g.D.Disk.state c.new_part.new.self.joined.keep.disk) 0 (c.new_part.ensures.alike.disk.looks.same x.told) in
+    let first = pace_begun adds batch c.new_part.new.self.joined.keep unsaved (g.L.Source.left c.args.log.now) begun.log at.stands_at.told (λ seen. none) in
     let count = settles (asks limits (lines_in asked)) in
     let most = unsaved + length begun.log in
     let talked = c.in_ok-watch.ensures.talked start m asked at tells in
@@ -132,3 +127,4 @@ returns-clause-adds g c = λ asked tells h before bytes rest x told left.
     let watched = c.in_ok-watch.ensures.adds start m asked most at tells first in
     pace_adds g.D.Disk.state start limits rows batch unsaved (count + 1) ((most + count * batch) + batch) begun.log rest (g.L.Source.left c.watch.new.log) (omega (arith, few)) (omega arith) left
     (pace_settled adds batch c.watch.new.session.engine.joined.keep rows c.watch.new.session.unsaved (g.L.Source.left c.watch.new.log) (most + count * batch) (λ n so. c.save.ensures.adds start limits talked.to n talked.at.holds so) watched)
+    (c.save.ensures.uses.still_told (c.watch.ensures.uses.still_told (c.new_part.ensures.alike.disk.looks.tells x.told)))

@@ -8,7 +8,7 @@ returns-in_err-reply-clause-causes g c =
     let p = err_from_is_err_and c.from_residual.result c.from_residual.ensures.1 in
     let old = c.args.engine.now.joined.keep in
     let laws = c.reads_lawfully.ensures in
-    rw (p.1, p.2) (asked_why _ _ _ _ _ _ _ _ _ c.in_err-reply.field-0.0 (laws.seen old) c.in_err-reply.ensures.memory (laws.failed old c.reply_of.new.engine.joined.keep) c.in_err-reply.ensures.causes)
+    rw (p.1, p.2) (asked_why _ _ _ _ _ _ _ c.in_err-reply.field-0.0 (laws.unseen old) (laws.failed old c.reply_of.new.engine.joined.keep) c.in_err-reply.ensures.causes)
 
 pub returns-clause-causes : goal.returns-clause-causes
 returns-clause-causes g c = causes_on _ _ _ _ _ _ _ _ _ c.say.result (λ none. none) (λ write. write) (λ none. absurd none) (λ none. absurd none) c.say.ensures.causes

@@ -2,7 +2,8 @@ use Rattle.std.proofs.Common.{inl, None}
 use Rattle.std.specs.Prelude.{◌⊎◌}
 use Rattle.store_runs.specs.Stores.{HasNoBatch, IsBadOrNone, IsWrongIn, WaitsUnsoundly}
 use Rattle.dialogue.specs.StoreHalts.{no_lengths, no_modes}
-use Rattle.store_runs.proofs.StoreRuns.{bad_or_none, causes_by, open_at, open_causes, queried_unopened, rose_spent}
+use Rattle.outside.specs.Looking.{looks_in_a_row}
+use Rattle.store_runs.proofs.StoreRuns.{bad_or_none, causes_by, open_at, open_causes, queried_unopened, looked_rose, looked_uses}
 use Rattle.store_runs.proofs.RefusalLemmas.{opened_no_batch, opened_refuses, unopened_no_batch, unopened_refuses}
 use Rattle.store_runs.specs.Statuses.{store_status}
 use Rattle.store_runs.proofs.queries.query.Goals as goal
@@ -29,7 +30,7 @@ pub returns-in-Ok-clause-causes : goal.returns-in-Ok-clause-causes
 returns-in-Ok-clause-causes g c =
     causes_by _ _ _ _ _ _ _ (λ place. WaitsUnsoundly c.args.limits.now c.in-Ok.opened place ⊎ HasNoBatch c.in-Ok.opened place) (IsBadOrNone c.args.limits.now (g.D.Disk.state c.args.disk)) no_modes
     (IsWrongIn c.args.limits.now (g.D.Disk.state c.args.disk) None) no_lengths no_lengths c.query_opened.result.outcome (λ read. read)
-    (rose_spent (g.D.Disk.faults c.args.disk) (g.D.Disk.faults c.query_opened.result.disk) (g.D.Disk.spent c.query_opened.result.disk))
+    (looked_rose g.D.Disk.state g.D.Disk.faults g.D.Disk.spent c.args.disk c.in-Ok.opened.store.disk c.query_opened.result.disk _ c.in-Ok.ensures.uses)
     (λ hidden told. hidden (c.in-Ok.ensures.uses.still_told told))
     (λ place bad told. bad_or_none c.args.limits.now c.in-Ok.opened _ place (c.in-Ok.ensures.store told) (c.in-Ok.ensures.last told) bad) (λ kept want none. absurd none) (λ taken had none. absurd none) c.query_opened.ensures.causes
 
@@ -45,10 +46,18 @@ returns-in-Err-clause-no_batch g c =
 
 pub returns-in-Ok-clause-always : goal.returns-in-Ok-clause-always
 returns-in-Ok-clause-always g c =
-    opened_refuses c.a_store_reads_in_one_way.ensures.never_bad c.a_store_reads_in_one_way.ensures.mode c.a_store_reads_in_one_way.ensures.others c.a_store_reads_in_one_way.ensures.last c.args.limits.now
+    opened_refuses g.D.Disk.state c.a_store_reads_in_one_way.ensures.never_bad c.a_store_reads_in_one_way.ensures.mode c.a_store_reads_in_one_way.ensures.others c.a_store_reads_in_one_way.ensures.last c.args.limits.now
     (g.D.Disk.state c.args.disk) None c.in-Ok.opened (store_status c.query_opened.result.outcome) c.in-Ok.ensures.store c.in-Ok.ensures.last c.in-Ok.ensures.lawful c.in-Ok.ensures.agree
-    c.query_opened.ensures.unsound
+    c.in-Ok.ensures.looks.tells c.query_opened.ensures.unsound
 
 pub returns-in-Ok-clause-no_batch : goal.returns-in-Ok-clause-no_batch
 returns-in-Ok-clause-no_batch g c =
     opened_no_batch c.a_store_reads_in_one_way.ensures.mode c.args.limits.now (g.D.Disk.state c.args.disk) c.in-Ok.opened c.query_opened.result.outcome c.in-Ok.ensures.store c.query_opened.ensures.none
+
+pub returns-in-Ok-clause-looks : goal.returns-in-Ok-clause-looks
+returns-in-Ok-clause-looks g c =
+    looks_in_a_row (g.D.Disk.state c.args.disk) (g.D.Disk.state c.in-Ok.opened.store.disk) (g.D.Disk.state c.query_opened.result.disk) c.in-Ok.ensures.looks c.query_opened.ensures.looks
+
+pub returns-in-Ok-clause-uses : goal.returns-in-Ok-clause-uses
+returns-in-Ok-clause-uses g c =
+    looked_uses g.D.Disk.state g.D.Disk.faults g.D.Disk.spent c.args.disk c.in-Ok.opened.store.disk c.query_opened.result.disk _ _ c.in-Ok.ensures.uses c.query_opened.ensures.uses

@@ -1,6 +1,7 @@
 use Rattle.std.proofs.Common.{◌≡◌, [], ◌∷◌, ◌++◌, List, ℕ, length, refl, sym, ap, subst, false}
 use Rattle.order_text.specs.Stamp.{stamp_of}
 use Rattle.order_place.specs.Nodes.{HasPlace, SeesLine}
+use Rattle.order_kin.specs.Families.{Reads}
 use Rattle.audit_order.specs.declared.bounds.Bounds.{Bounds}
 use Rattle.audit_order.specs.Sorted.{Holds, HasRoom, any_is_past}
 use Rattle.audit_order.specs.Turns.{Next}
@@ -14,12 +15,13 @@ returns-clause-takes g c = on_ok_two c.release_past.result c.release_past.ensure
     let place = c.in_ok-read.read.place in
     let line = c.args.line in
     let now = g.O.Sink.written c.args.sink.now in
-    let read = reads before now c.args.self.now (record c.args.self.now { places = c.read_line.new.places }) place line lines refl
+    let read = reads before now c.args.self.now (record c.args.self.now { places = c.read_line.new.places; kin = c.read_line.new.kin }) place line lines refl
     (record {
       has = subst (λ (l : List ℕ). HasPlace c.args.self.now.places (stamp_of l) place) c.as_slice.ensures c.in_ok-read.ensures.place;
       last = c.in_ok-read.ensures.last;
       sees = subst (λ (l : List ℕ). SeesLine c.args.self.now.places c.read_line.new.places (stamp_of l) l place) c.as_slice.ensures c.in_ok-read.ensures.sees;
-    }) s in
+    })
+    (subst (λ (l : List ℕ). Reads c.args.self.now.kin c.read_line.new.kin l) c.as_slice.ensures c.in_ok-read.ensures.kin) c.in_ok-read.ensures.compat s in
     let started = c.in_ok-release_before.ensures.goes (Next place line) refl before lines read in
     let fits = c.in_ok-make_room.ensures.goes (Next place line) (sym (ap length c.as_slice-2.ensures)) before lines started in
     let held = c.make_room.new.sorter in

@@ -1,7 +1,8 @@
 use Rattle.std.proofs.Common.{rules, ◌≡◌, ◌+◌, ◌/◌, ◌-◌, ◌∙◌, length, length-drop, drop, ap, arith}
 use Rattle.std.proofs.lemmas.List.{length-take}
 use Rattle.block_cache.specs.Cached.{range}
-use Rattle.outside.proofs.Moments.{looks_in_a_row, uses_in_a_row}
+use Rattle.outside.proofs.Moments.{uses_in_a_row}
+use Rattle.outside.specs.Looking.{looks_in_a_row}
 use Rattle.block_cache.proofs.RangeLemmas.{range_more}
 use Rattle.block_cache.proofs.cache.BlockCache.read.Goals as goal
 

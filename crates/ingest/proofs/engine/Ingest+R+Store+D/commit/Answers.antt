@@ -37,7 +37,7 @@ returns-clause-saves g c =
     has_parts g.R.Reducer.mode seen c.in_ok-state.state c.in_ok-rows.rows.entities c.in_ok-rows.rows.others _ _ c.in_ok-state.ensures.state c.in_ok-rows.ensures.put c.as_slice-entities.ensures c.as_slice-others.ensures c.in_ok-rows.ensures.mode in
     subst (λ (old : Engine (OnDisk g.row.D.Denot)). (g.D.Disk.state old.joined.keep.disk).told → OnOk c.save.result (Saves g.D.Disk.state g.R.Reducer.mode old new)) c.self.view_is
     (saves_now g.D.Disk.state g.D.Disk.faults g.D.Disk.spent g.R.Reducer.mode seen new _ _ c.save.result c.histories_may_be_committed.ensures.since c.acts_of_events_are_admitted.ensures
-    c.a_commit_by_rows_is_that_of_its_moments.ensures c.a_disk_reads_in_one_way.ensures.one_list c.stores_follow_histories.ensures.bytes parts c.save.ensures.own.1 c.save.ensures.commits c.save.ensures.marked)
+    c.a_commit_by_rows_is_that_of_its_moments.ensures c.a_disk_reads_in_one_way.ensures.one_list c.stores_follow_histories.ensures.bytes parts (record { disks = g.met.D.Disk.lawful; own = c.save.ensures.own; leads = c.save.ensures.commits.leads }) c.save.ensures.commits c.save.ensures.marked)
 
 pub returns-clause-leaves : goal.returns-clause-leaves
 returns-clause-leaves g c =
@@ -47,7 +47,7 @@ returns-clause-leaves g c =
     has_parts g.R.Reducer.mode seen c.in_ok-state.state c.in_ok-rows.rows.entities c.in_ok-rows.rows.others _ _ c.in_ok-state.ensures.state c.in_ok-rows.ensures.put c.as_slice-entities.ensures c.as_slice-others.ensures c.in_ok-rows.ensures.mode in
     subst (λ (old : Engine (OnDisk g.row.D.Denot)). (g.D.Disk.state old.joined.keep.disk).told → LeavesEither g.D.Disk.state g.R.Reducer.mode old new) c.self.view_is
     (λ told. leaves_now g.D.Disk.state g.D.Disk.faults g.D.Disk.spent g.R.Reducer.mode seen new _ _ c.histories_may_be_committed.ensures.since c.acts_of_events_are_admitted.ensures
-    c.a_commit_by_rows_is_that_of_its_moments.ensures c.a_disk_reads_in_one_way.ensures.one_list c.stores_follow_histories.ensures.bytes parts c.save.ensures.own.1 told g.met.D.Disk.lawful c.save.result c.save.ensures.commits)
+    c.a_commit_by_rows_is_that_of_its_moments.ensures c.a_disk_reads_in_one_way.ensures.one_list c.stores_follow_histories.ensures.bytes parts (record { disks = g.met.D.Disk.lawful; own = c.save.ensures.own; leads = c.save.ensures.commits.leads }) told g.met.D.Disk.lawful c.save.result c.save.ensures.commits)
 
 pub returns-in_err-state-clause-adds : goal.returns-in_err-state-clause-adds
 returns-in_err-state-clause-adds g c = λ told. adds_none g.D.Disk.state c.args.self.now c.args.self.now g.met.D.Disk.lawful refl
@@ -73,7 +73,7 @@ returns-clause-full g c = λ full is.
     has_parts g.R.Reducer.mode seen c.in_ok-state.state c.in_ok-rows.rows.entities c.in_ok-rows.rows.others _ _ c.in_ok-state.ensures.state c.in_ok-rows.ensures.put c.as_slice-entities.ensures c.as_slice-others.ensures c.in_ok-rows.ensures.mode in
     subst (λ (old : Engine (OnDisk g.row.D.Denot)). PassesFull g.D.Disk.state g.R.Reducer.mode old full) c.self.view_is
     (passes_now g.D.Disk.state g.D.Disk.faults g.D.Disk.spent g.R.Reducer.mode seen new _ _ c.save.result full c.histories_may_be_committed.ensures.since c.acts_of_events_are_admitted.ensures
-    c.a_commit_by_rows_is_that_of_its_moments.ensures parts c.save.ensures.own.1 c.save.ensures.commits is)
+    c.a_commit_by_rows_is_that_of_its_moments.ensures parts (record { disks = g.met.D.Disk.lawful; own = c.save.ensures.own; leads = c.save.ensures.commits.leads }) c.save.ensures.commits is)
 
 pub returns-clause-stands : goal.returns-clause-stands
 returns-clause-stands g c =

@@ -14,12 +14,13 @@ invariant_of-result g c =
       bounds = c.new-2.ensures.limits;
       together = record {
         safe = c.new-2.ensures.safe;
-        kept_of = none_kept _ _ _ _ c.new-3.ensures.none (ap length (c.new-2.ensures.stands text_of).objects_are);
+        kept_of = none_kept _ _ _ _ _ _ _ _ c.new-3.ensures.kept c.requires.none c.requires.count c.requires.known
+            (ap length (c.new-2.ensures.stands text_of).objects_are);
       };
     })
 
 pub returns-clause-stands : goal.returns-clause-stands
-returns-clause-stands g c = record {
+returns-clause-stands g c = λ told. record {
   limits_are = c.new-2.ensures.limits.limits_are;
   join = c.new.ensures.stands;
   released_last = record { key = refl; time = refl };
@@ -27,7 +28,7 @@ returns-clause-stands g c = record {
   counts = c.new-4.ensures;
   tables = c.new-2.ensures.stands text_of;
   marked = never_marked _ [] c.new-2.ensures.unmarked;
-  kept_are = c.new-3.ensures.none;
+  kept_are = c.new-3.ensures.none told;
   in_time = record { rise = tt; later = omega arith };
   fits = full_none c.args.limits.now.entities c.args.limits.now.flows 0 0 (omega arith) (omega arith);
 }
@@ -39,3 +40,6 @@ returns-clause-few g c = record {
   join = c.new.ensures.stands;
   few = omega (arith, (c.new-2.ensures.stands text_of).acts_are);
 }
+
+pub returns-clause-acts : goal.returns-clause-acts
+returns-clause-acts g c = (c.new-2.ensures.stands text_of).acts_are

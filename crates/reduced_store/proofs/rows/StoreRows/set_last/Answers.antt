@@ -1,24 +1,42 @@
-use Rattle.std.proofs.Common.{◌≡◌, ◌<◌, ◌-◌, vec_capacity, vec_len, true, length, map, arith, ap, subst, sym, ◌∙◌}
-use Rattle.reach_rows.specs.Kept.{AreRows, row_of_kept}
+use Rattle.std.proofs.Common.{◌≡◌, ◌∙◌, length, map, arith, ap, subst, sym, refl}
+use Rattle.std.specs.List.{All}
+use Rattle.reach_rows.specs.Kept.{row_of_kept}
+use Rattle.saved_rows.specs.Joining.{mark_in, rows_now}
+use Rattle.saved_rows.specs.Remembered.{with_mark}
+use Rattle.saved_rows.specs.Saved.{IsSingle}
 use Rattle.store_check.specs.Store.{changed_at, extended}
-use Rattle.reduced_store.specs.Held.{Held}
-use Rattle.reduced_store.proofs.HeldLemmas.{all_rows, held_set, changed_rows}
+use Rattle.reduced_store.specs.Held.{AreHeld, HasRoom, Held}
+use Rattle.reduced_store.specs.Placing.{IsTied}
+use Rattle.reduced_store.proofs.HeldLemmas.{changed_length, changed_rows, held_along, plain_marked}
 use Rattle.reduced_store.proofs.rows.StoreRows.set_last.Goals as goal
 
 pub invariant_of-self : goal.invariant_of-self
 invariant_of-self c =
-    let lawful = c.self.inside.lawful in
-    let rows = c.self.inside.rows.items in
+    let a = c.self.inside.rows in
     let objects = c.self.inside.objects.items in
-    let held = c.self.invariant in
-    let all : length rows ≡ length c.args.self.now.rows = sym (all_rows lawful rows objects held) ∙ ap (λ (h : Held). length h.rows) c.self.view_is in
-    let within : c.args.row < length rows = omega (arith, c.requires.row, all) in
-    let still : lawful ≡ true → AreRows (map row_of_kept rows) → AreRows (changed_at c.args.row (extended c.args.mark) (map row_of_kept rows)) =
-    subst (λ (h : Held). h.lawful ≡ true → AreRows h.rows → AreRows (changed_at c.args.row (extended c.args.mark) h.rows)) (sym c.self.view_is) c.requires.lawful in
-    held_set lawful rows objects held c.args.row c.index_mut.result.now c.args.mark within c.index_mut.ensures.value (λ so. still so (held.lawful_are so))
+    let i = c.args.row in
+    let mark = c.args.mark in (
+      subst (λ rows. AreHeld rows objects) (sym c.extend.ensures.rows) (held_along (rows_now a) (with_mark i mark (rows_now a)) objects (sym (plain_marked i mark (rows_now a))) c.self.invariant.0),
+      subst (All IsSingle) (sym c.extend.ensures.recent) c.self.invariant.1,
+    )
 
-pub returns : goal.returns
-returns c =
-    let rows = c.self.inside.rows.items in
-    ap (λ R. record { rows = R; lawful = c.self.inside.lawful; rows_room = vec_capacity c.self.inside.rows - vec_len c.self.inside.rows; objects_room = vec_capacity c.self.inside.objects - vec_len c.self.inside.objects }) (changed_rows rows c.args.row c.index_mut.result.now c.args.mark c.index_mut.ensures.value)
-    ∙ ap (λ (h : Held). record h { rows = changed_at c.args.row (extended c.args.mark) h.rows }) c.self.view_is
+pub returns-clause-rows : goal.returns-clause-rows
+returns-clause-rows c =
+    ap (map row_of_kept) c.extend.ensures.rows ∙ changed_rows c.args.row c.args.mark (rows_now c.self.inside.rows)
+    ∙ ap (λ (h : Held). changed_at c.args.row (extended c.args.mark) h.rows) c.self.view_is
+
+pub returns-clause-room : goal.returns-clause-room
+returns-clause-room c = λ n room.
+    let a = c.self.inside.rows in
+    let here = subst (λ (h : Held). HasRoom h n) (sym c.self.view_is) room in
+    let long : length (map row_of_kept (rows_now c.extend.new.self)) ≡ length (map row_of_kept (rows_now a)) =
+    ap (λ rows. length (map row_of_kept rows)) c.extend.ensures.rows ∙ ap length (changed_rows c.args.row c.args.mark (rows_now a)) ∙ changed_length c.args.row c.args.mark (map row_of_kept (rows_now a)) in
+    let some = here.0 in
+    let few = here.1.1 in
+    (omega (arith, some, c.extend.ensures.recent_room), (here.1.0, omega (arith, few, long)))
+
+pub returns-clause-tied : goal.returns-clause-tied
+returns-clause-tied c = subst IsTied c.self.view_is refl
+
+pub returns-clause-others : goal.returns-clause-others
+returns-clause-others c = λ i apart. c.extend.ensures.others i apart ∙ ap (λ (h : Held). mark_in h.placed.renewed i) c.self.view_is

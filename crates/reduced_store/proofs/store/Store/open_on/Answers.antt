@@ -1,6 +1,13 @@
 use Rattle.store_check.specs.Conditions.{bounds_of}
 use Rattle.reduced_store.proofs.StoreLemmas.{opened_last, opened_stands, opened_over, opened_found, opened_agree, refused_wrong}
+use Rattle.reduced_store.proofs.ToldLemmas.{told_found}
 use Rattle.reduced_store.proofs.store.Store.open_on.Goals as goal
+
+pub admit-requires-clause-placed : goal.admit-requires-clause-placed
+admit-requires-clause-placed g c = λ tells.
+    let told = (g.met.D.Disk.lawful c.read_store.new.disk).told_is.1 tells in
+    let found = c.in-Ok.ensures.found in
+    told_found (bounds_of c.args.limits.now) found.0 c.in-Ok.read.found (g.D.Disk.state c.read_store.new.disk).reads c.in-Ok.read.log found.1 c.in-Ok.ensures.lawful (c.in-Ok.ensures.placed (c.read_store.ensures.uses.told_before told))
 
 pub returns-in-Ok-clause-store : goal.returns-in-Ok-clause-store
 returns-in-Ok-clause-store g c = λ told.

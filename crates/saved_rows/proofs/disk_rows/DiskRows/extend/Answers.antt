@@ -25,3 +25,7 @@ returns-clause-rows c =
     renew_marked (mark_in a.renewed.entries) (mark_in c.insert.new.self.entries) 0 c.args.index c.args.index c.args.mark (a.kept.rows ++ a.recent.items) (omega arith) updates.1
     (λ n differ. updates.2 n (ne_eqb c.args.index n (λ e. differ (sym e))))
     ∙ ap (λ (j : Joined). with_mark c.args.index c.args.mark (rows_now j)) c.self.view_is
+
+pub returns-clause-others : goal.returns-clause-others
+returns-clause-others c = λ i apart.
+    c.in-Ok.ensures.updates.2 i (ne_eqb c.args.index i (λ e. apart (sym e))) ∙ ap (λ (j : Joined). mark_in j.renewed i) c.self.view_is

@@ -1,26 +1,8 @@
-use Rattle.std.proofs.Common.{◌≡◌, ◌<◌, length, ap, sym, subst, get_or, arith, ◌∙◌}
+use Rattle.std.proofs.Common.{◌≡◌, ◌<◌, length, sym, subst, get_or, arith}
 use Rattle.block_cache.specs.Cached.{IsCacheOf}
 use Rattle.saved_rows.specs.Saved.{HasLast, Saved, end_of, kept_row}
 use Rattle.saved_rows.proofs.RowLemmas.{fault_same, row_there}
-use Rattle.saved_rows.proofs.RunLemmas.{run_fits}
 use Rattle.saved_rows.proofs.saved.SavedRows.row.Goals as goal
-
-pub overflow_sub-place : goal.overflow_sub-place
-overflow_sub-place g c =
-    let h : c.args.index < c.self.inside.count = omega (arith, c.requires.index, ap (λ (s : Saved). s.count) c.self.view_is) in
-    (run_fits c.self.inside.runs.items c.as_slice.result.now c.run_of-run.result c.self.inside.count c.args.index c.self.invariant.0 c.as_slice.ensures.value h c.run_of-run.ensures).0
-
-pub overflow_mul-place : goal.overflow_mul-place
-overflow_mul-place g c =
-    let h : c.args.index < c.self.inside.count = omega (arith, c.requires.index, ap (λ (s : Saved). s.count) c.self.view_is) in
-    let fits = run_fits c.self.inside.runs.items c.as_slice.result.now c.run_of-run.result c.self.inside.count c.args.index c.self.invariant.0 c.as_slice.ensures.value h c.run_of-run.ensures in
-    omega (arith, fits.1)
-
-pub kept_at-requires-clause-fits : goal.kept_at-requires-clause-fits
-kept_at-requires-clause-fits g c =
-    let h : c.args.index < c.self.inside.count = omega (arith, c.requires.index, ap (λ (s : Saved). s.count) c.self.view_is) in
-    let fits = run_fits c.self.inside.runs.items c.as_slice.result.now c.run_of-run.result c.self.inside.count c.args.index c.self.invariant.0 c.as_slice.ensures.value h c.run_of-run.ensures in
-    omega (arith, fits.1)
 
 pub kept_at-requires-clause-cache : goal.kept_at-requires-clause-cache
 kept_at-requires-clause-cache g c = λ told. subst (λ (s : Saved). IsCacheOf (g.D.Disk.state c.args.disk.now).reads s.cache) (sym c.self.view_is) (c.requires.cache told)
@@ -36,8 +18,7 @@ returns-in-Ok-clause-exact g c = λ told R d has.
     let saved = c.args.self.now in
     let index = c.args.index in
     let r = get_or R index d in
-    let runs = sym (ap (λ (s : Saved). s.runs) c.self.view_is) ∙ sym c.as_slice.ensures.value in
-    let spelled = row_there old saved R c.as_slice.result.now c.run_of-run.result index d has runs c.requires.index c.run_of-run.ensures in
+    let spelled = row_there old saved R c.place-place.result index d has c.requires.index c.place-place.ensures.place in
     let h : index < length R = omega (arith, c.requires.index, has.all) in
     let last = subst (λ (s : Saved). HasLast old saved.cache.firm index r (end_of s.ends index)) (sym c.self.view_is) (has.last index d h) in
     c.row_of.ensures.row (c.kept_at.ensures.looks.tells told) saved.cache.firm r (c.in-Ok.ensures.row told saved.cache.firm (kept_row r) spelled)
@@ -52,6 +33,5 @@ returns-in-Err-clause-exact g c = λ told R d has.
     let saved = c.args.self.now in
     let index = c.args.index in
     let r = get_or R index d in
-    let runs = sym (ap (λ (s : Saved). s.runs) c.self.view_is) ∙ sym c.as_slice.ensures.value in
-    let spelled = row_there old saved R c.as_slice.result.now c.run_of-run.result index d has runs c.requires.index c.run_of-run.ensures in
+    let spelled = row_there old saved R c.place-place.result index d has c.requires.index c.place-place.ensures.place in
     fault_same c.in-Err.fault (kept_row r) r (c.in-Err.ensures.row told saved.cache.firm (kept_row r) spelled)

@@ -1,0 +1,4 @@
+pub mod BroodLemmas
+pub mod FamilyLemmas
+pub mod NodeLemmas
+pub mod HeardLemmas
