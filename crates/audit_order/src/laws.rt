@@ -44,8 +44,8 @@ pub fn events_go_together()
 {}
 
 /// A call counts no earlier than the calls of its process, and the forks that began it, that were read before, as far as the clock had
-/// come with those: than the latest of them, and than each since its node was started. And of two lines the one that counts no later and has the lesser serial number was written first, unless it was
-/// late, or a fork that went early.
+/// come with those: than the latest of them, and than each since its node was started. And of two lines the one that counts no later and
+/// has the lesser serial number was written first, unless it was late, or a fork that went early.
 pub fn calls_keep_their_order()
     ensures counts { CallsCountInOrder }
     ensures later { LaterCallsCountLater }

@@ -257,12 +257,13 @@ pub fn read_line(places: &mut Places, kin: &mut Families, line: &[u8]) -> Result
 {
     let stamp = read_stamp(line);
     let used = read_if(line, &stamp);
+    let note = note_of(&used);
     let place = places.place_read(line, &stamp, &used)?;
-    kin.read(line, &stamp, &used)?;
+    kin.read(line, &stamp, &used, note)?;
     Ok(Read {
         place,
         marks: marks_of(&stamp),
-        note: note_of(&used),
+        note,
     })
 }
 

@@ -48,21 +48,23 @@ impl Families {
         }
     }
 
-    /// A line was read, whose stamp was read too.
+    /// A line was read, whose stamp was read too, and of which something may have been noted.
     pub fn read(
         &mut self,
         line: &[u8],
         stamp: &Option<Stamp<'_>>,
         used: &Option<UsedLine<'_>>,
+        note: Option<Note>,
     ) -> Result<(), NoMemory>
         requires is { option_map stamp_seen stamp.now ≡ stamp_of line.now }
         requires read { IsRead line.now used.now }
+        requires noted { IsNoted note line.now }
         ensures reads { OnOk result (Reads self.old self.new line.now) }
         ensures compat { OnOk result (self.new.compat ≡ self.old.compat) }
     {
         match stamp {
             None => Ok(()),
-            Some(stamp) => self.read_stamped(line, stamp, used),
+            Some(stamp) => self.read_stamped(line, stamp, used, note),
         }
     }
 
@@ -118,13 +120,15 @@ impl Families {
         line: &[u8],
         stamp: &Stamp<'_>,
         used: &Option<UsedLine<'_>>,
+        note: Option<Note>,
     ) -> Result<(), NoMemory>
-        requires { IsRead line.now used.now }
+        requires read { IsRead line.now used.now }
+        requires noted { IsNoted note line.now }
         ensures reads { OnOk result
             (ReadsStamped self.old self.new line.now (stamp_seen stamp.now)) }
         ensures compat { OnOk result (self.new.compat ≡ self.old.compat) }
     {
-        let heard = heard_of(self.alloc, self.compat, line, stamp, used)?;
+        let heard = heard_of(self.alloc, self.compat, line, stamp, used, note)?;
         let starts = is_boot(stamp.front);
         if is_idle(&heard, starts) {
             return Ok(());

@@ -3,7 +3,7 @@ ghost use Rattle.std.specs.Prelude.{◌≡◌, ◌&&◌, IfOk};
 ghost use Rattle.audit_lex.specs.FieldTable.{name_of};
 ghost use Rattle.order_text.specs.Seen.{stamp_seen};
 ghost use Rattle.order_calls.specs.Reads.{IsRead};
-ghost use Rattle.order_rules.specs.Lines.{number_in};
+ghost use Rattle.order_rules.specs.Lines.{number_in, call_in};
 ghost use Rattle.order_lines.specs.Rules.{is_call};
 ghost use Rattle.order_rules.specs.Notes.{IsNoted};
 ghost use Rattle.order_kin.specs.Heard.{deed_of, has_begun, heard_kind, heard_in, heard_of, only_fork};
@@ -40,15 +40,18 @@ pub struct Heard {
     pub deed: Deed,
 }
 
-/// What a line of this stamp says, which may have been read. A 32-bit call is read as the 64-bit one that it becomes.
+/// What a line of this stamp says, which may have been read, and of which something may have been noted. A 32-bit call is read as the
+/// 64-bit one that it becomes.
 pub fn heard_of(
     alloc: Global,
     compat: bool,
     line: &[u8],
     stamp: &Stamp<'_>,
     used: &Option<UsedLine<'_>>,
+    note: Option<Note>,
 ) -> Result<Option<Heard>, NoMemory>
-    requires { IsRead line.now used.now }
+    requires read { IsRead line.now used.now }
+    requires noted { IsNoted note line.now }
     ensures { IfOk result (λ heard. heard ≡ heard_of compat (stamp_seen stamp.now) line.now) }
 {
     if !is_heard(compat, stamp.front) {
@@ -59,10 +62,10 @@ pub fn heard_of(
         compat,
     };
     match rewrite_of(alloc, settings, stamp)? {
-        None => Ok(heard_in(line, used)),
+        None => Ok(heard_in(line, used, note)),
         Some(rewrite) => {
             let read = rewritten(alloc, stamp, &rewrite)?;
-            Ok(heard_in(read.as_slice(), &None))
+            Ok(heard_unread(read.as_slice()))
         }
     }
 }
@@ -134,13 +137,14 @@ fn is_heard(compat: bool, front: &[u8]) -> bool
     compat && front.ends_with(b"type=SYSCALL msg=audit")
 }
 
-// What a line says that may have been read.
-fn heard_in(line: &[u8], used: &Option<UsedLine<'_>>) -> Option<Heard>
-    requires { IsRead line.now used.now }
+// What a line says that may have been read, and of which something may have been noted.
+fn heard_in(line: &[u8], used: &Option<UsedLine<'_>>, note: Option<Note>) -> Option<Heard>
+    requires read { IsRead line.now used.now }
+    requires noted { IsNoted note line.now }
     ensures { result ≡ heard_in line.now }
 {
     match used {
-        Some(used) => heard_kind(used),
+        Some(used) => heard_kind(used, note),
         None => heard_unread(line),
     }
 }
@@ -150,27 +154,40 @@ fn heard_unread(line: &[u8]) -> Option<Heard>
     ensures { result ≡ heard_in line.now }
 {
     match lex(line, LINE) {
-        Lexed::Used(used) => heard_kind(&used),
+        Lexed::Used(used) => heard_kind(&used, None),
         _ => None,
     }
 }
 
-// What a used line says.
-fn heard_kind(used: &UsedLine<'_>) -> Option<Heard>
+// What a used line says, of which something may have been noted.
+fn heard_kind(used: &UsedLine<'_>, note: Option<Note>) -> Option<Heard>
+    requires { IsNoted note used.now.line.now }
     ensures { result ≡ heard_kind used.now.line.now used.now.key used.now.kind }
 {
     match used.kind {
-        Kind::Syscall => heard_call(used),
+        Kind::Syscall => heard_call(used, call_noted(used, note)),
         _ => None,
     }
 }
 
-// What the record of a call says.
-fn heard_call(used: &UsedLine<'_>) -> Option<Heard>
+// The call of a used line, which isn't read again if it was noted.
+fn call_noted(used: &UsedLine<'_>, note: Option<Note>) -> Option<Call>
+    requires { IsNoted note used.now.line.now }
+    ensures { result ≡ call_in used.now.line.now }
+{
+    match note {
+        Some(note) => note.call,
+        None => call_in(used),
+    }
+}
+
+// What the record of this call says.
+fn heard_call(used: &UsedLine<'_>, call: Option<Call>) -> Option<Heard>
+    requires { call ≡ call_in used.now.line.now }
     ensures { result ≡ heard_kind used.now.line.now used.now.key Kind.Syscall }
 {
     let parent = number_in(used, Field::Ppid)?;
-    let call = call_in(used)?;
+    let call = call?;
     Some(Heard {
         ms: used.key.ms,
         serial: used.key.serial,

@@ -24,25 +24,29 @@ pub fn call_in(used: &UsedLine<'_>) -> Option<Call>
     if !has_text(used, Field::Arch, b"c000003e") {
         return None;
     }
+    let done = is_done(used);
+    let args = args_in(used);
     Some(Call {
         pid,
-        act: act_in(used, number),
-        asks: asks_with(number, is_done(used), is_begun(used), args_in(used)),
+        act: act_in(used, number, done, args),
+        asks: asks_with(number, done, is_begun(used), args),
     })
 }
 
-// What a call does.
-fn act_in(used: &UsedLine<'_>, number: u32) -> Act
+// What a call of these arguments does, which is done or not.
+fn act_in(used: &UsedLine<'_>, number: u32, done: bool, args: Args) -> Act
+    requires done { done ≡ is_done used.now.line.now }
+    requires args { args ≡ args_in used.now.line.now }
     ensures { result ≡ act_in used.now.line.now number }
 {
     // The end of a process has no answer.
     if number == 231 {
         return Act::Ends;
     }
-    if !is_done(used) {
+    if !done {
         return Act::Nothing;
     }
-    act_with(number, number_in(used, Field::Exit), args_in(used))
+    act_with(number, number_in(used, Field::Exit), args)
 }
 
 // The arguments of a call.
