@@ -18,10 +18,10 @@ use std::test::Fail;
 use table_salt::Salt;
 
 /// An engine that keeps each flow, and puts it on a disk.
-type OverDisk<D> = Ingest<Plain, Store<D>>;
+pub type OverDisk<D> = Ingest<Plain, Store<D>>;
 
 /// The engine of what a disk stores in plain mode.
-fn engine_on<D: Disk + Drop>(alloc: Global, disk: D) -> Option<OverDisk<D>>
+pub fn engine_on<D: Disk + Drop>(alloc: Global, disk: D) -> Option<OverDisk<D>>
     ensures { IfSome result (λ engine. CanCommit D.state engine.joined.keep) }
 {
     let limits = Limits::standard();
@@ -36,7 +36,7 @@ fn engine_on<D: Disk + Drop>(alloc: Global, disk: D) -> Option<OverDisk<D>>
 }
 
 /// The disk after a run that takes a piece of a log, and settles if it is the last one.
-fn disk_after<D: Disk + Drop>(engine: OverDisk<D>, piece: &[u8], last: bool) -> Option<D>
+pub fn disk_after<D: Disk + Drop>(engine: OverDisk<D>, piece: &[u8], last: bool) -> Option<D>
     requires { CanCommit D.state engine.joined.keep }
 {
     what_can_commit_still_can::<D>();

@@ -5,6 +5,8 @@
 #[cfg(test)]
 mod batches;
 #[cfg(test)]
+mod cached_questions;
+#[cfg(test)]
 mod conditions;
 #[cfg(test)]
 mod devices;
