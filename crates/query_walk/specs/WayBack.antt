@@ -39,22 +39,22 @@ pub record IsFound (F : List Flow) (i : ℕ) (f : Flow) (marks : List Bool) (wai
 
 -- if the rows are observable, an object is found by f at one of them
 abbrev pub FindsAt : Option (List Row) → ℕ → Flow → WayBack → ℕ → WayBack → ℕ → Type 0
-FindsAt told i f old before new now = IfSome told (λ R. IsFound (firsts R) i f old.marks.items (Waits old.waiting) old.hops.items before new.marks.items (Waits new.waiting) new.hops.items now)
+FindsAt told i f old before new now = IfSome told (λ R. IsFound (firsts R) i f old.marks (Waits old.waiting) old.hops.items before new.marks (Waits new.waiting) new.hops.items now)
 
 -- if the rows are observable, the same, provided that f finds an object
 abbrev pub FindsIfNew : Option (List Row) → ℕ → Flow → Option ℕ → WayBack → ℕ → WayBack → ℕ → Type 0
-FindsIfNew told i f t old before new now = IfSome told (λ R. Finds old.marks.items t f → IsFound (firsts R) i f old.marks.items (Waits old.waiting) old.hops.items before new.marks.items (Waits new.waiting) new.hops.items now)
+FindsIfNew told i f t old before new now = IfSome told (λ R. Finds old.marks t f → IsFound (firsts R) i f old.marks (Waits old.waiting) old.hops.items before new.marks (Waits new.waiting) new.hops.items now)
 
 -- if the rows are observable, a walk that stood after a row that waits stands at it
 abbrev pub StepsBack : Option (List Row) → ℕ → ℕ → Option ℕ → WayBack → WayBack → Type 0
-StepsBack told known i t old new = IfSome told (λ R. (v : ℕ) → Waits old.waiting i → IsBackAt (firsts R) known (i + 1) v t old.marks.items (Waits old.waiting) old.hops.items
-    → IsBackAt (firsts R) known i v t new.marks.items (Waits new.waiting) new.hops.items)
+StepsBack told known i t old new = IfSome told (λ R. (v : ℕ) → Waits old.waiting i → IsBackAt (firsts R) known (i + 1) v t old.marks (Waits old.waiting) old.hops.items
+    → IsBackAt (firsts R) known i v t new.marks (Waits new.waiting) new.hops.items)
 
 -- if the rows are observable and the row enters a marked object, one step was counted for each row from it on into an object
 -- that is marked now, and as many were counted before for the rows after it into objects that were marked then
 abbrev pub CountsBack : Option (List Row) → ℕ → WayBack → ℕ → WayBack → ℕ → Type 0
-CountsBack told i old before new now = IfSome told (λ R. ((d : Flow) → IsMarked old.marks.items (target (slice_index_or (firsts R) i d)))
-    → now + count_by (enters_marked old.marks.items) (drop (i + 1) (firsts R)) ≡ before + count_by (enters_marked new.marks.items) (drop i (firsts R)))
+CountsBack told i old before new now = IfSome told (λ R. ((d : Flow) → IsMarked old.marks (target (slice_index_or (firsts R) i d)))
+    → now + count_by (enters_marked old.marks) (drop (i + 1) (firsts R)) ≡ before + count_by (enters_marked new.marks) (drop i (firsts R)))
 
 -- if the rows are observable, the last row into v waits, if there is one, and no other
 abbrev pub LastWaits : Option (List Row) → ℕ → Waiting → Type 0
@@ -68,4 +68,4 @@ pub record IsBack (F : List Flow) (known v : ℕ) (t : Option ℕ) (marks : List
 
 -- if the rows are observable, a walk over their first flows is done
 abbrev pub IsBackOver : Option (List Row) → ℕ → ℕ → Option ℕ → WayBack → Type 0
-IsBackOver told known v t back = IfSome told (λ R. IsBack (firsts R) known v t back.marks.items back.hops.items)
+IsBackOver told known v t back = IfSome told (λ R. IsBack (firsts R) known v t back.marks back.hops.items)

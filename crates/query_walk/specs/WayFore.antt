@@ -26,11 +26,11 @@ pub record IsReached (R : List Row) (at object : ℕ) (s : Option ℕ) (marks : 
 
 -- if the rows are observable, an object is reached at a place
 abbrev pub ReachesAt : Option (List Row) → ℕ → ℕ → Option ℕ → WayFore → ℕ → WayFore → ℕ → Type 0
-ReachesAt told at object s old before new now = IfSome told (λ R. IsReached R at object s old.marks.items (IsDue old.waiting) before new.marks.items (IsDue new.waiting) now)
+ReachesAt told at object s old before new now = IfSome told (λ R. IsReached R at object s old.marks (IsDue old.waiting) before new.marks (IsDue new.waiting) now)
 
 -- if the rows are observable, the same, provided that the object wasn't marked
 abbrev pub ReachesIfNew : Option (List Row) → ℕ → ℕ → Option ℕ → WayFore → ℕ → WayFore → ℕ → Type 0
-ReachesIfNew told at object s old before new now = IfSome told (λ R. ¬ IsMarked old.marks.items object → IsReached R at object s old.marks.items (IsDue old.waiting) before new.marks.items (IsDue new.waiting) now)
+ReachesIfNew told at object s old before new now = IfSome told (λ R. ¬ IsMarked old.marks object → IsReached R at object s old.marks (IsDue old.waiting) before new.marks (IsDue new.waiting) now)
 
 -- if the rows are observable, marked is what u reaches by their last flows
 abbrev pub IsForeOver : Option (List Row) → ℕ → ℕ → Option ℕ → List Bool → Type 0

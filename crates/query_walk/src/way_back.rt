@@ -4,7 +4,7 @@
 //! it, so does the last earlier row into that source. So of each object that was found exactly one row waits, until there
 //! are none left, and each row into such an object is read once: later rows when it is found, earlier ones when they are
 //! taken.
-ghost use Rattle.std.specs.Prelude.{◌≡◌, ◌↔◌, ◌+◌, ℕ, ◌<◌, [], length, IfOk, IfSome, IsTrue, vec_len};
+ghost use Rattle.std.specs.Prelude.{◌≡◌, ◌↔◌, ◌+◌, ℕ, ◌<◌, [], length, IfOk, IfSome, IsTrue};
 ghost use Rattle.reach_model.specs.Marks.{IsMarked};
 ghost use Rattle.reach_model.specs.Numbers.{known as known_of};
 ghost use Rattle.reach_model.specs.Paths.{IsUntil};
@@ -18,7 +18,7 @@ ghost use Rattle.query_walk.specs.WayBack.{CountsBack, Finds, FindsAt, FindsIfNe
 use crate::candidates::Candidates;
 use crate::fault::WalkFault;
 use crate::links::{last_into_before, link_below};
-use crate::marks::only;
+use crate::marks::Marks;
 use flow_base::{EntityId, Flow, NoMemory};
 use reach_rows::{Row, Rows, Steps};
 use std::alloc::Global;
@@ -28,7 +28,7 @@ use std::sync::ledger::Ledger;
 /// except the end the flow by which it was found, in the order in which they were found.
 #[derive(Drop)]
 pub struct WayBack {
-    pub marks: Vec<bool>,
+    pub marks: Marks,
     pub waiting: Candidates,
     pub hops: Vec<Flow>,
 }
@@ -42,11 +42,12 @@ pub fn walk_back<W: Rows, L: Ledger>(
     steps: &mut Steps<L>,
 ) -> Result<WayBack, WalkFault>
     requires known { of.0 < W.known rows.old }
-    ensures len { IfOk result (λ back. vec_len back.marks ≡ W.known rows.old) }
-    ensures itself { IfOk result (λ back. IsMarked back.marks.items of.0) }
+    ensures len { IfOk result (λ back. length back.marks ≡ W.known rows.old) }
+    ensures itself { IfOk result (λ back. IsMarked back.marks of.0) }
     ensures exact { IfOk result (IsBackOver (W.rows rows.old) (W.known rows.old) of.0 until) }
     ensures steps { IfOk result (λ back.
-        CountsIntoMarked (W.rows rows.old) back.marks.items steps.old steps.new) }
+        CountsIntoMarked (W.rows rows.old) back.marks steps.old steps.new) }
+    ensures told { IfSome (W.rows rows.old) (λ R. known_of (firsts R) ≡ W.known rows.old) }
     ensures same { SameRows W.rows W.count W.known rows.old rows.new }
     ensures cause { IsWalkOver W.rows W.faults W.spent rows.old rows.new result }
     ensures alike { W.alike rows.old rows.new }
@@ -63,14 +64,14 @@ pub fn walk_back<W: Rows, L: Ledger>(
 /// The object alone, of which the last row waits.
 fn begin_back<W: Rows>(alloc: Global, rows: &W, of: EntityId) -> Result<WayBack, NoMemory>
     requires known { of.0 < W.known rows.now }
-    ensures len { IfOk result (λ back. vec_len back.marks ≡ W.known rows.now) }
-    ensures marks { IfOk result (λ back. (u : ℕ) → IsMarked back.marks.items u ↔ (u ≡ of.0)) }
+    ensures len { IfOk result (λ back. length back.marks ≡ W.known rows.now) }
+    ensures marks { IfOk result (λ back. (u : ℕ) → IsMarked back.marks u ↔ (u ≡ of.0)) }
     ensures room { IfOk result (λ back. back.waiting.rows ≡ W.count rows.now) }
     ensures waits { IfOk result (λ back. LastWaits (W.rows rows.now) of.0 back.waiting) }
     ensures hops { IfOk result (λ back. back.hops.items ≡ []) }
     ensures told { IfSome (W.rows rows.now) (λ R. known_of (firsts R) ≡ W.known rows.now) }
 {
-    let marks = only(alloc, of, rows.known())?;
+    let marks = Marks::only(alloc, of, rows.known())?;
     let count = rows.count();
     let mut waiting = Candidates::new(alloc, count)?;
     waiting.put(link_below(rows.last_into(of), count));
@@ -92,13 +93,13 @@ fn take_row<W: Rows, L: Ledger>(
     steps: &mut Steps<L>,
 ) -> Result<(), WalkFault>
     requires index { index < W.count rows.old }
-    requires len { vec_len back.old.marks ≡ W.known rows.old }
+    requires len { length back.old.marks ≡ W.known rows.old }
     requires room { back.old.waiting.rows ≡ W.count rows.old }
     requires counted { IfSome (W.rows rows.old) (λ R. length R ≡ W.count rows.old) }
     requires lawful { IfSome (W.rows rows.old) AreRows }
-    ensures len { vec_len back.new.marks ≡ vec_len back.old.marks }
+    ensures len { length back.new.marks ≡ length back.old.marks }
     ensures room { back.new.waiting.rows ≡ back.old.waiting.rows }
-    ensures marks { (u : ℕ) → IsMarked back.old.marks.items u → IsMarked back.new.marks.items u }
+    ensures marks { (u : ℕ) → IsMarked back.old.marks u → IsMarked back.new.marks u }
     ensures exact { IfOk result (λ _.
         StepsBack (W.rows rows.old) (W.known rows.old) index until back.old back.new) }
     ensures steps { IfOk result (λ _.
@@ -124,14 +125,14 @@ fn take_source<W: Rows, L: Ledger>(
 ) -> Result<(), WalkFault>
     requires index { index < W.count rows.old }
     requires ends { (row.now.from.0 < W.known rows.old) × (row.now.to.0 < W.known rows.old) }
-    requires len { vec_len back.old.marks ≡ W.known rows.old }
+    requires len { length back.old.marks ≡ W.known rows.old }
     requires room { back.old.waiting.rows ≡ W.count rows.old }
-    ensures len { vec_len back.new.marks ≡ vec_len back.old.marks }
+    ensures len { length back.new.marks ≡ length back.old.marks }
     ensures room { back.new.waiting.rows ≡ back.old.waiting.rows }
-    ensures marks { (u : ℕ) → IsMarked back.old.marks.items u → IsMarked back.new.marks.items u }
+    ensures marks { (u : ℕ) → IsMarked back.old.marks u → IsMarked back.new.marks u }
     ensures found { IfOk result (λ _. FindsIfNew (W.rows rows.old) index (row_of_kept row.now).first
         until back.old steps.old back.new steps.new) }
-    ensures others { ¬ Finds back.old.marks.items until (row_of_kept row.now).first
+    ensures others { ¬ Finds back.old.marks until (row_of_kept row.now).first
         → (back.new ≡ back.old) × (steps.new ≡ steps.old) × (rows.new ≡ rows.old) }
     ensures same { SameRows W.rows W.count W.known rows.old rows.new }
     ensures cause { IsWalkOver W.rows W.faults W.spent rows.old rows.new result }
@@ -144,11 +145,11 @@ fn take_source<W: Rows, L: Ledger>(
 }
 
 /// Whether the source of a row is found by it.
-fn is_found(marks: &[bool], row: &Row, until: Option<u64>) -> bool
+fn is_found(marks: &Marks, row: &Row, until: Option<u64>) -> bool
     requires ends { (row.now.from.0 < length marks.now) × (row.now.to.0 < length marks.now) }
     ensures { IsTrue result ↔ Finds marks.now until (row_of_kept row.now).first }
 {
-    marks[row.to.0 as usize] && !marks[row.from.0 as usize] && is_until(row, until)
+    marks.has(row.to) && !marks.has(row.from) && is_until(row, until)
 }
 
 /// Whether the first flow of a row is no later than a time.
@@ -171,18 +172,18 @@ fn find<W: Rows, L: Ledger>(
 ) -> Result<(), WalkFault>
     requires index { index < W.count rows.old }
     requires source { row.now.from.0 < W.known rows.old }
-    requires len { vec_len back.old.marks ≡ W.known rows.old }
+    requires len { length back.old.marks ≡ W.known rows.old }
     requires room { back.old.waiting.rows ≡ W.count rows.old }
-    ensures len { vec_len back.new.marks ≡ vec_len back.old.marks }
+    ensures len { length back.new.marks ≡ length back.old.marks }
     ensures room { back.new.waiting.rows ≡ back.old.waiting.rows }
-    ensures marks { (u : ℕ) → IsMarked back.old.marks.items u → IsMarked back.new.marks.items u }
+    ensures marks { (u : ℕ) → IsMarked back.old.marks u → IsMarked back.new.marks u }
     ensures found { IfOk result (λ _. FindsAt (W.rows rows.old) index (row_of_kept row.now).first
         back.old steps.old back.new steps.new) }
     ensures same { SameRows W.rows W.count W.known rows.old rows.new }
     ensures cause { IsWalkOver W.rows W.faults W.spent rows.old rows.new result }
     ensures alike { W.alike rows.old rows.new }
 {
-    back.marks[row.from.0 as usize] = true;
+    back.marks.set(row.from);
     back.hops.push(row.first_flow())?;
     let link = last_into_before(rows, row.from, index, steps)?;
     back.waiting.put(link);

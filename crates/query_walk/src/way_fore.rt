@@ -3,7 +3,7 @@
 //! An object is reached at the place of a last flow into it. Then its rows are read, and their targets wait by the places
 //! of their last flows, if these come after it and the targets weren't reached yet. The object that waits at the least
 //! place is taken next.
-ghost use Rattle.std.specs.Prelude.{◌≡◌, ◌↔◌, ℕ, ◌<◌, ◌≤◌, length, IfOk, IfSome, IsTrue, OnOk, vec_len};
+ghost use Rattle.std.specs.Prelude.{◌≡◌, ◌↔◌, ℕ, ◌<◌, ◌≤◌, length, IfOk, IfSome, IsTrue, OnOk};
 ghost use Rattle.reach_model.specs.Flows.{place};
 ghost use Rattle.reach_model.specs.Marks.{IsMarked};
 ghost use Rattle.reach_model.specs.Numbers.{known as known_of};
@@ -19,7 +19,7 @@ ghost use Rattle.query_walk.specs.WayFore.{IsForeOver, ReachesAt, ReachesIfNew};
 use crate::arrivals::{Arrivals, is_after};
 use crate::fault::WalkFault;
 use crate::links::link_below;
-use crate::marks::only;
+use crate::marks::Marks;
 use flow_base::{EntityId, NoMemory};
 use reach_rows::{Row, Rows, Steps};
 use std::alloc::Global;
@@ -28,7 +28,7 @@ use std::sync::ledger::Ledger;
 /// What a walk forward has found: the objects that are reached, and the arrivals that wait.
 #[derive(Drop)]
 pub struct WayFore {
-    pub marks: Vec<bool>,
+    pub marks: Marks,
     pub waiting: Arrivals,
 }
 
@@ -41,13 +41,14 @@ pub fn walk_fore<W: Rows, L: Ledger>(
     steps: &mut Steps<L>,
 ) -> Result<WayFore, WalkFault>
     requires known { of.0 < W.known rows.old }
-    ensures len { IfOk result (λ fore. vec_len fore.marks ≡ W.known rows.old) }
-    ensures itself { IfOk result (λ fore. IsMarked fore.marks.items of.0) }
+    ensures len { IfOk result (λ fore. length fore.marks ≡ W.known rows.old) }
+    ensures itself { IfOk result (λ fore. IsMarked fore.marks of.0) }
     ensures exact { IfOk result (λ fore.
-        IsForeOver (W.rows rows.old) (W.known rows.old) of.0 since fore.marks.items) }
+        IsForeOver (W.rows rows.old) (W.known rows.old) of.0 since fore.marks) }
     ensures steps { IfOk result (λ fore.
-        CountsFromMarked (W.rows rows.old) fore.marks.items steps.old steps.new) }
+        CountsFromMarked (W.rows rows.old) fore.marks steps.old steps.new) }
     ensures lawful { IfOk result (λ _. IfSome (W.rows rows.old) AreRows) }
+    ensures told { IfSome (W.rows rows.old) (λ R. known_of (firsts R) ≡ W.known rows.old) }
     ensures same { SameRows W.rows W.count W.known rows.old rows.new }
     ensures cause { IsWalkOver W.rows W.faults W.spent rows.old rows.new result }
     ensures alike { W.alike rows.old rows.new }
@@ -70,11 +71,11 @@ fn begin_fore<W: Rows, L: Ledger>(
     steps: &mut Steps<L>,
 ) -> Result<WayFore, WalkFault>
     requires known { of.0 < W.known rows.old }
-    ensures len { IfOk result (λ fore. vec_len fore.marks ≡ W.known rows.old) }
-    ensures marks { IfOk result (λ fore. (v : ℕ) → IsMarked fore.marks.items v ↔ (v ≡ of.0)) }
+    ensures len { IfOk result (λ fore. length fore.marks ≡ W.known rows.old) }
+    ensures marks { IfOk result (λ fore. (v : ℕ) → IsMarked fore.marks v ↔ (v ≡ of.0)) }
     ensures below { IfOk result (λ fore. AreAtBelow (W.known rows.old) (IsDue fore.waiting)) }
     ensures waits { IfOk result (λ fore.
-        AddsOver (W.rows rows.old) fore.marks.items (λ _. ⊥) of.0 0 since (IsDue fore.waiting)) }
+        AddsOver (W.rows rows.old) fore.marks (λ _. ⊥) of.0 0 since (IsDue fore.waiting)) }
     ensures steps { IfOk result (λ _. CountsFrom (W.rows rows.old) of.0 steps.old steps.new) }
     ensures lawful { IfOk result (λ _. IfSome (W.rows rows.old) AreRows) }
     ensures told { IfSome (W.rows rows.old) (λ R. known_of (firsts R) ≡ W.known rows.old) }
@@ -82,7 +83,7 @@ fn begin_fore<W: Rows, L: Ledger>(
     ensures cause { IsWalkOver W.rows W.faults W.spent rows.old rows.new result }
     ensures alike { W.alike rows.old rows.new }
 {
-    let marks = only(alloc, of, rows.known())?;
+    let marks = Marks::only(alloc, of, rows.known())?;
     let mut waiting = Arrivals::new(alloc, rows.count())?;
     leave(&mut waiting, &marks, rows, of, None, since, steps)?;
     Ok(WayFore { marks, waiting })
@@ -97,12 +98,12 @@ fn arrive<W: Rows, L: Ledger>(
     steps: &mut Steps<L>,
 ) -> Result<(), WalkFault>
     requires known { at.1 < W.known rows.old }
-    requires len { vec_len fore.old.marks ≡ W.known rows.old }
-    ensures len { vec_len fore.new.marks ≡ vec_len fore.old.marks }
-    ensures marks { (u : ℕ) → IsMarked fore.old.marks.items u → IsMarked fore.new.marks.items u }
+    requires len { length fore.old.marks ≡ W.known rows.old }
+    ensures len { length fore.new.marks ≡ length fore.old.marks }
+    ensures marks { (u : ℕ) → IsMarked fore.old.marks u → IsMarked fore.new.marks u }
     ensures below { IfOk result (λ _. AreAtBelow (W.known rows.old) (IsDue fore.old.waiting)
         → AreAtBelow (W.known rows.old) (IsDue fore.new.waiting)) }
-    ensures again { IsMarked fore.old.marks.items at.1
+    ensures again { IsMarked fore.old.marks at.1
         → (fore.new ≡ fore.old) × (steps.new ≡ steps.old) }
     ensures first { IfOk result (λ _.
         ReachesIfNew (W.rows rows.old) at.0 at.1 since fore.old steps.old fore.new steps.new) }
@@ -110,7 +111,7 @@ fn arrive<W: Rows, L: Ledger>(
     ensures cause { IsWalkOver W.rows W.faults W.spent rows.old rows.new result }
     ensures alike { W.alike rows.old rows.new }
 {
-    if fore.marks[at.1 as usize] {
+    if fore.marks.has(EntityId(at.1)) {
         return Ok(());
     }
     reach(fore, rows, at, since, steps)
@@ -125,9 +126,9 @@ fn reach<W: Rows, L: Ledger>(
     steps: &mut Steps<L>,
 ) -> Result<(), WalkFault>
     requires known { at.1 < W.known rows.old }
-    requires len { vec_len fore.old.marks ≡ W.known rows.old }
-    ensures len { vec_len fore.new.marks ≡ vec_len fore.old.marks }
-    ensures marks { (u : ℕ) → IsMarked fore.old.marks.items u → IsMarked fore.new.marks.items u }
+    requires len { length fore.old.marks ≡ W.known rows.old }
+    ensures len { length fore.new.marks ≡ length fore.old.marks }
+    ensures marks { (u : ℕ) → IsMarked fore.old.marks u → IsMarked fore.new.marks u }
     ensures below { IfOk result (λ _. AreAtBelow (W.known rows.old) (IsDue fore.old.waiting)
         → AreAtBelow (W.known rows.old) (IsDue fore.new.waiting)) }
     ensures reached { IfOk result (λ _.
@@ -136,7 +137,7 @@ fn reach<W: Rows, L: Ledger>(
     ensures cause { IsWalkOver W.rows W.faults W.spent rows.old rows.new result }
     ensures alike { W.alike rows.old rows.new }
 {
-    fore.marks[at.1 as usize] = true;
+    fore.marks.set(EntityId(at.1));
     leave(
         &mut fore.waiting,
         &fore.marks,
@@ -153,7 +154,7 @@ fn reach<W: Rows, L: Ledger>(
 /// targets wait, unless they are marked.
 fn leave<W: Rows, L: Ledger>(
     waiting: &mut Arrivals,
-    marks: &[bool],
+    marks: &Marks,
     rows: &mut W,
     of: EntityId,
     after: Option<u64>,
@@ -185,7 +186,7 @@ fn leave<W: Rows, L: Ledger>(
 /// `since`.
 fn wait(
     waiting: &mut Arrivals,
-    marks: &[bool],
+    marks: &Marks,
     row: &Row,
     after: Option<u64>,
     since: Option<u64>,
@@ -194,7 +195,7 @@ fn wait(
     ensures { OnOk result (AddsLed marks.now (IsDue waiting.old) row.now.from.0 (place_after after)
         since (row_of_kept row.now).last (IsDue waiting.new)) }
 {
-    if !marks[row.to.0 as usize] && is_wanted(row, after, since) {
+    if !marks.has(row.to) && is_wanted(row, after, since) {
         waiting.put(row.last.at.place, row.to.0)?;
     }
     Ok(())

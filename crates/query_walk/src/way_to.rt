@@ -40,7 +40,7 @@ pub fn path<W: Rows, L: Ledger>(
         return Ok(Some(List::new(alloc)));
     }
     let back = walk_back(alloc, rows, to, until, steps)?;
-    if !back.marks[from.0 as usize] {
+    if !back.marks.has(from) {
         return Ok(None);
     }
     Ok(Some(trace(alloc, &back.hops, from)?))

@@ -27,17 +27,17 @@ loop-index-init g c =
     let all : (R : List Row) → rows ≡ Some R → length (firsts R) ≡ c.count-below.result = λ R e. (observed R e).all ∙ sym c.count-below.ensures.count in
     record {
       room = made.room;
-      len = omega (arith, made.len, back.marks.ok.0);
+      len = omega (arith, made.len);
       itself = (made.marks x).1 refl;
       observed = observed;
       low = omega (arith, c.count-below.ensures.count);
       exact = λ R e.
           let F = firsts R in
           let last = told (λ R. IsLastOf (firsts R) (Enters x) made.waits.0) _ made.waits.1 R e in
-          subst (λ n. IsBackAt F (g.W.Rows.known c.args.rows.now) n x c.args.until back.marks.items (Waits back.waiting) back.hops.items) (all R e)
-          (subst (λ hops. IsBackAt F (g.W.Rows.known c.args.rows.now) (length F) x c.args.until back.marks.items (Waits back.waiting) hops) (sym made.hops)
-          (begun F (g.W.Rows.known c.args.rows.now) x c.args.until back.marks.items (Waits back.waiting) made.waits.0 made.marks last made.waits.2));
-      steps = λ R e. let none : count_by (enters_marked back.marks.items) (drop c.count-below.result (firsts R)) ≡ 0 = ap (count_by (enters_marked back.marks.items)) (drop_all c.count-below.result (firsts R) (omega (arith, all R e))) in omega (arith, none);
+          subst (λ n. IsBackAt F (g.W.Rows.known c.args.rows.now) n x c.args.until back.marks (Waits back.waiting) back.hops.items) (all R e)
+          (subst (λ hops. IsBackAt F (g.W.Rows.known c.args.rows.now) (length F) x c.args.until back.marks (Waits back.waiting) hops) (sym made.hops)
+          (begun F (g.W.Rows.known c.args.rows.now) x c.args.until back.marks (Waits back.waiting) made.waits.0 made.marks last made.waits.2));
+      steps = λ R e. let none : count_by (enters_marked back.marks) (drop c.count-below.result (firsts R)) ≡ 0 = ap (count_by (enters_marked back.marks)) (drop_all c.count-below.result (firsts R) (omega (arith, all R e))) in omega (arith, none);
       same = (refl, refl, refl);
       later = omega arith;
       stays = λ s. s;
@@ -57,7 +57,7 @@ loop-index-preserved g c =
     let t = c.args.until in
     record {
       room = took.room ∙ i.room;
-      len = omega (arith, i.len, took.len, new.marks.ok.0, back.marks.ok.0);
+      len = omega (arith, i.len, took.len);
       itself = took.marks x i.itself;
       observed = i.observed;
       low = omega (arith, i.low, next.low);
@@ -66,16 +66,16 @@ loop-index-preserved g c =
           let observed = i.observed R e in
           let b = i.exact R e in
           let m = g.W.Rows.known c.loop-index.rows in
-          let taken = told (λ R. (v : ℕ) → Waits back.waiting k → IsBackAt (firsts R) m (k + 1) v t back.marks.items (Waits back.waiting) back.hops.items → IsBackAt (firsts R) m k v t new.marks.items (Waits new.waiting) new.hops.items) _ took.exact R (i.same.0 ∙ e) in
-          subst (λ m. IsBackAt F m k x t new.marks.items (Waits new.waiting) new.hops.items) i.same.2 (taken x next.waited (subst (λ m. IsBackAt F m (k + 1) x t back.marks.items (Waits back.waiting) back.hops.items) (sym i.same.2)
-          (advanced F observed.lawful.ascend n x t observed.targets back.marks.items c.loop-index.below (omega (arith, observed.all, i.low)) (Waits back.waiting) back.hops.items b k next)));
+          let taken = told (λ R. (v : ℕ) → Waits back.waiting k → IsBackAt (firsts R) m (k + 1) v t back.marks (Waits back.waiting) back.hops.items → IsBackAt (firsts R) m k v t new.marks (Waits new.waiting) new.hops.items) _ took.exact R (i.same.0 ∙ e) in
+          subst (λ m. IsBackAt F m k x t new.marks (Waits new.waiting) new.hops.items) i.same.2 (taken x next.waited (subst (λ m. IsBackAt F m (k + 1) x t back.marks (Waits back.waiting) back.hops.items) (sym i.same.2)
+          (advanced F observed.lawful.ascend n x t observed.targets back.marks c.loop-index.below (omega (arith, observed.all, i.low)) (Waits back.waiting) back.hops.items b k next)));
       steps = λ R e.
           let F = firsts R in
           let observed = i.observed R e in
           let b = i.exact R e in
-          let taken = told (λ R. ((d : Flow) → IsMarked back.marks.items (target (get_or (firsts R) k d))) → c.take_row.new.steps + count_by (enters_marked back.marks.items) (drop (k + 1) (firsts R)) ≡ c.loop-index.steps + count_by (enters_marked new.marks.items) (drop k (firsts R))) _ took.steps R (i.same.0 ∙ e)
+          let taken = told (λ R. ((d : Flow) → IsMarked back.marks (target (get_or (firsts R) k d))) → c.take_row.new.steps + count_by (enters_marked back.marks) (drop (k + 1) (firsts R)) ≡ c.loop-index.steps + count_by (enters_marked new.marks) (drop k (firsts R))) _ took.steps R (i.same.0 ∙ e)
           (λ d. b.only k d next.waited next.low) in
-          let same = advanced_count F observed.lawful.ascend n x t observed.targets back.marks.items c.loop-index.below (omega (arith, observed.all, i.low)) (Waits back.waiting) back.hops.items b k next in
+          let same = advanced_count F observed.lawful.ascend n x t observed.targets back.marks c.loop-index.below (omega (arith, observed.all, i.low)) (Waits back.waiting) back.hops.items b k next in
           omega (arith, taken, same, i.steps R e);
       same = (took.same.0 ∙ i.same.0, took.same.1 ∙ i.same.1, took.same.2 ∙ i.same.2);
       later = omega (arith, i.later, took.cause.later);
@@ -88,16 +88,16 @@ returns-clause-exact g c =
     let i = c.loop-index.invariant in
     let back = c.loop-index.back in
     let n = g.W.Rows.known c.args.rows.now in
-    if_told (λ R. IsBack (firsts R) n c.args.of.0 c.args.until back.marks.items back.hops.items) (g.W.Rows.rows c.args.rows.now) (λ R e.
+    if_told (λ R. IsBack (firsts R) n c.args.of.0 c.args.until back.marks back.hops.items) (g.W.Rows.rows c.args.rows.now) (λ R e.
     let observed = i.observed R e in
-    ended (firsts R) observed.lawful.ascend n c.args.of.0 c.args.until observed.targets back.marks.items c.loop-index.below (omega (arith, observed.all, i.low)) (Waits back.waiting) back.hops.items (i.exact R e) c.in_default.ensures.none)
+    ended (firsts R) observed.lawful.ascend n c.args.of.0 c.args.until observed.targets back.marks c.loop-index.below (omega (arith, observed.all, i.low)) (Waits back.waiting) back.hops.items (i.exact R e) c.in_default.ensures.none)
 
 pub returns-clause-steps : goal.returns-clause-steps
 returns-clause-steps g c =
     let i = c.loop-index.invariant in
     let back = c.loop-index.back in
     let n = g.W.Rows.known c.args.rows.now in
-    if_told (λ R. c.loop-index.steps ≡ c.args.steps.now + count_by (enters_marked back.marks.items) (firsts R)) (g.W.Rows.rows c.args.rows.now) (λ R e.
+    if_told (λ R. c.loop-index.steps ≡ c.args.steps.now + count_by (enters_marked back.marks) (firsts R)) (g.W.Rows.rows c.args.rows.now) (λ R e.
     let observed = i.observed R e in
-    let same = ended_count (firsts R) observed.lawful.ascend n c.args.of.0 c.args.until observed.targets back.marks.items c.loop-index.below (omega (arith, observed.all, i.low)) (Waits back.waiting) back.hops.items (i.exact R e) c.in_default.ensures.none in
+    let same = ended_count (firsts R) observed.lawful.ascend n c.args.of.0 c.args.until observed.targets back.marks c.loop-index.below (omega (arith, observed.all, i.low)) (Waits back.waiting) back.hops.items (i.exact R e) c.in_default.ensures.none in
     omega (arith, i.steps R e, same))

@@ -13,12 +13,12 @@ use Rattle.query_walk.proofs.way_back.walk_back.Given as goal
 abbrev pub invariant-loop-index : goal.invariant-loop-index
 invariant-loop-index g l = record {
   room : l.back.waiting.rows ≡ g.W.Rows.count l.initial.rows;
-  len : length l.back.marks.items ≡ g.W.Rows.known l.initial.rows;
-  itself : IsMarked l.back.marks.items l.fn.of.0;
+  len : length l.back.marks ≡ g.W.Rows.known l.initial.rows;
+  itself : IsMarked l.back.marks l.fn.of.0;
   observed : (R : List Row) → g.W.Rows.rows l.initial.rows ≡ Some R → AreObserved R (g.W.Rows.count l.initial.rows) (g.W.Rows.known l.initial.rows);
   low : l.below ≤ g.W.Rows.count l.initial.rows;
-  exact : (R : List Row) → g.W.Rows.rows l.initial.rows ≡ Some R → IsBackAt (firsts R) (g.W.Rows.known l.initial.rows) l.below l.fn.of.0 l.until l.back.marks.items (Waits l.back.waiting) l.back.hops.items;
-  steps : (R : List Row) → g.W.Rows.rows l.initial.rows ≡ Some R → l.steps ≡ l.initial.steps + count_by (enters_marked l.back.marks.items) (drop l.below (firsts R));
+  exact : (R : List Row) → g.W.Rows.rows l.initial.rows ≡ Some R → IsBackAt (firsts R) (g.W.Rows.known l.initial.rows) l.below l.fn.of.0 l.until l.back.marks (Waits l.back.waiting) l.back.hops.items;
+  steps : (R : List Row) → g.W.Rows.rows l.initial.rows ≡ Some R → l.steps ≡ l.initial.steps + count_by (enters_marked l.back.marks) (drop l.below (firsts R));
   same : SameRows g.W.Rows.rows g.W.Rows.count g.W.Rows.known l.initial.rows l.rows;
   later : g.W.Rows.faults l.initial.rows ≤ g.W.Rows.faults l.rows;
   stays : g.W.Rows.spent l.initial.rows → g.W.Rows.spent l.rows;

@@ -1,4 +1,4 @@
-use Rattle.std.proofs.Common.{List, Bool, subst, inl, inr}
+use Rattle.std.proofs.Common.{inl, inr}
 use Rattle.reach_model.specs.Rows.{lasts}
 use Rattle.query_walk.specs.Arrivals.{AddsAllLed, AddsOver, IsDue}
 use Rattle.query_walk.proofs.Told.{told, if_told}
@@ -10,13 +10,13 @@ returns-clause-below g c = c.in_ok-leave.ensures.below (λ a m. absurd (c.in_ok-
 pub returns-clause-waits : goal.returns-clause-waits
 returns-clause-waits g c =
     let rows = g.W.Rows.rows c.args.rows.now in
-    let marks = c.in_ok-marks.marks.items in
+    let marks = c.in_ok-marks.marks in
     let x = c.args.of.0 in
     let s = c.args.since in
     let none = c.in_ok-waiting.ensures in
     let old = IsDue c.in_ok-waiting.waiting in
     let new = IsDue c.leave.new.waiting in
-    let exact : AddsOver rows marks old x 0 s new = subst (λ (m : List Bool). AddsOver rows m old x 0 s new) c.deref.ensures.value c.in_ok-leave.ensures.exact in
+    let exact : AddsOver rows marks old x 0 s new = c.in_ok-leave.ensures.exact in
     if_told (λ R. AddsAllLed marks (λ _. ⊥) x 0 s (lasts R) new) rows (λ R e a.
     let led = told (λ R. AddsAllLed marks old x 0 s (lasts R) new) rows exact R e a in (
       λ m. elim (led.0 m) [ inl was ↦ absurd (none a was) | inr f ↦ inr f ],

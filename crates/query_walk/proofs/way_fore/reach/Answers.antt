@@ -1,7 +1,7 @@
-use Rattle.std.proofs.Common.{◌≡◌, ◌+◌, List, Bool, true, set, subst, refl}
+use Rattle.std.proofs.Common.{◌≡◌, ◌+◌}
 use Rattle.std.specs.List.{count_by}
 use Rattle.reach_model.specs.Rows.{firsts, lasts}
-use Rattle.query_walk.specs.Arrivals.{AddsAllLed, AddsOver, IsDue}
+use Rattle.query_walk.specs.Arrivals.{AddsAllLed, IsDue}
 use Rattle.query_walk.specs.Links.{leaves}
 use Rattle.query_walk.specs.WayFore.{IsReached}
 use Rattle.query_walk.proofs.Told.{told, if_told}
@@ -15,10 +15,9 @@ returns-clause-reached g c =
     let object = c.args.at.1 in
     let s = c.args.since in
     let left = c.leave.new.waiting in
-    let marks = set old.marks.items object true in
-    if_told (λ R. IsReached R at object s old.marks.items (IsDue old.waiting) c.args.steps.now marks (IsDue left) c.leave.new.steps) rows (λ R e. record {
-      marks_it = refl;
-      joins = told (λ R. AddsAllLed marks (IsDue old.waiting) object (at + 1) s (lasts R) (IsDue left)) rows
-          (subst (λ (m : List Bool). AddsOver rows m (IsDue old.waiting) object (at + 1) s (IsDue left)) c.deref.ensures.value c.in_ok-leave.ensures.exact) R e;
+    let marks = c.set.new.self in
+    if_told (λ R. IsReached R at object s old.marks (IsDue old.waiting) c.args.steps.now marks (IsDue left) c.leave.new.steps) rows (λ R e. record {
+      marks_it = c.set.ensures;
+      joins = told (λ R. AddsAllLed marks (IsDue old.waiting) object (at + 1) s (lasts R) (IsDue left)) rows c.in_ok-leave.ensures.exact R e;
       read = told (λ R. c.leave.new.steps ≡ c.args.steps.now + count_by (leaves object) (firsts R)) rows c.in_ok-leave.ensures.steps R e;
     })

@@ -26,14 +26,14 @@ loop-next-init g c =
     let fore = c.in_ok-fore.fore in
     let made = c.in_ok-fore.ensures in
     record {
-      len = omega (arith, made.len, fore.marks.ok.0);
+      len = omega (arith, made.len);
       itself = (made.marks x).1 refl;
       observed = λ R e. let long : length R ≡ length (firsts R) = simp length-map refl in are_observed R (length (firsts R)) n (told AreRows rows made.lawful R e) long (told (λ R. known (firsts R) ≡ n) rows made.told R e);
       below = made.below;
-      exact = λ R e. fore_begun (lasts R) n x s fore.marks.items (IsDue fore.waiting) made.marks (told (λ R. (a : Arrival) → IsDue fore.waiting a ↔ (⊥ ⊎ ((f : Flow) × Contains (lasts R) f × LeadsOn fore.marks.items x 0 s f a))) rows made.waits R e);
+      exact = λ R e. fore_begun (lasts R) n x s fore.marks (IsDue fore.waiting) made.marks (told (λ R. (a : Arrival) → IsDue fore.waiting a ↔ (⊥ ⊎ ((f : Flow) × Contains (lasts R) f × LeadsOn fore.marks x 0 s f a))) rows made.waits R e);
       steps = λ R e.
           let took = told (λ R. c.begin_fore.new.steps ≡ c.args.steps.now + count_by (leaves x) (firsts R)) rows made.steps R e in
-          let same = count_only_out fore.marks.items x made.marks (firsts R) in
+          let same = count_only_out fore.marks x made.marks (firsts R) in
           omega (arith, took, same);
       same = made.same;
       later = made.cause.later;
@@ -56,7 +56,7 @@ loop-next-preserved g c =
     let s = c.args.since in
     let old = c.loop-next.fore in
     let new = c.arrive.new.fore in
-    let M = old.marks.items in
+    let M = old.marks in
     let b = place_after c.loop-next.after in
     let p = c.in-Some.next.0 in
     let y = c.in-Some.next.1 in
@@ -66,7 +66,7 @@ loop-next-preserved g c =
     let took = c.in_ok-arrive.ensures in
     let low : y < length M = (let l = i.below (arrival p y) next.waited in omega (arith, l, i.len)) in
     record {
-      len = omega (arith, i.len, took.len, new.marks.ok.0, old.marks.ok.0);
+      len = omega (arith, i.len, took.len);
       itself = took.marks x i.itself;
       observed = i.observed;
       below = subst (λ k. AreAtBelow k (IsDue left) → AreAtBelow k (IsDue new.waiting)) i.same.2 took.below (λ a m. i.below a (stay.no_more a m));
@@ -74,20 +74,20 @@ loop-next-preserved g c =
           let F = lasts R in
           let observed = i.observed R e in
           elim (cases_Bool (get_or M y false)) [
-            | inl m ↦ subst (λ (w : WayFore). IsForeAt F n (p + 1) x s w.marks.items (IsDue w.waiting)) (sym (took.again m).0)
+            | inl m ↦ subst (λ (w : WayFore). IsForeAt F n (p + 1) x s w.marks (IsDue w.waiting)) (sym (took.again m).0)
                 (passed R (length (firsts R)) n observed x s b M (IsDue old.waiting) (i.exact R e) (arrival p y) (IsDue left) next stay m)
             | inr m ↦
-                let now = told (λ R. ¬ IsMarked M y → IsReached R p y s M (IsDue left) c.loop-next.steps new.marks.items (IsDue new.waiting) c.arrive.new.steps) _ took.first R (i.same.0 ∙ e) (λ t. false≢true (sym m ∙ t)) in
-                reached R (length (firsts R)) n observed x s b M (IsDue old.waiting) (i.exact R e) (arrival p y) (IsDue left) next stay (IsDue new.waiting) new.marks.items c.loop-next.steps c.arrive.new.steps low now
+                let now = told (λ R. ¬ IsMarked M y → IsReached R p y s M (IsDue left) c.loop-next.steps new.marks (IsDue new.waiting) c.arrive.new.steps) _ took.first R (i.same.0 ∙ e) (λ t. false≢true (sym m ∙ t)) in
+                reached R (length (firsts R)) n observed x s b M (IsDue old.waiting) (i.exact R e) (arrival p y) (IsDue left) next stay (IsDue new.waiting) new.marks c.loop-next.steps c.arrive.new.steps low now
           ];
       steps = λ R e. elim (cases_Bool (get_or M y false)) [
         | inl m ↦
             let same = took.again m in
-            let all = ap (λ (w : WayFore). count_by (leaves_marked w.marks.items) (firsts R)) same.0 in
+            let all = ap (λ (w : WayFore). count_by (leaves_marked w.marks) (firsts R)) same.0 in
             omega (arith, i.steps R e, same.1, all)
         | inr m ↦
             let not_yet : ¬ IsMarked M y = λ t. false≢true (sym m ∙ t) in
-            let now = told (λ R. ¬ IsMarked M y → IsReached R p y s M (IsDue left) c.loop-next.steps new.marks.items (IsDue new.waiting) c.arrive.new.steps) _ took.first R (i.same.0 ∙ e) not_yet in
+            let now = told (λ R. ¬ IsMarked M y → IsReached R p y s M (IsDue left) c.loop-next.steps new.marks (IsDue new.waiting) c.arrive.new.steps) _ took.first R (i.same.0 ∙ e) not_yet in
             let more = count_more_out M y low not_yet (firsts R) in
             let all = ap (λ (marks : List Bool). count_by (leaves_marked marks) (firsts R)) now.marks_it in
             omega (arith, i.steps R e, now.read, more, all)
@@ -103,5 +103,5 @@ returns-clause-exact g c =
     let i = c.loop-next.invariant in
     let n = g.W.Rows.known c.args.rows.now in
     let fore = c.loop-next.fore in
-    if_told (λ R. (v : ℕ) → v < n → IsMarked fore.marks.items v ↔ Fore (lasts R) c.args.of.0 c.args.since v) (g.W.Rows.rows c.args.rows.now) (λ R e.
-    fore_ended R (length (firsts R)) n (i.observed R e) c.args.of.0 c.args.since (place_after c.loop-next.after) fore.marks.items (IsDue fore.waiting) (i.exact R e) c.in_default.ensures.none)
+    if_told (λ R. (v : ℕ) → v < n → IsMarked fore.marks v ↔ Fore (lasts R) c.args.of.0 c.args.since v) (g.W.Rows.rows c.args.rows.now) (λ R e.
+    fore_ended R (length (firsts R)) n (i.observed R e) c.args.of.0 c.args.since (place_after c.loop-next.after) fore.marks (IsDue fore.waiting) (i.exact R e) c.in_default.ensures.none)
