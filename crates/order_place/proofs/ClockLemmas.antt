@@ -1,5 +1,5 @@
 -- The clock by what was seen.
-use Rattle.std.proofs.Common.{◌≡◌, ◌≤◌, ◌+◌, ◌==◌, ◌∙◌, arith, sym, refl, ap, ℕ, Bool, true, false, List, [], ◌∷◌, ◌++◌, Option, None, Some, max, min, subst, if◌then◌else◌}
+use Rattle.std.proofs.Common.{◌≡◌, ◌≤◌, ◌+◌, ◌==◌, ◌∙◌, arith, sym, refl, ap, ℕ, Bool, true, false, List, [], ◌∷◌, ◌++◌, Option, None, Some, max, subst, if◌then◌else◌}
 use Rattle.std.proofs.lemmas.Bool.Decides.{nat_tests}
 use Rattle.std.proofs.lemmas.Option.{same_Some}
 use Rattle.order_text.specs.Stamp.{Stamp}

@@ -8,13 +8,13 @@ use Rattle.order_place.specs.Nodes.{is_node, is_of}
 use Rattle.order_place.proofs.ClockLemmas.{by_test}
 use Rattle.order_place.proofs.NodeLemmas.{one_node}
 
-itself : (a : List ℕ) → is_node a a ≡ true
+pub itself : (a : List ℕ) → is_node a a ≡ true
 itself a = is_eq-slice_cmp a a ∙ (bytes_eq-Decides a a).1 refl
 
 turned_true : (a b : List ℕ) → is_node a b ≡ true → is_node b a ≡ true
 turned_true a b same = ap (λ (x : List ℕ). is_node b x) (one_node a b same) ∙ itself b
 
-turned : (a b : List ℕ) → is_node a b ≡ is_node b a
+pub turned : (a b : List ℕ) → is_node a b ≡ is_node b a
 turned a b = by_test (is_node a b)
     (λ same. same ∙ sym (turned_true a b same))
     (λ isnt. by_test (is_node b a)

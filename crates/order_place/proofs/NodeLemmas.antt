@@ -1,7 +1,5 @@
 -- What is known of each node.
-use Rattle.std.proofs.Common.{rules, ◌≡◌, ◌∙◌, arith, sym, refl, ap, ℕ, Bool, true, false, List, ◌∷◌, ◌++◌, Option, Some, subst, nat_cmp}
-use Rattle.std.specs.Prelude.{unwrap_or}
-use Rattle.std.specs.Map.{lookup}
+use Rattle.std.proofs.Common.{rules, ◌≡◌, ◌∙◌, arith, sym, refl, ap, ℕ, Bool, true, false, List, ◌∷◌, ◌++◌, subst, nat_cmp}
 use Rattle.std.specs.Ordering.{is_eq}
 use Rattle.std.specs.declared.cmp.Ordering.{Ordering}
 use Rattle.std.specs.declared.cmp.Ordering.TheVariants.{Less, Equal, Greater}
@@ -14,27 +12,8 @@ use Rattle.order_place.specs.declared.slot.Slot.{Slot}
 use Rattle.order_place.specs.Clocks.{others_at}
 use Rattle.order_place.specs.Places.{Seen, SeesNext, Forgets, node_of, is_boot, read_as}
 use Rattle.order_place.specs.Sights.{Sight, Saw, Wrote, Started, StandsFor}
-use Rattle.order_place.specs.Nodes.{AllSeen, is_node, none, fresh, booted, begun, node_at, Keeps, SeesOf, ForgetsOf, sights_of, seen_by, slot_of, StandsForAll}
+use Rattle.order_place.specs.Nodes.{AllSeen, is_node, none, booted, begun, node_at, SeesOf, ForgetsOf, sights_of, seen_by, slot_of, StandsForAll}
 use Rattle.order_place.proofs.ClockLemmas.{by_test, sees_on}
-
--- what is taken out leaves the others
-pub taken : (old inside : AllSeen) (nodes2 : List (List ℕ × Seen)) (name : List ℕ) → inside ≡ old
-    → ((other : List ℕ) → is_node name other ≡ false → lookup (is_node other) nodes2 ≡ lookup (is_node other) inside.nodes)
-    → (other : List ℕ) → is_node name other ≡ false → node_at (record inside { nodes = nodes2 }) other ≡ node_at old other
-taken old inside nodes2 name same moved other isnt =
-    ap (λ (o : Option Seen). unwrap_or o fresh) (moved other isnt) ∙ ap (λ (a : AllSeen). node_at a other) same
-
-pub kept : (old inside : AllSeen) (nodes2 : List (List ℕ × Seen)) (name : List ℕ) (node : Seen) → inside ≡ old
-    → lookup (is_node name) nodes2 ≡ Some node
-    → ((other : List ℕ) → is_node name other ≡ false → lookup (is_node other) nodes2 ≡ lookup (is_node other) inside.nodes)
-    → Keeps old (record inside { nodes = nodes2 }) name node
-kept old inside nodes2 name node same put moved = record {
-  compat = ap (λ (a : AllSeen). a.compat) same;
-  clock = ap (λ (a : AllSeen). a.clock) same;
-  last = ap (λ (a : AllSeen). a.last) same;
-  here = ap (λ (o : Option Seen). unwrap_or o fresh) put;
-  others = taken old inside nodes2 name same moved;
-}
 
 equal : (o : Ordering) → is_eq o ≡ true → o ≡ Equal
 equal Less e = absurd (cc e)

@@ -46,13 +46,18 @@ begun boots seen = if boots then booted seen else seen
 abbrev pub node_at : AllSeen → List ℕ → Seen
 node_at all name = unwrap_or (lookup (is_node name) all.nodes) fresh
 
--- this was seen of a node, and of the others what was seen before
-pub record Keeps (old new : AllSeen) (name : List ℕ) (node : Seen) : Type 0 where
+-- the name of the node at hand, which stands before the others
+abbrev pub name_of_first : List (List ℕ × Seen) → List ℕ
+name_of_first [] = []
+name_of_first (node ∷ others) = node.0
+
+-- the node of this name is at hand, and of each node the same was seen
+pub record TurnsTo (old new : AllSeen) (name : List ℕ) : Type 0 where
   pub compat : new.compat ≡ old.compat
   pub clock : new.clock ≡ old.clock
   pub last : new.last ≡ old.last
-  pub here : node_at new name ≡ node
-  pub others : (other : List ℕ) → is_node name other ≡ false → node_at new other ≡ node_at old other
+  pub here : name_of_first new.nodes ≡ name
+  pub each : (other : List ℕ) → node_at new other ≡ node_at old other
 
 -- the slot of a place
 abbrev pub slot_of : Place → Slot

@@ -9,6 +9,7 @@
 #![tactic(auto)]
 
 mod clock;
+mod events;
 mod laws;
 mod node;
 mod nodes;

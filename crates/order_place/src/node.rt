@@ -7,6 +7,7 @@ ghost use Rattle.order_place.specs.Nodes.{fresh, booted};
 ghost use Rattle.order_place.specs.Places.{call_at, own_time, SeesNext, Forgets, HoldsEvent, event_slot, first_slot, call_slot, calls_by, held_by, call_number, not_before, HoldsBack};
 
 use crate::clock::Clock;
+use crate::events::Events;
 use crate::slot::{Slot, fork_number};
 use audit_lex::UsedLine;
 use flow_base::NoMemory;
@@ -26,7 +27,7 @@ pub struct Node {
     clock: Clock,
     files: Files,
     calls: BTreeMap<u32, Slot>,
-    events: BTreeMap<(u64, u32), Slot>,
+    events: Events,
 }
 
 impl Model for Node {
@@ -38,7 +39,7 @@ impl Model for Node {
       clock = a.clock;
       files = a.files;
       calls = a.calls.entries;
-      events = a.events.entries;
+      events = a.events;
     } };
 }
 
@@ -52,7 +53,7 @@ impl Node {
             clock: Clock::new(),
             files: Files::new(alloc),
             calls: BTreeMap::new(alloc),
-            events: BTreeMap::new(alloc),
+            events: Events::new(alloc),
         }
     }
 
@@ -94,7 +95,7 @@ impl Node {
     pub fn forget(&mut self, ms: u64, serial: u32)
         ensures { Forgets self.old self.new (ms, serial) }
     {
-        let _ = self.events.remove(&(ms, serial));
+        self.events.forget(ms, serial);
     }
 
     // Where the event of a line counts: where its first line does.
@@ -109,12 +110,11 @@ impl Node {
         ensures holds { OnOk result (HoldsEvent self.old self.new
             (stamp.now.ms, stamp.now.number) most call) }
     {
-        let key = (stamp.ms, stamp.number);
-        if let Some(slot) = self.events.get(&key) {
-            return Ok(*slot);
+        if let Some(slot) = self.events.get(stamp.ms, stamp.number) {
+            return Ok(slot);
         }
         let slot = self.first_slot(call, stamp.ms, stamp.number, most)?;
-        self.events.insert(key, slot)?;
+        self.events.put(stamp.ms, stamp.number, slot)?;
         Ok(slot)
     }
 
@@ -138,12 +138,13 @@ impl Node {
                 goes_by: serial,
             }),
             Some(call) => {
-                let slot = self.call_slot(call, ms, serial);
+                let before = self.call_before(call.pid);
+                let slot = self.call_slot(call, ms, serial, before);
                 let held = Slot {
                     time: slot.time.min(most),
                     goes_by: serial,
                 };
-                self.hold_back(call.pid, held)?;
+                self.hold_back(call.pid, held, before)?;
                 self.hold_child_back(call.child, held)?;
                 Ok(slot)
             }
@@ -157,16 +158,17 @@ impl Node {
     {
         match child {
             None => Ok(()),
-            Some(child) => self.hold_back(child, held),
+            Some(child) => self.hold_back(child, held, self.call_before(child)),
         }
     }
 
-    // The calls of a process count no earlier than this.
-    fn hold_back(&mut self, pid: u32, held: Slot) -> Result<(), NoMemory>
+    // The calls of a process count no earlier than this, nor than before.
+    fn hold_back(&mut self, pid: u32, held: Slot, before: Option<Slot>) -> Result<(), NoMemory>
+        requires { before ≡ call_at self.old pid }
         ensures holds { OnOk result (HoldsBack self.old self.new (Some pid) held) }
         ensures same { self.new ≡ record self.old { calls = self.new.calls } }
     {
-        let slot = held.later_of(self.call_before(pid));
+        let slot = held.later_of(before);
         self.calls.insert(pid, slot)?;
         Ok(())
     }
@@ -182,10 +184,10 @@ impl Node {
     }
 
     // Where a call counts: not before its entry, nor before the process's call before it.
-    fn call_slot(&self, call: Call, ms: u64, serial: u32) -> Slot
+    fn call_slot(&self, call: Call, ms: u64, serial: u32, before: Option<Slot>) -> Slot
+        requires { before ≡ call_at self.now call.pid }
         ensures { result ≡ call_slot self.now (ms, serial) call }
     {
-        let before = self.call_before(call.pid);
         let time = not_before(own_time(self.clock.time, ms, call.takes), before);
         Slot {
             time,

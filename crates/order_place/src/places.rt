@@ -1,10 +1,11 @@
 //! Places, by what was seen before.
-ghost use Rattle.std.specs.Prelude.{◌≡◌, ◌++◌, ℕ, List, [], Some, false, drop, option_map, IfOk, OnOk};
+ghost use Rattle.std.specs.Prelude.{◌≡◌, ◌++◌, ℕ, List, [], Some, false, drop, option_map, unwrap_or, IfOk, OnOk};
+ghost use Rattle.std.specs.Map.{lookup};
 ghost use Rattle.order_calls.specs.Reads.{IsRead};
 ghost use Rattle.order_text.specs.Seen.{stamp_seen};
 ghost use Rattle.order_text.specs.Stamp.{stamp_of, line_of};
 ghost use Rattle.order_place.specs.Places.{rank_of, node_of, is_boot, read_as, SeesNext};
-ghost use Rattle.order_place.specs.Nodes.{is_node, node_at, begun, HasPlace, Keeps, SeesLine, ForgetsOf, StandsForAll};
+ghost use Rattle.order_place.specs.Nodes.{is_node, fresh, begun, HasPlace, TurnsTo, SeesLine, ForgetsOf, StandsForAll};
 
 use crate::node::Node;
 use crate::nodes::Nodes;
@@ -15,6 +16,7 @@ use order_lines::{Settings, names_own, rewrite_of};
 use order_text::{Rewrite, Stamp, at_first, read_stamp};
 use std::alloc::Global;
 use std::marker::Model;
+use std::mem::replace;
 
 /// The place of a line: the time at which its event counts, and the serial number by which that goes among those of this time;
 /// the serial number, the time and the node of the event; its rank within that, which is 2 or 3 if the line is one that ends an
@@ -49,17 +51,21 @@ impl Place {
 }
 
 /// What was seen: the greatest time of a clock, what was seen of each node, and the place of the last line; and whether 32-bit
-/// calls are read as they are rewritten.
+/// calls are read as they are rewritten. The node at hand, that of the last line or forgotten event, stands apart from the others
+/// with its name.
 #[derive(Drop)]
 pub struct Places {
     alloc: Global,
     compat: bool,
     clock: u64,
-    nodes: Nodes<Node>,
+    name: Bytes,
+    node: Node,
+    others: Nodes<Node>,
     last: Place,
 }
 
 impl Model for Places {
+    ghost use Rattle.std.specs.Prelude.{◌∷◌};
     ghost use Rattle.order_place.specs.Nodes.{AllSeen};
 
     ghost Value = { AllSeen };
@@ -68,7 +74,7 @@ impl Model for Places {
       compat = a.compat;
       clock = a.clock;
       last = a.last;
-      nodes = a.nodes;
+      nodes = (a.name, a.node) ∷ a.others;
     } };
 }
 
@@ -83,7 +89,9 @@ impl Places {
             alloc,
             compat,
             clock: 0,
-            nodes: Nodes::new(alloc),
+            name: Bytes::new(alloc),
+            node: Node::new(alloc),
+            others: Nodes::new(alloc),
             last: Place {
                 time: 0,
                 goes_by: 0,
@@ -146,54 +154,57 @@ impl Places {
         ensures sees { OnOk result (SeesLine
             self.old self.new (Some (stamp_seen stamp.now)) line.now self.new.last) }
     {
-        let name = Bytes::from_slice(self.alloc, node_of(stamp.front))?;
-        let mut node = self.take_node(&name);
+        self.turn_to(node_of(stamp.front))?;
         let starts = is_boot(stamp.front);
-        start_if(&mut node, starts);
-        let slot = see_as(&mut node, self.alloc, self.compat, line, used, stamp)?;
-        self.clock = self.clock.max(node.clock());
+        start_if(&mut self.node, starts);
+        let slot = see_as(&mut self.node, self.alloc, self.compat, line, used, stamp)?;
+        self.clock = self.clock.max(self.node.clock());
         self.last = Place {
             time: slot.time,
             goes_by: slot.goes_by,
             serial: stamp.number,
             ms: stamp.ms,
-            node: name.copy()?,
+            node: self.name.copy()?,
             rank: rank_of(stamp),
             starts,
         };
-        self.keep_node(name, node)
+        Ok(())
     }
 
     /// The event was written, so its place is known no longer.
     pub fn forget(&mut self, name: Bytes, ms: u64, serial: u32) -> Result<(), NoMemory>
         ensures { OnOk result (ForgetsOf self.old self.new name (ms, serial)) }
     {
-        let mut node = self.take_node(&name);
-        node.forget(ms, serial);
-        self.keep_node(name, node)
-    }
-
-    // What was seen of a node, which is taken out.
-    fn take_node(&mut self, name: &Bytes) -> Node
-        ensures node { result ≡ node_at self.old name.now }
-        ensures others { (other : List ℕ) → is_node name.now other ≡ false
-            → node_at self.new other ≡ node_at self.old other }
-        ensures clock { self.new.clock ≡ self.old.clock }
-        ensures last { self.new.last ≡ self.old.last }
-        ensures compat { self.new.compat ≡ self.old.compat }
-    {
-        match self.nodes.take(name) {
-            Some(node) => node,
-            None => Node::new(self.alloc),
-        }
-    }
-
-    // What was seen of a node is put back.
-    fn keep_node(&mut self, name: Bytes, node: Node) -> Result<(), NoMemory>
-        ensures { OnOk result (Keeps self.old self.new name node) }
-    {
-        self.nodes.keep(name, node)?;
+        self.turn_to(name.as_slice())?;
+        self.node.forget(ms, serial);
         Ok(())
+    }
+
+    // The node of this name is the one at hand.
+    fn turn_to(&mut self, name: &[u8]) -> Result<(), NoMemory>
+        ensures { OnOk result (TurnsTo self.old self.new name.now) }
+    {
+        if self.name.as_slice() == name {
+            return Ok(());
+        }
+        let name = Bytes::from_slice(self.alloc, name)?;
+        let node = taken_of(&mut self.others, &name, self.alloc);
+        let name_before = replace(&mut self.name, name);
+        let node_before = replace(&mut self.node, node);
+        self.others.keep(name_before, node_before)?;
+        Ok(())
+    }
+}
+
+// What was seen of a node, which is taken out.
+fn taken_of(nodes: &mut Nodes<Node>, name: &Bytes, alloc: Global) -> Node
+    ensures node { result ≡ unwrap_or (lookup (is_node name.now) nodes.old) fresh }
+    ensures others { (other : List ℕ) → is_node name.now other ≡ false
+        → lookup (is_node other) nodes.new ≡ lookup (is_node other) nodes.old }
+{
+    match nodes.take(name) {
+        Some(node) => node,
+        None => Node::new(alloc),
     }
 }
 

@@ -7,4 +7,4 @@ use Rattle.order_place.proofs.node.Node.hold_back.Goals as goal
 pub returns-clause-holds : goal.returns-clause-holds
 returns-clause-holds c =
     held_back c.args.self.now _ c.insert.new.self.entries c.args.pid c.args.held c.later_of-slot.result c.self.view_is
-    (c.later_of-slot.ensures ∙ ap (λ (o : Option Slot). later_of c.args.held o) c.call_before.ensures) c.in_ok-insert.ensures.updates.0
+    (c.later_of-slot.ensures ∙ ap (λ (o : Option Slot). later_of c.args.held o) c.requires) c.in_ok-insert.ensures.updates.0
