@@ -1,4 +1,5 @@
 pub mod CutLemmas
 pub mod MarkLemmas
+pub mod StampLemmas
 pub mod UndoLemmas
 pub mod LineLemmas

@@ -29,7 +29,7 @@ number_bytes text n e = (tested (list_all is_stamp_byte text) (dec32_of text) n 
 
 -- ---- counts
 
-both : (a b : Bool) → a ≡ true → b ≡ true → (a && b) ≡ true
+pub both : (a b : Bool) → a ≡ true → b ≡ true → (a && b) ≡ true
 both a b e f = rw (e, f) refl
 
 digits_pass : (text : List ℕ) → AllDigits 10 text → are_digits 10 text ≡ true

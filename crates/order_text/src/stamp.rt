@@ -1,10 +1,9 @@
 //! The stamp of a line: its time and its serial number.
 ghost use Rattle.std.specs.Prelude.{◌≡◌, Some, option_map, IfSome};
-ghost use Rattle.std.specs.List.{list_all};
-ghost use Rattle.order_text.specs.Stamp.{ms_from, ms_of, time_of, number_of, ends_as_header, is_stamp_byte as stamp_byte, stamp_of, stamp_from};
+ghost use Rattle.order_text.specs.Stamp.{ms_from, ms_of, time_of, number_of, ends_as_header, stamp_of, stamp_from};
 ghost use Rattle.order_text.specs.Seen.{stamp_seen};
 
-use crate::cut::at_first;
+use crate::cut::{at_first, at_near};
 use audit_lex::{dec32, dec64};
 
 /// A line in parts, with the time in milliseconds and the serial number that the texts spell.
@@ -24,8 +23,8 @@ pub fn read_stamp(line: &[u8]) -> Option<Stamp<'_>>
     ensures time { IfSome result (λ stamp. time_of stamp.time.now ≡ Some stamp.ms) }
 {
     let (front, text) = at_first(b'(', line)?;
-    let (time, text) = at_first(b':', text)?;
-    let (serial, rest) = at_first(b')', text)?;
+    let (time, text) = at_near(b':', text)?;
+    let (serial, rest) = at_near(b')', text)?;
     if !ends_as_header(front) {
         return None;
     }
@@ -63,14 +62,12 @@ fn ends_as_header(front: &[u8]) -> bool
     front.len() >= 9 && &front[front.len() - 9..] == b"msg=audit".as_slice()
 }
 
-// The milliseconds that a text spells.
+// The milliseconds that a text spells. A text that spells some has only digits and dots, which needs no look of its own.
+#[tactic(auto, using(crate::proofs::StampLemmas::time_spelled))]
 fn time_in(text: &[u8]) -> Option<u64>
     ensures { result ≡ time_of text.now }
 {
-    if !are_stamp_bytes(text) {
-        return None;
-    }
-    let (seconds, millis) = at_first(b'.', text)?;
+    let (seconds, millis) = at_near(b'.', text)?;
     ms_in(seconds, millis)
 }
 
@@ -100,25 +97,10 @@ fn ms_with(seconds: Option<u64>, millis: Option<u32>) -> Option<u64>
     }
 }
 
-// The serial number that a text spells.
+// The serial number that a text spells. A text that spells one has only digits.
+#[tactic(auto, using(crate::proofs::StampLemmas::number_spelled))]
 fn number_in(text: &[u8]) -> Option<u32>
     ensures { result ≡ number_of text.now }
 {
-    if !are_stamp_bytes(text) {
-        return None;
-    }
     dec32(text)
-}
-
-// Whether nothing but digits and dots stands there.
-fn are_stamp_bytes(text: &[u8]) -> bool
-    ensures { result ≡ list_all stamp_byte text.now }
-{
-    text.iter().all(|byte| is_stamp_byte(*byte))
-}
-
-fn is_stamp_byte(byte: u8) -> bool
-    ensures { result ≡ stamp_byte byte }
-{
-    byte.is_ascii_digit() || byte == b'.'
 }
