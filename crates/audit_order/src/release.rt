@@ -96,7 +96,7 @@ impl Taker for Sorter {
         let read = read_line(&mut self.places, &mut self.kin, line.as_slice())?;
         release_before(self, sink, read.place.starts)?;
         make_room(self, sink, line.as_slice().len() as u64)?;
-        let noted = Noted::new(self.alloc, line, read.marks, read.note)?;
+        let noted = Noted::new(line, read.marks, read.note);
         hold(self, read.place, noted)?;
         release_past(self, sink)
     }

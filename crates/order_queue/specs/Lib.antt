@@ -1,4 +1,5 @@
 pub mod Queue
 pub mod Turned
 pub mod Order
+pub mod Total
 pub mod Marks

@@ -2,6 +2,7 @@
 //! line when it came waits with it.
 #![tactic(auto)]
 
+mod entry;
 mod marks;
 mod noted;
 mod queue;

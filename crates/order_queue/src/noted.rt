@@ -1,7 +1,7 @@
 //! A line with what was read of it when it came: where the parts of its stamp stand, and what the rules ask for.
 //!
 //! It is seen as its bytes alone, and compares as they do.
-ghost use Rattle.std.specs.Prelude.{◌≡◌, List, ℕ, Some, option_map, IfSome, IfOk, nat_eq};
+ghost use Rattle.std.specs.Prelude.{◌≡◌, List, ℕ, Some, option_map, IfSome, nat_eq};
 ghost use Rattle.std.specs.Ordering.{nat_cmp, as_partial_cmp};
 ghost use Rattle.std.specs.Cmp.Lexicographic.{pointwise, slice_cmp};
 ghost use Rattle.std.specs.Cmp.{partial_order_from_own_ties};
@@ -13,22 +13,15 @@ ghost use Rattle.order_rules.specs.Notes.{IsNoted};
 ghost use Rattle.order_queue.specs.Marks.{AreMarks};
 
 use crate::marks::{Marks, stamp_at};
-use flow_base::{Bytes, NoMemory};
+use flow_base::Bytes;
 use order_rules::Note;
 use order_text::Stamp;
-use std::alloc::Global;
 use std::cmp::Ordering;
 use std::marker::Model;
 
-/// A line with where the parts of its stamp stand, and with what was noted of it. It is boxed, since lines that wait are moved often.
+/// A line with where the parts of its stamp stand, and with what was noted of it.
 #[derive(Drop)]
 pub struct Noted {
-    parts: Box<Parts>,
-}
-
-// A line, where the parts of its stamp stand, and what was noted of it.
-#[derive(Drop)]
-struct Parts {
     line: Bytes,
     marks: Option<Marks>,
     note: Option<Note>,
@@ -41,33 +34,26 @@ impl Model for Noted {
 
     ghost Value = { List ℕ };
 
-    ghost view = { λ a. a.parts.value.line };
+    ghost view = { λ a. a.line };
 
-    ghost invariant = { λ a. AreMarks a.parts.value.marks a.parts.value.line
-        × IsNoted a.parts.value.note a.parts.value.line };
+    ghost invariant = { λ a. AreMarks a.marks a.line × IsNoted a.note a.line };
 }
 
 impl Noted {
     /// A line whose parts stand there, and of which this was noted.
-    pub fn new(
-        alloc: Global,
-        line: Bytes,
-        marks: Option<Marks>,
-        note: Option<Note>,
-    ) -> Result<Noted, NoMemory>
+    pub fn new(line: Bytes, marks: Option<Marks>, note: Option<Note>) -> Noted
         requires marks { AreMarks marks line }
         requires note { IsNoted note line }
-        ensures { IfOk result (λ noted. noted ≡ line) }
+        ensures { result ≡ line }
     {
-        let parts = Box::new(alloc, Parts { line, marks, note })?;
-        Ok(Noted { parts })
+        Noted { line, marks, note }
     }
 
     /// The line.
     pub fn as_slice(&self) -> &[u8]
         ensures { result.now ≡ self.now }
     {
-        self.parts.line.as_slice()
+        self.line.as_slice()
     }
 
     /// The stamp of the line.
@@ -75,14 +61,14 @@ impl Noted {
         ensures parts { option_map stamp_seen result ≡ stamp_of self.now }
         ensures time { IfSome result (λ stamp. time_of stamp.time.now ≡ Some stamp.ms) }
     {
-        stamp_at(self.parts.line.as_slice(), self.parts.marks)
+        stamp_at(self.line.as_slice(), self.marks)
     }
 
     /// What was noted of the line.
     pub fn note(&self) -> Option<Note>
         ensures { IsNoted result self.now }
     {
-        self.parts.note
+        self.note
     }
 }
 

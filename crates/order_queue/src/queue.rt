@@ -5,6 +5,7 @@ ghost use Rattle.std.specs.List.{All, list_any};
 ghost use Rattle.order_queue.specs.Queue.{bytes_of};
 ghost use Rattle.order_queue.specs.Order.{IsLeast};
 
+use crate::entry::Entry;
 use crate::waiting::Waiting;
 use flow_base::NoMemory;
 use std::alloc::Global;
@@ -15,8 +16,9 @@ use std::marker::Model;
 /// The lines that wait.
 #[derive(Drop)]
 pub struct Queue {
-    heap: BinaryHeap<Reverse<Waiting>>,
+    heap: BinaryHeap<Reverse<Entry>>,
     bytes: u64,
+    alloc: Global,
 }
 
 impl Model for Queue {
@@ -42,6 +44,7 @@ impl Queue {
         Queue {
             heap: BinaryHeap::new(alloc),
             bytes: 0,
+            alloc,
         }
     }
 
@@ -69,7 +72,8 @@ impl Queue {
         ensures err { OnErr result (self.new ≡ self.old) }
     {
         let more = item.line.as_slice().len() as u64;
-        self.heap.push(Reverse(item))?;
+        let entry = Entry::new(self.alloc, item)?;
+        self.heap.push(Reverse(entry))?;
         self.bytes += more;
         Ok(())
     }
@@ -83,7 +87,8 @@ impl Queue {
         ensures none { IfNone result (self.old.waits ≡ []) }
         ensures empty { IfNone result (self.new ≡ self.old) }
     {
-        let Reverse(item) = self.heap.pop()?;
+        let Reverse(entry) = self.heap.pop()?;
+        let item = entry.into_waiting();
         self.bytes -= item.line.as_slice().len() as u64;
         Some(item)
     }
@@ -95,7 +100,7 @@ impl Queue {
             (λ time. list_any (λ item. nat_eq time item.time) self.now.waits ≡ true) }
         ensures none { IfNone result (self.now.waits ≡ []) }
     {
-        let Reverse(item) = self.heap.peek()?;
-        Some(item.time)
+        let Reverse(entry) = self.heap.peek()?;
+        Some(entry.time())
     }
 }

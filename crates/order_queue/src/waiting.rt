@@ -1,12 +1,10 @@
-//! A line that waits, with its place.
+//! A line that waits, as it comes to the queue and leaves it.
 
 use crate::noted::Noted;
 use flow_base::Bytes;
 
-/// A line that waits. Lines are compared by their places: by the time at which their event counts, then by the number by which it
-/// goes among those of that time; then by its serial number, its own time and its node, so that the lines of an event stand
-/// together; then by rank, so that the lines that end an event stand last; then by the number of the line in the log.
-#[derive(Drop, PartialEq, Eq, PartialOrd, Ord)]
+/// A line that waits, with its place, whose parts stand in the order in which they are compared.
+#[derive(Drop)]
 pub struct Waiting {
     pub time: u64,
     pub goes_by: u32,

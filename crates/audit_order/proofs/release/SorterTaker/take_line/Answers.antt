@@ -32,7 +32,7 @@ returns-clause-takes g c = on_ok_two c.release_past.result c.release_past.ensure
       at = goes before (lines ++ line ∷ [])
           (comes before (g.O.Sink.written c.make_room.new.sink) held c.hold.new.sorter place line lines
           (λ starts. c.in_ok-make_room.ensures.none (c.in_ok-release_before.ensures.none starts)) room
-          (subst (Holds held c.hold.new.sorter place) c.in_ok-noted.ensures c.in_ok-hold.ensures.holds) fits);
+          (subst (Holds held c.hold.new.sorter place) c.new-noted.ensures c.in_ok-hold.ensures.holds) fits);
       past = subst (λ (b : Bounds). any_is_past b.window c.release_past.new.sorter.places.clock c.release_past.new.sorter.queue.waits ≡ false)
           (sym c.release_past.ensures.bounds) past;
     })
