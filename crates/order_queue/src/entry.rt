@@ -1,8 +1,8 @@
 //! A line that waits, as the heap keeps it: in 24 bytes, with the rest of it apart.
 ghost use Rattle.std.specs.Prelude.{◌≡◌, IfOk, refl};
-ghost use Rattle.std.specs.Ordering.{as_partial_cmp, eq_by_cmp};
+ghost use Rattle.std.specs.Ordering.{nat_cmp, ordering_then, as_partial_cmp, eq_by_cmp};
 ghost use Rattle.std.specs.Cmp.{partial_equiv_from_equiv, eq_by_cmp_equiv, partial_order_from_total};
-ghost use Rattle.order_queue.specs.Order.{place_cmp};
+ghost use Rattle.order_queue.specs.Order.{event_cmp, place_cmp};
 ghost use Rattle.order_queue.specs.Total.{place_total};
 
 use crate::noted::Noted;
@@ -106,6 +106,27 @@ impl Entry {
     {
         self.time
     }
+
+    // Which of two lines comes first whose events count at one time.
+    fn cmp_at_one_time(&self, other: &Entry) -> Ordering
+        ensures { result ≡ ordering_then
+            (nat_cmp self.now.goes_by other.now.goes_by) (event_cmp self.now other.now) }
+    {
+        match self.goes_by.cmp(&other.goes_by) {
+            Ordering::Equal => self.cmp_by_event(other),
+            order => order,
+        }
+    }
+
+    // Which of two lines comes first by their events, and within an event.
+    fn cmp_by_event(&self, other: &Entry) -> Ordering
+        ensures { result ≡ event_cmp self.now other.now }
+    {
+        match self.serial.cmp(&other.serial) {
+            Ordering::Equal => self.rest.cmp(&other.rest),
+            order => order,
+        }
+    }
 }
 
 impl PartialEq for Entry {
@@ -132,14 +153,9 @@ impl Ord for Entry {
     ghost matches_eq = { λ a b. refl };
 
     fn cmp(&self, other: &Entry) -> Ordering {
-        let order = self
-            .time
-            .cmp(&other.time)
-            .then(self.goes_by.cmp(&other.goes_by))
-            .then(self.serial.cmp(&other.serial));
-        match order {
-            Ordering::Equal => self.rest.cmp(&other.rest),
-            _ => order,
+        match self.time.cmp(&other.time) {
+            Ordering::Equal => self.cmp_at_one_time(other),
+            order => order,
         }
     }
 }
