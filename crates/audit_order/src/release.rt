@@ -113,7 +113,7 @@ fn release_all<O: Sink>(sorter: &mut Sorter, sink: &mut O) -> Result<(), Halt>
     ensures counts { GoesUp
         (O.faults sink.old) (O.faults sink.new) (O.spent sink.old) (O.spent sink.new) }
 {
-    while sorter.queue.len() > 0 {
+    while !sorter.queue.is_empty() {
         release_least(sorter, sink)?;
     }
     Ok(())

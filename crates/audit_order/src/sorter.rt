@@ -305,7 +305,7 @@ pub fn is_over(queue: &Queue, memory: u64, more: u64) -> bool
     ensures early { result ≡ false → HasRoom memory more queue.now.waits }
     ensures fits { result ≡ false → queue.now.bytes + more < 2 ^ 64 }
 {
-    queue.len() > 0 && (more > memory || queue.bytes() > memory - more)
+    !queue.is_empty() && (more > memory || queue.bytes() > memory - more)
 }
 
 /// Whether a line waits whose place is more than the window past.

@@ -1,6 +1,6 @@
 -- Which of two lines is taken first.
-use Rattle.std.specs.Prelude.{◌≡◌, false, List}
-use Rattle.std.specs.List.{All}
+use Rattle.std.specs.Prelude.{◌≡◌, ⊤, false, List, [], ◌∷◌}
+use Rattle.std.specs.List.{All, Contains}
 use Rattle.std.specs.declared.cmp.Ordering.{Ordering}
 use Rattle.std.specs.Ordering.{nat_cmp, ordering_then, is_lt}
 use Rattle.std.specs.Cmp.Lexicographic.{slice_cmp}
@@ -30,3 +30,22 @@ turned_cmp a b = place_cmp b.0 a.0
 -- none of these lines comes before this one
 abbrev pub IsLeast : Waiting → List Waiting → Type 0
 IsLeast item waits = All (λ other. is_lt (place_cmp other item) ≡ false) waits
+
+-- none of these lines comes after this one
+abbrev pub IsGreatest : Waiting → List Waiting → Type 0
+IsGreatest item waits = All (λ other. is_lt (place_cmp item other) ≡ false) waits
+
+-- each of these lines comes no later than those behind it
+abbrev pub AreInTurn : List Waiting → Type 0
+AreInTurn [] = ⊤
+AreInTurn (item ∷ rest) = IsLeast item rest × AreInTurn rest
+
+-- this is one of these lines, and none of them comes before it
+pub record IsFirst (item : Waiting) (waits : List Waiting) : Type 0 where
+  pub one : Contains waits item
+  pub least : IsLeast item waits
+
+-- the first of some lines comes no later than each of the others
+pub record Leads (some others : List Waiting) : Type 0 where
+  pub each : (item : Waiting) → IsFirst item some → IsLeast item others
+  pub none : some ≡ [] → others ≡ []

@@ -1,6 +1,6 @@
 //! A line that waits, as the heap keeps it: in 24 bytes, with the rest of it apart.
-ghost use Rattle.std.specs.Prelude.{◌≡◌, IfOk, refl};
-ghost use Rattle.std.specs.Ordering.{nat_cmp, ordering_then, as_partial_cmp, eq_by_cmp};
+ghost use Rattle.std.specs.Prelude.{◌≡◌, true, false, IfOk, refl};
+ghost use Rattle.std.specs.Ordering.{nat_cmp, ordering_then, is_lt, as_partial_cmp, eq_by_cmp};
 ghost use Rattle.std.specs.Cmp.{partial_equiv_from_equiv, eq_by_cmp_equiv, partial_order_from_total};
 ghost use Rattle.order_queue.specs.Order.{event_cmp, place_cmp};
 ghost use Rattle.order_queue.specs.Total.{place_total};
@@ -167,5 +167,16 @@ impl PartialOrd for Entry {
 
     fn partial_cmp(&self, other: &Entry) -> Option<Ordering> {
         Some(self.cmp(other))
+    }
+}
+
+/// Whether a line comes no later than another one.
+pub fn is_no_later(one: &Entry, other: &Entry) -> bool
+    ensures yes { result ≡ true → is_lt (place_cmp other.now one.now) ≡ false }
+    ensures no { result ≡ false → is_lt (place_cmp one.now other.now) ≡ false }
+{
+    match one.cmp(other) {
+        Ordering::Greater => false,
+        _ => true,
     }
 }

@@ -3,9 +3,11 @@
 #![tactic(auto)]
 
 mod entry;
+mod heap;
 mod marks;
 mod noted;
 mod queue;
+mod row;
 mod waiting;
 
 pub use marks::{Marks, marks_of};

@@ -1,39 +1,37 @@
 //! The queue of the lines that wait.
-ghost use Rattle.std.specs.Prelude.{◌≡◌, true, nat_eq, ◌+◌, ◌<◌, ◌≤◌, ◌^◌, [], ◌∷◌, length, OnOk, OnErr, IfSome, IfNone, IsPermutation};
-ghost use Rattle.std.specs.Option.{option_map};
+//!
+//! Nearly all lines come in the order of their places, and wait in a row. Those that don't wait in a heap.
+ghost use Rattle.std.specs.Prelude.{◌≡◌, true, false, nat_eq, ◌+◌, ◌++◌, ◌<◌, ◌≤◌, ◌^◌, [], ◌∷◌, length, OnOk, OnErr, IfSome, IfNone, IsPermutation};
 ghost use Rattle.std.specs.List.{All, list_any};
 ghost use Rattle.order_queue.specs.Queue.{bytes_of};
-ghost use Rattle.order_queue.specs.Order.{IsLeast};
+ghost use Rattle.order_queue.specs.Order.{IsLeast, IsFirst, Leads};
 
-use crate::entry::Entry;
+use crate::entry::{Entry, is_no_later};
+use crate::heap::Heap;
+use crate::row::Row;
 use crate::waiting::Waiting;
 use flow_base::NoMemory;
 use std::alloc::Global;
-use std::cmp::Reverse;
-use std::collections::BinaryHeap;
 use std::marker::Model;
 
 /// The lines that wait.
 #[derive(Drop)]
 pub struct Queue {
-    heap: BinaryHeap<Reverse<Entry>>,
+    row: Row,
+    heap: Heap,
     bytes: u64,
     alloc: Global,
 }
 
 impl Model for Queue {
-    ghost use Rattle.std.specs.Prelude.{◌≡◌, map};
-    ghost use Rattle.std.specs.BinaryHeap.{IsHeap, heap_items};
+    ghost use Rattle.std.specs.Prelude.{◌≡◌, ◌++◌};
     ghost use Rattle.order_queue.specs.Queue.{Held, bytes_of};
-    ghost use Rattle.order_queue.specs.Order.{turned_cmp};
-    ghost use Rattle.order_queue.specs.Turned.{turned};
 
     ghost Value = { Held };
 
-    ghost view = { λ a. record { waits = map turned (heap_items a.heap); bytes = a.bytes } };
+    ghost view = { λ a. record { waits = a.row ++ a.heap; bytes = a.bytes } };
 
-    ghost invariant = { λ a. (a.bytes ≡ bytes_of (map turned (heap_items a.heap)))
-        × IsHeap turned_cmp (heap_items a.heap) };
+    ghost invariant = { λ a. a.bytes ≡ bytes_of (a.row ++ a.heap) };
 }
 
 impl Queue {
@@ -42,7 +40,8 @@ impl Queue {
         ensures { result ≡ record { waits = []; bytes = 0 } }
     {
         Queue {
-            heap: BinaryHeap::new(alloc),
+            row: Row::new(alloc),
+            heap: Heap::new(alloc),
             bytes: 0,
             alloc,
         }
@@ -56,12 +55,13 @@ impl Queue {
         self.bytes
     }
 
-    /// How many lines wait.
-    pub fn len(&self) -> usize
-        ensures count { result ≡ length self.now.waits }
-        ensures none { result ≡ 0 → self.now.bytes ≡ 0 }
+    /// Whether no line waits.
+    pub fn is_empty(&self) -> bool
+        ensures some { result ≡ false → 0 < length self.now.waits }
+        ensures none { result ≡ true → self.now.waits ≡ [] }
+        ensures bytes { result ≡ true → self.now.bytes ≡ 0 }
     {
-        self.heap.len()
+        self.row.is_empty() && self.heap.is_empty()
     }
 
     /// Adds a line. If allocation fails, nothing has changed and the line is lost.
@@ -73,7 +73,7 @@ impl Queue {
     {
         let more = item.line.as_slice().len() as u64;
         let entry = Entry::new(self.alloc, item)?;
-        self.heap.push(Reverse(entry))?;
+        put(&mut self.row, &mut self.heap, entry)?;
         self.bytes += more;
         Ok(())
     }
@@ -87,7 +87,7 @@ impl Queue {
         ensures none { IfNone result (self.old.waits ≡ []) }
         ensures empty { IfNone result (self.new ≡ self.old) }
     {
-        let Reverse(entry) = self.heap.pop()?;
+        let entry = pop_first(&mut self.row, &mut self.heap)?;
         let item = entry.into_waiting();
         self.bytes -= item.line.as_slice().len() as u64;
         Some(item)
@@ -100,7 +100,59 @@ impl Queue {
             (λ time. list_any (λ item. nat_eq time item.time) self.now.waits ≡ true) }
         ensures none { IfNone result (self.now.waits ≡ []) }
     {
-        let Reverse(entry) = self.heap.peek()?;
+        let entry = first_of(&self.row, &self.heap)?;
         Some(entry.time())
+    }
+}
+
+// Puts a line into the row, if it comes no earlier than those in it, and else into the heap.
+fn put(row: &mut Row, heap: &mut Heap, entry: Entry) -> Result<(), NoMemory>
+    ensures ok { OnOk result
+        (IsPermutation (entry ∷ (row.old ++ heap.old)) (row.new ++ heap.new)) }
+    ensures err { OnErr result ((row.new ≡ row.old) × (heap.new ≡ heap.old)) }
+{
+    if row.may_end_with(&entry) {
+        row.push(entry)
+    } else {
+        heap.push(entry)
+    }
+}
+
+// Takes the line of the least place.
+fn pop_first(row: &mut Row, heap: &mut Heap) -> Option<Entry>
+    ensures least { IfSome result (λ entry. IsLeast entry (row.new ++ heap.new)) }
+    ensures some { IfSome result (λ entry.
+        IsPermutation (row.old ++ heap.old) (entry ∷ (row.new ++ heap.new))) }
+    ensures none { IfNone result (row.old ++ heap.old ≡ []) }
+    ensures empty { IfNone result ((row.new ≡ row.old) × (heap.new ≡ heap.old)) }
+{
+    if row_leads(row, heap) {
+        row.pop()
+    } else {
+        heap.pop()
+    }
+}
+
+// The line of the least place.
+fn first_of<'a>(row: &'a Row, heap: &'a Heap) -> Option<&'a Entry>
+    ensures first { IfSome result (λ entry. IsFirst entry.now (row.now ++ heap.now)) }
+    ensures none { IfNone result (row.now ++ heap.now ≡ []) }
+{
+    if row_leads(row, heap) {
+        row.first()
+    } else {
+        heap.first()
+    }
+}
+
+// Whether the first of the row comes no later than each of the heap. Otherwise the first of the heap does so.
+fn row_leads(row: &Row, heap: &Heap) -> bool
+    ensures yes { result ≡ true → Leads row.now heap.now }
+    ensures no { result ≡ false → Leads heap.now row.now }
+{
+    match (row.first(), heap.first()) {
+        (Some(one), Some(other)) => is_no_later(one, other),
+        (Some(_), None) => true,
+        (None, _) => false,
     }
 }
