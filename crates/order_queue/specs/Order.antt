@@ -35,7 +35,7 @@ IsLeast item waits = All (λ other. is_lt (place_cmp other item) ≡ false) wait
 abbrev pub IsGreatest : Waiting → List Waiting → Type 0
 IsGreatest item waits = All (λ other. is_lt (place_cmp item other) ≡ false) waits
 
--- each of these lines comes no later than those behind it
+-- each of these lines comes no later than those after it
 abbrev pub AreInTurn : List Waiting → Type 0
 AreInTurn [] = ⊤
 AreInTurn (item ∷ rest) = IsLeast item rest × AreInTurn rest

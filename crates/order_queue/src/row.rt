@@ -8,7 +8,7 @@ use std::alloc::Global;
 use std::collections::VecDeque;
 use std::marker::Model;
 
-/// Lines that wait, each of which comes no later than those behind it.
+/// Lines that wait, each of which comes no later than those after it.
 #[derive(Drop)]
 pub struct Row {
     entries: VecDeque<Entry>,
@@ -53,7 +53,7 @@ impl Row {
         }
     }
 
-    /// Puts a line behind the others.
+    /// Adds a line after the others.
     pub fn push(&mut self, entry: Entry) -> Result<(), NoMemory>
         requires { IsGreatest entry self.old }
         ensures ok { OnOk result (self.new ≡ self.old ++ entry ∷ []) }

@@ -4,7 +4,7 @@
 //! batch against all batches before it. The result are the kept rows (`StoreRows`), from which
 //! questions are answered and to which a reducer adds, and the rows from which tables are filled.
 //!
-//! The rows of a batch that was read don't stay in memory. What stays is where they stand on the disk,
+//! The kept rows of a batch that was read aren't held in memory. Held are their places on the disk,
 //! what is known of their objects, and the rows of tables. So a `Store` is a disk with its log, where its
 //! rows stand, and the rows since the last commit. A question reads the rows that it needs from the disk.
 //! A commit puts the rows since the last one on the disk, and from then on they are read from there too.
