@@ -1,7 +1,6 @@
-"""Whether no more clauses are wider than 100 columns than the number in .ci/wide-clauses says.
+"""Whether as many clauses are wider than 100 columns as the number in .ci/wide-clauses says, which is 0.
 
-A clause that doesn't fit speaks of a situation that has no name yet. The number only ever falls: whoever makes it smaller writes the smaller
-one into the file. Prints the widest ones if there are too many, and ends with status 1 then, or if the number is too large.
+Prints the widest ones if there are more, and ends with status 1 then, or if the number is too large.
 """
 import re
 import sys

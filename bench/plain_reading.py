@@ -175,12 +175,22 @@ def time_text(ms):
 
 # ---- calls and acts
 
-CALLS = {number: call for call, numbers in {
-    'Read': (0, 17, 19, 295, 327), 'Receive': (45, 47), 'Write': (1, 18, 20, 296, 328), 'Send': (44, 46), 'SendFile': (40,), 'Tee': (276,),
-    'Splice': (275, 326), 'Open': (2, 257, 437, 85), 'Close': (3,), 'Dup': (32,), 'Dup2': (33,), 'Dup3': (292,), 'Fcntl': (72,),
-    'Pair': (22, 293, 53), 'Socket': (41,), 'Bind': (49,), 'Connect': (42,), 'Accept': (43, 288), 'Exec': (59, 322), 'Fork': (57, 58, 435),
-    'Clone': (56,), 'Exit': (231,), 'Map': (9,), 'AlterPath': (76, 90, 92, 94, 260, 268), 'AlterFd': (77, 91, 93),
-    'Rename': (82, 86, 264, 265, 316), 'Remove': (87, 84, 263), 'MakePath': (83, 88, 133, 258, 259, 266)}.items() for number in numbers}
+# The calls of each kind: a call's name and number, and where its flags are, if it has any that its record shows.
+KINDS = {
+    'Read': 'read 0, pread64 17, readv 19, preadv 295, preadv2 327', 'Receive': 'recvfrom 45, recvmsg 47',
+    'Write': 'write 1, pwrite64 18, writev 20, pwritev 296, pwritev2 328', 'Send': 'sendto 44, sendmsg 46', 'SendFile': 'sendfile 40',
+    'Tee': 'tee 276', 'Splice': 'splice 275, copy_file_range 326', 'Open': 'open 2 a1, openat 257 a2, openat2 437, creat 85 0x200',
+    'Close': 'close 3', 'Dup': 'dup 32', 'Dup2': 'dup2 33', 'Dup3': 'dup3 292 a2', 'Fcntl': 'fcntl 72',
+    'Pair': 'pipe 22, pipe2 293 a1, socketpair 53 a1', 'Socket': 'socket 41 a1', 'Bind': 'bind 49', 'Connect': 'connect 42',
+    'Accept': 'accept 43, accept4 288 a3', 'Exec': 'execve 59, execveat 322', 'Fork': 'fork 57, vfork 58, clone3 435', 'Clone': 'clone 56 a0',
+    'Exit': 'exit_group 231', 'Map': 'mmap 9 a3',
+    'AlterPath': 'truncate 76, chmod 90, chown 92, lchown 94, fchownat 260, fchmodat 268', 'AlterFd': 'ftruncate 77, fchmod 91, fchown 93',
+    'Rename': 'rename 82, link 86, renameat 264, linkat 265, renameat2 316', 'Remove': 'unlink 87, rmdir 84, unlinkat 263',
+    'MakePath': 'mkdir 83, symlink 88, mknod 133, mkdirat 258, mknodat 259, symlinkat 266'}
+# The name, the kind and the place of the flags of each number.
+TABLE = {int(number): (name, kind, place[0] if place else None) for kind, calls in KINDS.items()
+         for name, number, *place in (call.split() for call in calls.split(', '))}
+CALLS = {number: kind for number, (_, kind, _) in TABLE.items()}
 OPENING = {'Open', 'Dup', 'Dup2', 'Dup3', 'Fcntl', 'Pair', 'Socket', 'Bind', 'Connect', 'Accept'}
 MAPPED = {
     'three': lambda number: CALLS.get(number) if number in (0, 1, 57) else None,
@@ -246,9 +256,14 @@ def acts_of(event, mapped):
     return ([see], True) if call is None else ([see] + further_acts(event, call, number), False)
 
 
+def flags_of(number, args):
+    place = TABLE[number][2]
+    return 0 if place is None else args[int(place[1])] if place.startswith('a') else int(place, 16)
+
+
 def further_acts(e, call, number):
-    pid, fd, a = e.pid, e.fd, e.args
-    closes = lambda flags: bool(flags & 0x80000)
+    pid, fd, a, flags = e.pid, e.fd, e.args, flags_of(number, e.args)
+    closes = lambda word: bool(word & 0x80000)
     reads = lambda thing, how='read': ('move', pid, True, how, thing)
     writes = lambda thing, how='write': ('move', pid, False, how, thing)
     at_address = lambda: ('address', e.address) if e.address is not None else descriptor(fd(0))
@@ -268,7 +283,6 @@ def further_acts(e, call, number):
     if call == 'Open':
         if e.new is None:
             return []
-        flags = {2: a[1], 257: a[2], 437: 0, 85: 0x200}[number]
         if e.target is None:
             return [('close', pid, e.new)]
         put = ('set', pid, e.new, e.target, closes(flags))
@@ -279,31 +293,31 @@ def further_acts(e, call, number):
         return [('close', pid, fd(0))]
     if call in ('Dup', 'Dup2', 'Dup3'):
         itself = call != 'Dup' and fd(0) == e.new
-        return [] if e.new is None or itself else [('copy', pid, fd(0), e.new, call == 'Dup3' and closes(a[2]))]
+        return [] if e.new is None or itself else [('copy', pid, fd(0), e.new, call == 'Dup3' and closes(flags))]
     if call == 'Fcntl':
         if fd(1) in (0, 1030):
             return [] if e.new is None else [('copy', pid, fd(0), e.new, fd(1) == 1030)]
         return [('mark', pid, fd(0), bool(a[2] & 1))] if fd(1) == 2 else []
     if call == 'Pair':
         pair = e.first('FD_PAIR')
-        return [('pair', pid, pair['fd0'], pair['fd1'], number != 22 and closes(a[1]))] if pair else []
+        return [('pair', pid, pair['fd0'], pair['fd1'], closes(flags))] if pair else []
     if call == 'Socket':
-        return [] if e.new is None else [('set', pid, e.new, ('socket', None, None), closes(a[1]))]
+        return [] if e.new is None else [('set', pid, e.new, ('socket', None, None), closes(flags))]
     if call == 'Bind':
         return [] if e.address is None else [('address', pid, fd(0), e.address)]
     if call == 'Accept':
-        return [] if e.new is None else [('set', pid, e.new, ('socket', e.address, fd(0)), number == 288 and closes(a[3]))]
+        return [] if e.new is None else [('set', pid, e.new, ('socket', e.address, fd(0)), closes(flags))]
     if call == 'Exec':
         return [reads(file, 'exec') for file in e.files_of('NORMAL')] + [('exec', pid)]
     if call in ('Fork', 'Clone'):
-        is_thread = call == 'Clone' and a[0] & 0x10000
+        is_thread = call == 'Clone' and flags & 0x10000
         return [('fork', pid, e.new)] if e.new and e.new != pid and not is_thread else []
     if call == 'Map':
         mapped = e.first('MMAP')
-        if a[3] & 0x20 or not mapped:
+        if flags & 0x20 or not mapped:
             return []
         thing = descriptor(mapped['fd'])
-        return [reads(thing)] + ([writes(thing)] if a[3] & 1 and a[2] & 2 else [])
+        return [reads(thing)] + ([writes(thing)] if flags & 1 and a[2] & 2 else [])
     if call == 'AlterPath':
         return [writes(e.target, 'alter')] if e.target else []
     if call == 'AlterFd':

@@ -19,4 +19,4 @@ pub use laws::{
     sees_hand_on, sockets_are_of_acts, unopened_acts_hold_nothing,
 };
 pub use link::Link;
-pub use look_back::{Plain, Refused, Standing, is_live, link_of, stands_after};
+pub use look_back::{Plain, Standing, is_live, link_of, stands_after};

@@ -16,6 +16,7 @@ pub mod HeaderLaws
 pub mod PieceLaws
 pub mod WrittenPieces
 pub mod ReadableLemmas
+pub mod ScanLemmas
 pub mod UsedLaws
 pub mod ClassLaws
 pub mod TallyLaws

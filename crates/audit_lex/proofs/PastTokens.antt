@@ -25,7 +25,7 @@ unquoted [] isnt = refl
 unquoted (byte ∷ rest) isnt = cond-false (byte == 34) _ _ (ne_eqb _ _ isnt)
 
 -- a value without a quote ends before the next space
-plain_value : (text : List ℕ) → get_or text 0 0 ≢ 34 → value_len text ≡ word_len text
+pub plain_value : (text : List ℕ) → get_or text 0 0 ≢ 34 → value_len text ≡ word_len text
 plain_value text isnt =
     let whole : 0 + word_len text ≡ word_len text = omega arith in
     ap (λ n. n + position_or_len (is_byte 32) (drop n text)) (unquoted text isnt) ∙ whole

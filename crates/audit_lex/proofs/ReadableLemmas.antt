@@ -92,7 +92,7 @@ text_there f None none = refl
 text_there f (Some text) none = passes _ _ none
 
 -- a field of a line is the field of its raw part
-in_line : (line raw name : List ℕ) → raw_part_of line ≡ Some raw → field_in_line line name ≡ field_of raw name
+pub in_line : (line raw name : List ℕ) → raw_part_of line ≡ Some raw → field_in_line line name ≡ field_of raw name
 in_line line raw name is = ap (option_and_then (λ text. field_of text name)) is
 
 need : {A : Type 0} (reads : List ℕ → Option A) (v : ValueKind) (line raw : List ℕ) (f : Field) → raw_part_of line ≡ Some raw
@@ -160,3 +160,130 @@ pub readable : (line : List ℕ) (key : EventKey) (k : Kind) → text_class line
 readable line key k is =
     let found = faultless line key k is in
     raw_readable k line found.head.raw (rw found.is refl) found.none
+
+-- ---- what can be read has no fault
+
+both_none : {A : Type 0} (a b : Option A) → a ≡ None → b ≡ None → option_or a b ≡ None
+both_none a b first second = rw first second
+
+none_first : (raw : List ℕ) (rules : List Rule) → AllByRecursion (λ rule. fault_in raw rule ≡ None) rules → first_fault raw rules ≡ None
+none_first raw [] none = refl
+none_first raw (rule ∷ rules) none = both_none (fault_in raw rule) (first_fault raw rules) none.0 (none_first raw rules none.1)
+
+passed : (test : Bool) (fault : LineFault) → test ≡ true → (if test then None else Some fault) ≡ None
+passed true fault is = refl
+passed false fault is = cc is
+
+needed_passes : {A : Type 0} (reads : List ℕ → Option A) (v : ValueKind) (f : Field) (found : Option (List ℕ))
+    → ((text : List ℕ) → spells v text ≡ is_some (reads text)) → IsSome (option_and_then reads found) → fault_of (must f v) found ≡ None
+needed_passes reads v f None same some = cc some
+needed_passes reads v f (Some text) same some = passed _ _ (same text ∙ some)
+
+is_there : {A : Type 0} (reads : List ℕ → Option A) (text : List ℕ) (o : Option A) → reads text ≡ o → IsSome (reads_if_there reads (Some text)) → is_some o ≡ true
+is_there reads text None is some = cc (rw is at some)
+is_there reads text (Some a) is some = refl
+
+offered_passes : {A : Type 0} (reads : List ℕ → Option A) (v : ValueKind) (f : Field) (found : Option (List ℕ))
+    → ((text : List ℕ) → spells v text ≡ is_some (reads text)) → IsSome (reads_if_there reads found) → fault_of (may f v) found ≡ None
+offered_passes reads v f None same some = refl
+offered_passes reads v f (Some text) same some = passed _ _ (same text ∙ is_there reads text (reads text) refl some)
+
+text_passes : (f : Field) (found : Option (List ℕ)) → IsSome (text_if_there found) → fault_of (may f value.Text) found ≡ None
+text_passes f None some = refl
+text_passes f (Some text) some = passed _ _ some
+
+word_passes : (f : Field) (found : Option (List ℕ)) → fault_of (may f value.Word) found ≡ None
+word_passes f None = refl
+word_passes f (Some text) = refl
+
+module _ (line raw : List ℕ) (is : raw_part_of line ≡ Some raw) where
+  needs : {A : Type 0} (reads : List ℕ → Option A) (v : ValueKind) (f : Field)
+      → ((text : List ℕ) → spells v text ≡ is_some (reads text)) → IsSome (needed reads line f) → fault_in raw (must f v) ≡ None
+  needs reads v f same some = needed_passes reads v f (field_of raw (name_of f)) same (rw (in_line line raw (name_of f) is) at some)
+
+  offers : {A : Type 0} (reads : List ℕ → Option A) (v : ValueKind) (f : Field)
+      → ((text : List ℕ) → spells v text ≡ is_some (reads text)) → IsSome (offered reads line f) → fault_in raw (may f v) ≡ None
+  offers reads v f same some = offered_passes reads v f (field_of raw (name_of f)) same (rw (in_line line raw (name_of f) is) at some)
+
+  offers_text : (f : Field) → IsSome (offered_text line f) → fault_in raw (may f value.Text) ≡ None
+  offers_text f some = text_passes f (field_of raw (name_of f)) (rw (in_line line raw (name_of f) is) at some)
+
+  word : (f : Field) → fault_in raw (may f value.Word) ≡ None
+  word f = word_passes f (field_of raw (name_of f))
+
+  call_faultless : ReadableSyscall line → first_fault raw (rules_of kind.Syscall) ≡ None
+  call_faultless can = none_first raw (rules_of kind.Syscall) (
+    needs hex32_of value.Hex32 field.Arch (λ text. refl) can.arch,
+    (
+      needs dec32_of value.Dec32 field.Syscall (λ text. refl) can.number,
+      (
+        offers yesno_of value.YesNo field.Success (λ text. refl) can.success,
+        (
+          offers signed_of value.Signed field.Exit (λ text. refl) can.exit,
+          (
+            needs hex64_of value.Hex64 field.A0 (λ text. refl) can.a0,
+            (
+              needs hex64_of value.Hex64 field.A1 (λ text. refl) can.a1,
+              (
+                needs hex64_of value.Hex64 field.A2 (λ text. refl) can.a2,
+                (
+                  needs hex64_of value.Hex64 field.A3 (λ text. refl) can.a3,
+                  (
+                    needs dec32_of value.Dec32 field.Ppid (λ text. refl) can.ppid,
+                    (
+                      needs dec32_of value.Dec32 field.Pid (λ text. refl) can.pid,
+                      (
+                        offers_text field.Exe can.exe,
+                        tt,
+                      ),
+                    ),
+                  ),
+                ),
+              ),
+            ),
+          ),
+        ),
+      ),
+    ),
+  )
+
+  path_faultless : ReadablePath line → first_fault raw (rules_of kind.Path) ≡ None
+  path_faultless can = none_first raw (rules_of kind.Path) (
+    needs dec32_of value.Dec32 field.Item (λ text. refl) can.item,
+    (
+      needs text_of value.Text field.Name (λ text. refl) can.name,
+      (
+        offers dec64_of value.Dec64 field.Inode (λ text. refl) can.inode,
+        (
+          offers device_of value.Device field.Dev (λ text. refl) can.device,
+          (
+            word field.Nametype,
+            (
+              word field.Objtype,
+              tt,
+            ),
+          ),
+        ),
+      ),
+    ),
+  )
+
+  pair_faultless : ReadablePair line → first_fault raw (rules_of kind.FdPair) ≡ None
+  pair_faultless can = none_first raw (rules_of kind.FdPair) (
+    needs dec32_of value.Dec32 field.Fd0 (λ text. refl) can.first,
+    (
+      needs dec32_of value.Dec32 field.Fd1 (λ text. refl) can.second,
+      tt,
+    ),
+  )
+
+  -- a line whose fields can be read has no fault
+  pub readable_faultless : (k : Kind) → IsReadable k line → first_fault raw (rules_of k) ≡ None
+  readable_faultless kind.Syscall can = call_faultless can
+  readable_faultless kind.Path can = path_faultless can
+  readable_faultless kind.Cwd can = none_first raw (rules_of kind.Cwd) (needs text_of value.Text field.Cwd (λ text. refl) can, tt)
+  readable_faultless kind.Sockaddr can = none_first raw (rules_of kind.Sockaddr) (needs bytes_of value.Bytes field.Saddr (λ text. refl) can, tt)
+  readable_faultless kind.FdPair can = pair_faultless can
+  readable_faultless kind.Mmap can = none_first raw (rules_of kind.Mmap) (needs handle_of value.Handle field.Fd (λ text. refl) can, tt)
+  readable_faultless kind.Proctitle can = refl
+  readable_faultless kind.Eoe can = refl

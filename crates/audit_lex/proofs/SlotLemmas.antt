@@ -5,6 +5,7 @@ use Rattle.std.proofs.lemmas.Bool.{cases_eq, cases_lt, eq-eqb, eqb-true, ne_eqb,
 use Rattle.std.proofs.lemmas.List.{length-map, map-set, nil_from_length, get_or-map, get_or-set_same, get_or-set_other}
 use Rattle.audit_lex.specs.Tokens.{NameValue, value_in, token_at, token_len, tokens_of, field_of}
 use Rattle.audit_lex.specs.Slots.{slot_value, held, names_of, AreFilled, AreFound}
+use Rattle.audit_lex.specs.Runs.{Finding, Full, IsFullBehind}
 use Rattle.audit_lex.specs.declared.fields.Rule.{Rule}
 use Rattle.audit_lex.specs.Fronts.{offered_from, token_seen}
 use Rattle.audit_lex.specs.declared.fronts.Token.{Token}
@@ -66,11 +67,6 @@ one_filled rules tokens bytes here before after offers within is place below = e
 
 -- ---- one token after the other
 
--- what the slots have, or else the rest has, is what the raw part has
-abbrev pub Finding : List Rule → List ℕ → List ℕ → List (Option (List ℕ)) → Type 0
-Finding rules raw rest slots = (place : ℕ) → place < length rules →
-    option_or (get_or slots place None) (field_of rest (get_or (names_of rules) place [])) ≡ field_of raw (get_or (names_of rules) place [])
-
 or_assoc : {A : Type 0} (a b c : Option A) → option_or (option_or a b) c ≡ option_or a (option_or b c)
 or_assoc None b c = refl
 or_assoc (Some a) b c = refl
@@ -92,10 +88,6 @@ past_front rules raw rest behind before after some isnt same filled finding plac
     ∙ past_token rules raw rest before after some isnt filled finding place below
 
 -- ---- full places
-
--- so many places at the front are full
-abbrev pub Full : ℕ → List (Option (List ℕ)) → Type 0
-Full count slots = (place : ℕ) → place < count → is_some (get_or slots place None) ≡ true
 
 still_some : {A : Type 0} (a b : Option A) → is_some a ≡ true → is_some (option_or a b) ≡ true
 still_some None b is = cc
@@ -193,13 +185,6 @@ value_some bytes some = ap is_some (cond-false (length bytes == 0) None (Some (d
 
 pub value_none : (bytes : List ℕ) → (length bytes == 0) ≡ true → slot_value bytes ≡ None
 value_none bytes none = cond-true (length bytes == 0) None (Some (drop 1 bytes)) none
-
--- a token of this name is the first one
-pub found_first : (rest name slot : List ℕ) → 0 < length rest → get_or rest 0 0 ≢ 32 → slot_value slot ≡ value_in (option_to_list (token_at rest)) name
-    → (length slot == 0) ≡ false → slot_value slot ≡ field_of rest name
-found_first rest name slot some isnt is full =
-    keeps_own (slot_value slot) (field_of (drop (token_len rest) rest) name) (value_some slot full)
-    ∙ ap (λ own. option_or own (field_of (drop (token_len rest) rest) name)) is ∙ sym (field_at_token rest name some isnt)
 
 -- behind a token of another name the search goes on
 pub found_later : (rest name slot behind : List ℕ) → 0 < length rest → get_or rest 0 0 ≢ 32 → slot_value slot ≡ value_in (option_to_list (token_at rest)) name
@@ -341,6 +326,21 @@ one_more slots count full here place below = elim (cases_eq place count) [
   | inl same ↦ ap (λ n. is_some (get_or slots n None)) same ∙ here
   | inr other ↦ full place (omega (arith, below, other))
 ]
+
+-- as many places at the front are full as are counted
+pub full_behind : (kind : Kind) (tokens : List NameValue) (before after : List (Option (List ℕ))) (full place count : ℕ)
+    → AreFilled (slot_rules kind) tokens before after → is_some (get_or after place None) ≡ true → IsFullBehind kind full place count
+    → Full full before → (full < length (slot_rules kind)) ⊎ (full ≡ 0) → Full count after × ((count < length (slot_rules kind)) ⊎ (count ≡ 0))
+full_behind kind tokens before after full place count filled here is whole table =
+    let within : full ≤ length (slot_rules kind) = elim table [ inl low ↦ omega (arith, low) | inr none ↦ omega (arith, none) ] in
+    let stays = stays_full (slot_rules kind) tokens before after full within filled whole in
+    elim is [
+      | inl more ↦ (
+        subst (λ n. Full n after) (sym more.1) (one_more after full stays (ap (λ n. is_some (get_or after n None)) (sym more.0.0) ∙ here)),
+        inl (omega (arith, more.1, more.0.1)),
+      )
+      | inr same ↦ (subst (λ n. Full n after) (sym same) stays, subst (λ n. (n < length (slot_rules kind)) ⊎ (n ≡ 0)) (sym same) table)
+    ]
 
 -- ---- the end of the search
 

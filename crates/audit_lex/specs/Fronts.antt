@@ -1,10 +1,11 @@
 -- What stands at the front of a text.
 use Rattle.std.specs.Prelude.{◌≡◌, ◌<◌, ◌-◌, ◌==◌, ◌||◌, ◌↔◌, ℕ, List, [], length, drop, take, slice_index, Bool, true, not, Option, None, Some, IfSome, if◌then◌else◌}
 use Rattle.std.specs.List.{list_all, slice_index_or}
+use Rattle.std.specs.Option.{option_to_list}
 use Rattle.audit_lex.specs.FieldTable.{slot_rules}
 use Rattle.audit_lex.specs.FieldNames.{field_called}
 use Rattle.audit_lex.specs.Slots.{names_of, slot_value}
-use Rattle.audit_lex.specs.Tokens.{NameValue, name_len, word_len}
+use Rattle.audit_lex.specs.Tokens.{NameValue, name_len, word_len, token_at, token_len, value_in}
 use Rattle.audit_lex.specs.declared.fields.Kind.{Kind}
 use Rattle.audit_lex.specs.declared.fields.Field.{Field}
 use Rattle.audit_lex.specs.declared.fronts.Token.{Token}
@@ -23,6 +24,15 @@ offered_from (Some here) bytes place = if here == place then slot_value bytes el
 -- what a front offers a place
 abbrev pub offered_at : Front → ℕ → Option (List ℕ)
 offered_at front place = offered_from front.place front.value.now place
+
+-- what a text begins with: what it offers each place of the table, and the text after it
+pub record IsFrontOf (kind : Kind) (text : List ℕ) (front : Front) : Type 0 where
+  pub offers : (place : ℕ) → place < length (slot_rules kind)
+      → value_in (option_to_list (token_at text)) (slice_index_or (names_of (slot_rules kind)) place []) ≡ offered_at front place
+  pub within : IfSome front.place (λ place. place < length (slot_rules kind))
+  pub value : IfSome front.place (λ place. 0 < length front.value.now)
+  pub rest : front.rest.now ≡ drop (token_len text) text
+  pub shorter : length front.rest.now < length text
 
 -- the name that the text begins with is of this length, has an `=` after it, and this place in the table
 pub record IsUsual (kind : Kind) (text : List ℕ) (usual : Usual) : Type 0 where

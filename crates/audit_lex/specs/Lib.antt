@@ -6,11 +6,13 @@ pub mod Header
 pub mod FieldTable
 pub mod FieldNames
 pub mod TablePlaces
+pub mod Runs
 pub mod Slots
 pub mod Fronts
 pub mod LineClass
 pub mod LineFields
 pub mod Lexing
+pub mod Scanning
 pub mod Written
 pub mod Pieces
 pub mod UsedLine

@@ -4,7 +4,10 @@ use Rattle.std.specs.List.{slice_index_or}
 use Rattle.std.specs.Option.{option_or}
 use Rattle.std.specs.Borrow.{Bor}
 use Rattle.audit_lex.specs.FieldTable.{name_of}
+use Rattle.audit_lex.specs.TablePlaces.{home}
 use Rattle.audit_lex.specs.Tokens.{NameValue, value_in, field_of}
+use Rattle.audit_lex.specs.declared.fields.Field.{Field}
+use Rattle.audit_lex.specs.declared.fields.Kind.{Kind}
 use Rattle.audit_lex.specs.declared.fields.Rule.{Rule}
 use Rattle.audit_lex.specs.declared.slots.Found.{Found}
 
@@ -30,6 +33,15 @@ kept found =
     slot_value found.ninth.now ∷
     slot_value found.tenth.now ∷
     slot_value found.eleventh.now ∷ []
+
+-- what the slot of a place holds, if a table has it
+abbrev pub held_at : List (Option (List ℕ)) → Option (Kind × ℕ) → Option (List ℕ)
+held_at slots None = None
+held_at slots (Some (kind, place)) = slice_index_or slots place None
+
+-- what the slot of a field holds, if the field has one
+abbrev pub held_for : List (Option (List ℕ)) → Field → Option (List ℕ)
+held_for slots field = held_at slots (home field)
 
 -- the names that a table asks for, in its order
 abbrev pub names_of : List Rule → List (List ℕ)

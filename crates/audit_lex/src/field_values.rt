@@ -13,6 +13,7 @@ use crate::fields::{Field, Kind, field_name, slot_rules};
 use crate::fronts::{front_of, past_spaces, past_token, token_at};
 use crate::slots::{Found, Slots, value_of_slot};
 use crate::table_places::home_of;
+use crate::usual_run::{take_front, usual_run};
 
 /// The values of a raw part's fields, with their quotes.
 #[derive(Clone, Copy)]
@@ -26,7 +27,8 @@ pub(crate) struct FieldValues<'a> {
 impl<'a> FieldValues<'a> {
     /// The value of the first token of this name. A name that has no slot is looked for anew.
     pub(crate) fn field(&self, name: Field) -> Option<&'a [u8]>
-        ensures { option_map (λ value. value.now) result ≡ field_of self.now.raw.now (name_of name) }
+        ensures { option_map (λ value. value.now) result
+            ≡ field_of self.now.raw.now (name_of name) }
     {
         match home_of(name) {
             None => value_of_one(self.raw, name),
@@ -41,47 +43,52 @@ impl<'a> FieldValues<'a> {
     }
 }
 
-// The value of the first token of this name.
-fn value_of_one(raw: &[u8], name: Field) -> Option<&[u8]>
+/// The value of the first token of this name.
+pub(crate) fn value_of_one(raw: &[u8], name: Field) -> Option<&[u8]>
     ensures { option_map (λ value. value.now) result ≡ field_of raw.now (name_of name) }
 {
     value_of_slot(slot_of_one(raw, name))
 }
 
 // The value of the first token of this name, with the `=` before it. It is empty if there is no such token.
+#[tactic(auto, using(crate::proofs::PastTokens::name_some))]
 fn slot_of_one(raw: &[u8], name: Field) -> &[u8]
     ensures { slot_value result.now ≡ field_of raw.now (name_of name) }
 {
+    slot_named(raw, field_name(name))
+}
+
+// The same by the bytes of the name.
+fn slot_named<'a>(raw: &'a [u8], name: &[u8]) -> &'a [u8]
+    requires { 0 < length name.now }
+    ensures { slot_value result.now ≡ field_of raw.now name.now }
+{
     let mut rest = past_spaces(raw);
     while !rest.is_empty() {
-        let (slot, behind) = slot_if_named(rest, name);
-        if !slot.is_empty() {
-            return slot;
+        if may_be_named(rest, name) {
+            let slot = slot_if_named(rest, name);
+            if !slot.is_empty() {
+                return slot;
+            }
         }
-        rest = past_spaces(behind);
+        rest = past_spaces(past_token(rest));
     }
     b""
 }
 
-// The value of the first token with the `=` before it, if it has this name, and the text after the token.
-#[tactic(auto, using(crate::proofs::PastTokens::name_some))]
-fn slot_if_named(text: &[u8], name: Field) -> (&[u8], &[u8])
+// The value of the first token with the `=` before it, if it has this name. It stays a call, since few tokens may have
+// the name.
+#[inline(never)]
+fn slot_if_named<'a>(text: &'a [u8], name: &[u8]) -> &'a [u8]
     requires some { 0 < length text.now }
     requires begins { slice_index text.now 0 ≢ 32 }
-    ensures slot { slot_value result.0.now
-        ≡ value_in (option_to_list (token_there text.now)) (name_of name) }
-    ensures rest { result.1.now ≡ drop (token_len text.now) text.now }
-    ensures shorter { length result.1.now < length text.now }
+    ensures { slot_value result.now ≡ value_in (option_to_list (token_there text.now)) name.now }
 {
-    let name = field_name(name);
-    if !may_be_named(text, name) {
-        return (b"", past_token(text));
-    }
     let token = token_at(text);
     if token.name != name {
-        return (b"", token.rest);
+        return b"";
     }
-    (token.value, token.rest)
+    token.value
 }
 
 // Whether the first token may have this name. Most tokens of other names begin with another byte, or have no `=` where
@@ -107,25 +114,15 @@ pub(crate) fn fill_slots<'a>(raw: &'a [u8], kind: Kind, slots: &mut Slots<'a>)
     ensures { AreFound (slot_rules kind) raw.now (held slots.new.values) }
 {
     let rules = slot_rules(kind);
-    let mut full = 0;
-    let mut next = 0;
-    let mut rest = past_spaces(raw);
-    while full + 1 < rules.len() && !rest.is_empty() {
-        let front = front_of(kind, next, rest);
-        if let Some(place) = front.place {
-            slots.offer(place, front.value);
-            if place == full {
-                full += 1;
-            }
-        }
-        next = front.next;
-        rest = past_spaces(front.rest);
+    let mut run = usual_run(raw, kind, slots);
+    while run.full + 1 < rules.len() && !run.rest.is_empty() {
+        run = take_front(kind, front_of(kind, run.next, run.rest), run, slots);
     }
     // A full slot keeps its value, so once the last one alone is empty, no other token is asked for.
-    if full + 1 == rules.len() {
-        let last = slot_of_one(rest, field_at(kind, full));
+    if run.full + 1 == rules.len() {
+        let last = slot_of_one(run.rest, field_at(kind, run.full));
         if !last.is_empty() {
-            slots.offer(full, last);
+            slots.offer(run.full, last);
         }
     }
 }

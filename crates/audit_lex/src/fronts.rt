@@ -3,7 +3,7 @@ ghost use Rattle.std.specs.Prelude.{◌≡◌, ◌≢◌, ◌<◌, ◌≤◌, �
 ghost use Rattle.std.specs.Bool.{IsTrue};
 ghost use Rattle.std.specs.List.{slice_index_or};
 ghost use Rattle.std.specs.Option.{option_to_list};
-ghost use Rattle.audit_lex.specs.Fronts.{token_seen, offered_at};
+ghost use Rattle.audit_lex.specs.Fronts.{token_seen, IsFrontOf, IsUsual};
 ghost use Rattle.audit_lex.specs.FieldTable.{slot_rules};
 ghost use Rattle.audit_lex.specs.Slots.{names_of};
 ghost use Rattle.audit_lex.specs.Tokens.{token_at as token_there, token_len, tokens_of, value_in};
@@ -12,7 +12,7 @@ use crate::fields::Kind;
 use crate::places::place_of_space_or_quote;
 use crate::table_places::place_named;
 use crate::tokens::{len_of_name, len_of_value};
-use crate::usual::{number_behind, usual_name};
+use crate::usual::{Usual, number_behind, usual_name};
 
 /// A token, and the text after it. If it has no name, its value is empty.
 #[derive(Clone, Copy)]
@@ -37,6 +37,19 @@ pub(crate) struct Front<'a> {
 
 /// The text from its first byte that is no space.
 pub(crate) fn past_spaces(text: &[u8]) -> &[u8]
+    ensures same { tokens_of result.now ≡ tokens_of text.now }
+    ensures begins { 0 < length result.now → slice_index result.now 0 ≢ 32 }
+    ensures shorter { length result.now ≤ length text.now }
+{
+    // Mostly one space stands there.
+    match text {
+        [b' ', rest @ ..] => past_more_spaces(rest),
+        _ => past_more_spaces(text),
+    }
+}
+
+// The same, where mostly no space is left.
+fn past_more_spaces(text: &[u8]) -> &[u8]
     ensures same { tokens_of result.now ≡ tokens_of text.now }
     ensures begins { 0 < length result.now → slice_index result.now 0 ≢ 32 }
     ensures shorter { length result.now ≤ length text.now }
@@ -95,6 +108,17 @@ pub(crate) fn past_token(text: &[u8]) -> &[u8]
     if end == text.len() || text[end] == b' ' {
         return &text[end..];
     }
+    past_any_token(text)
+}
+
+// The same for any token. It stays a call, since else each token that is passed over makes room for a token's parts.
+#[inline(never)]
+fn past_any_token(text: &[u8]) -> &[u8]
+    requires some { 0 < length text.now }
+    requires begins { slice_index text.now 0 ≢ 32 }
+    ensures rest { result.now ≡ drop (token_len text.now) text.now }
+    ensures shorter { length result.now < length text.now }
+{
     token_at(text).rest
 }
 
@@ -102,24 +126,10 @@ pub(crate) fn past_token(text: &[u8]) -> &[u8]
 pub(crate) fn front_of(kind: Kind, next: usize, text: &[u8]) -> Front<'_>
     requires some { 0 < length text.now }
     requires begins { slice_index text.now 0 ≢ 32 }
-    ensures offers { (place : ℕ) → place < length (slot_rules kind)
-        → value_in (option_to_list (token_there text.now)) (slice_index_or (names_of (slot_rules kind)) place []) ≡ offered_at result place }
-    ensures within { IfSome result.place (λ place. place < length (slot_rules kind)) }
-    ensures value { IfSome result.place (λ place. 0 < length result.value.now) }
-    ensures rest { result.rest.now ≡ drop (token_len text.now) text.now }
-    ensures shorter { length result.rest.now < length text.now }
+    ensures { IsFrontOf kind text.now result }
 {
     match usual_name(kind, next, text) {
-        Some(usual) => {
-            let value = &text[usual.len..];
-            let end = 1 + len_of_value(&value[1..]);
-            Front {
-                place: usual.place,
-                value: &value[..end],
-                rest: &value[end..],
-                next: next.wrapping_add(1),
-            }
-        }
+        Some(usual) => front_named(kind, usual, next, text),
         None => {
             let token = token_at(text);
             let place = place_of_token(kind, token);
@@ -130,6 +140,22 @@ pub(crate) fn front_of(kind: Kind, next: usize, text: &[u8]) -> Front<'_>
                 next: place.map_or(next, |place| number_behind(kind, place)),
             }
         }
+    }
+}
+
+/// The same where the text begins with the name of this number.
+#[inline(always)]
+pub(crate) fn front_named(kind: Kind, usual: Usual, number: usize, text: &[u8]) -> Front<'_>
+    requires { IsUsual kind text.now usual }
+    ensures { IsFrontOf kind text.now result }
+{
+    let value = &text[usual.len..];
+    let end = 1 + len_of_value(&value[1..]);
+    Front {
+        place: usual.place,
+        value: &value[..end],
+        rest: &value[end..],
+        next: number.wrapping_add(1),
     }
 }
 

@@ -1,7 +1,8 @@
 //! The lines of a log, and what each of them is.
 //!
 //! `LineCut` cuts lines out of pieces of any size. `lex` gives the class of a line, and borrows a used one with its
-//! fields; `Tally` counts the classes. What a field's value spells is given by the readers, from `dec32` to `yesno`.
+//! fields; `Tally` counts the classes. `scan` finds the fields and leaves it to their reader to see whether the line is
+//! used. What a field's value spells is given by the readers, from `dec32` to `yesno`.
 //! The definitions are functions of the bytes of a line, and the laws say of them how such lines are written.
 #![tactic(auto)]
 
@@ -16,12 +17,14 @@ mod line_cut;
 mod near;
 mod numbers;
 mod places;
+mod scanning;
 mod slots;
 mod table_places;
 mod tally;
 mod tokens;
 mod used_line;
 mod usual;
+mod usual_run;
 mod values;
 
 pub use faults::LineFault;
@@ -35,6 +38,8 @@ pub use laws::{
 pub use lexer::{Lexed, lex};
 pub use line_cut::{Line, LineCut};
 pub use numbers::{dec32, dec64, handle, hex32, hex64, signed};
+pub use scanning::{Scanned, scan};
+pub use slots::Slots;
 pub use tally::Tally;
 pub use used_line::UsedLine;
 pub use values::{device, is_bytes, is_text, quoted, yesno};

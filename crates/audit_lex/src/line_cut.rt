@@ -96,8 +96,10 @@ impl LineCut {
     /// changed.
     pub fn next(&mut self, piece: &[u8]) -> Result<(usize, Option<Line>), NoMemory>
         requires { self.old.lines < 2 ^ 61 }
-        ensures taken { IfOk result (λ r. r.0 ≡ min (length piece.now) (position_or_len (is_byte 10) piece.now + 1)) }
-        ensures given { IfOk result (λ r. IsSome r.1 ↔ (position_or_len (is_byte 10) piece.now < length piece.now)) }
+        ensures taken { IfOk result (λ r. r.0 ≡ min (length piece.now)
+            (position_or_len (is_byte 10) piece.now + 1)) }
+        ensures given { IfOk result (λ r. IsSome r.1
+            ↔ (position_or_len (is_byte 10) piece.now < length piece.now)) }
         ensures line { IfOk result (λ r. (history : History) → StandsFor self.old history
             → Gives self.old.limit history (with_bytes history (take r.0 piece.now)) r.1) }
         ensures stands { IfOk result (λ r. (history : History) → StandsFor self.old history
@@ -161,8 +163,18 @@ impl LineCut {
     // Ends the tail as a line.
     fn cut(&mut self) -> Line
         requires { self.old.lines < 2 ^ 61 }
-        ensures line { result ≡ record { number = self.old.lines + 1; text = self.old.tail; long = self.old.long } }
-        ensures left { self.new ≡ record self.old { lines = self.old.lines + 1; tail = []; long = false } }
+        ensures line { result ≡ record {
+          number = self.old.lines + 1;
+          text = self.old.tail;
+          long =
+              self.old.long;
+        } }
+        ensures left { self.new ≡ record self.old {
+          lines = self.old.lines + 1;
+          tail = [];
+          long =
+              false;
+        } }
     {
         self.lines += 1;
         let text = self.tail.take();

@@ -4,21 +4,24 @@
 ghost use Rattle.std.specs.Prelude.{◌≡◌, ◌<◌, ◌≤◌, ℕ, length, true, None, Some, is_some, option_map, slice_set};
 ghost use Rattle.std.specs.List.{slice_index_or};
 ghost use Rattle.std.specs.Option.{option_or};
-ghost use Rattle.audit_lex.specs.Slots.{slot_value, held, kept};
+ghost use Rattle.audit_lex.specs.Slots.{slot_value, held, held_for, kept};
+
+use crate::fields::Field;
+use crate::table_places::home_of;
 
 /// How many fields the longest table has.
 pub(crate) const MOST_FIELDS: usize = 11;
 
 /// The values of a table's fields, in the table's order, each with the `=` before it. An empty slot holds nothing.
 #[derive(Clone, Copy)]
-pub(crate) struct Slots<'a> {
+pub struct Slots<'a> {
     pub(crate) values: [&'a [u8]; MOST_FIELDS],
     ghost size: { length values ≡ 11 },
 }
 
 impl<'a> Slots<'a> {
     /// Empty slots.
-    pub(crate) fn new() -> Slots<'a>
+    pub fn new() -> Slots<'a>
         ensures { (place : ℕ) → slice_index_or (held result.values) place None ≡ None }
     {
         Slots {
@@ -26,10 +29,21 @@ impl<'a> Slots<'a> {
         }
     }
 
+    /// What was found for this field, if it has a slot in the table that the slots were filled for.
+    pub fn field(&self, name: Field) -> Option<&'a [u8]>
+        ensures { option_map (λ value. value.now) result ≡ held_for (held self.now.values) name }
+    {
+        match home_of(name) {
+            Some((_, place)) => self.value(place),
+            None => None,
+        }
+    }
+
     /// What was found for the field at this place of the table.
     pub(crate) fn value(&self, place: usize) -> Option<&'a [u8]>
         requires { place < 11 }
-        ensures { option_map (λ value. value.now) result ≡ slice_index_or (held self.now.values) place None }
+        ensures { option_map (λ value. value.now) result
+            ≡ slice_index_or (held self.now.values) place None }
     {
         value_of_slot(self.values[place])
     }
@@ -88,7 +102,8 @@ impl<'a> Found<'a> {
     /// What was found for the field at this place of the table.
     pub(crate) fn value(&self, place: usize) -> Option<&'a [u8]>
         requires { place < 11 }
-        ensures { option_map (λ value. value.now) result ≡ slice_index_or (kept self.now) place None }
+        ensures { option_map (λ value. value.now) result
+            ≡ slice_index_or (kept self.now) place None }
     {
         value_of_slot(self.slot(place))
     }

@@ -9,7 +9,8 @@ use crate::fields::{Field, Kind, field_named};
 
 /// The place at which the kind's table asks for a token of this name.
 pub(crate) fn place_named(kind: Kind, name: &[u8]) -> Option<usize>
-    ensures place { (place : ℕ) → place < length (slot_rules kind) → (result ≡ Some place) ↔ (slice_index_or (names_of (slot_rules kind)) place [] ≡ name.now) }
+    ensures place { (place : ℕ) → place < length (slot_rules kind) → (result ≡ Some place)
+        ↔ (slice_index_or (names_of (slot_rules kind)) place [] ≡ name.now) }
     ensures within { IfSome result (λ place. place < length (slot_rules kind)) }
 {
     match field_named(name) {

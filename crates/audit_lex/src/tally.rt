@@ -36,7 +36,8 @@ impl Tally {
     /// Counts a line of this class. If allocation fails, nothing has changed.
     pub fn count(&mut self, number: u64, class: &Lexed<'_>, shown: usize) -> Result<(), NoMemory>
         requires { self.old.used + self.old.other + self.old.blank + self.old.malformed < 2 ^ 60 }
-        ensures ok { OnOk result (self.new ≡ one_counted shown self.old (record { number = number; class = class_seen class.now })) }
+        ensures ok { OnOk result (self.new ≡ one_counted shown self.old
+            (record { number = number; class = class_seen class.now })) }
         ensures err { OnErr result (self.new ≡ self.old) }
     {
         match class {
@@ -56,7 +57,8 @@ impl Tally {
         shown: usize,
     ) -> Result<(), NoMemory>
         requires { self.old.malformed < 2 ^ 60 }
-        ensures ok { OnOk result (self.new ≡ class_counted shown self.old number (Malformed fault)) }
+        ensures ok { OnOk result (self.new ≡ class_counted shown self.old number
+            (Malformed fault)) }
         ensures err { OnErr result (self.new ≡ self.old) }
     {
         if self.bad.as_slice().len() < shown {

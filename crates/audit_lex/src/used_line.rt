@@ -24,7 +24,8 @@ pub struct UsedLine<'a> {
 impl<'a> UsedLine<'a> {
     /// The value of the first token of this name, with its quotes.
     pub fn field(&self, name: Field) -> Option<&'a [u8]>
-        ensures { option_map (λ value. value.now) result ≡ field_in_line self.now.line.now (name_of name) }
+        ensures { option_map (λ value. value.now) result
+            ≡ field_in_line self.now.line.now (name_of name) }
     {
         self.values.field(name)
     }

@@ -57,35 +57,35 @@ one_path value a b p q =
     (p.file ∙ ap (λ i. file_from i p.device) inode ∙ ap (file_from q.inode) device ∙ sym q.file)
     (p.kind ∙ sym q.kind)
 
-syscall_body : (value : Field → Option (List ℕ)) (said : Body) → SpellsBody kind.Syscall value said → (call : Syscall) × (said ≡ body.Syscall call) × SpellsSyscall value call
+pub syscall_body : (value : Field → Option (List ℕ)) (said : Body) → SpellsBody kind.Syscall value said → (call : Syscall) × (said ≡ body.Syscall call) × SpellsSyscall value call
 syscall_body value (body.Syscall call) h = (call, refl, h)
 syscall_body value _ h = absurd h
 
-path_body : (value : Field → Option (List ℕ)) (said : Body) → SpellsBody kind.Path value said → (path : PathItem) × (said ≡ body.Path path) × SpellsPath value path
+pub path_body : (value : Field → Option (List ℕ)) (said : Body) → SpellsBody kind.Path value said → (path : PathItem) × (said ≡ body.Path path) × SpellsPath value path
 path_body value (body.Path path) h = (path, refl, h)
 path_body value _ h = absurd h
 
-cwd_body : (value : Field → Option (List ℕ)) (said : Body) → SpellsBody kind.Cwd value said → (text : Option (List ℕ)) × (said ≡ body.Cwd text) × (Says text_of (value field.Cwd) text)
+pub cwd_body : (value : Field → Option (List ℕ)) (said : Body) → SpellsBody kind.Cwd value said → (text : Option (List ℕ)) × (said ≡ body.Cwd text) × (Says text_of (value field.Cwd) text)
 cwd_body value (body.Cwd text) h = (text, refl, h)
 cwd_body value _ h = absurd h
 
-sockaddr_body : (value : Field → Option (List ℕ)) (said : Body) → SpellsBody kind.Sockaddr value said → (bytes : List ℕ) × (said ≡ body.Sockaddr bytes) × (Says bytes_of (value field.Saddr) bytes)
+pub sockaddr_body : (value : Field → Option (List ℕ)) (said : Body) → SpellsBody kind.Sockaddr value said → (bytes : List ℕ) × (said ≡ body.Sockaddr bytes) × (Says bytes_of (value field.Saddr) bytes)
 sockaddr_body value (body.Sockaddr bytes) h = (bytes, refl, h)
 sockaddr_body value _ h = absurd h
 
-pair_body : (value : Field → Option (List ℕ)) (said : Body) → SpellsBody kind.FdPair value said → (first : ℕ) × (second : ℕ) × (said ≡ body.FdPair first second) × SpellsPair value first second
+pub pair_body : (value : Field → Option (List ℕ)) (said : Body) → SpellsBody kind.FdPair value said → (first : ℕ) × (second : ℕ) × (said ≡ body.FdPair first second) × SpellsPair value first second
 pair_body value (body.FdPair first second) h = (first, second, refl, h)
 pair_body value _ h = absurd h
 
-mmap_body : (value : Field → Option (List ℕ)) (said : Body) → SpellsBody kind.Mmap value said → (fd : ℕ) × (said ≡ body.Mmap fd) × (Says handle_of (value field.Fd) fd)
+pub mmap_body : (value : Field → Option (List ℕ)) (said : Body) → SpellsBody kind.Mmap value said → (fd : ℕ) × (said ≡ body.Mmap fd) × (Says handle_of (value field.Fd) fd)
 mmap_body value (body.Mmap fd) h = (fd, refl, h)
 mmap_body value _ h = absurd h
 
-proctitle_body : (value : Field → Option (List ℕ)) (said : Body) → SpellsBody kind.Proctitle value said → said ≡ body.Proctitle
+pub proctitle_body : (value : Field → Option (List ℕ)) (said : Body) → SpellsBody kind.Proctitle value said → said ≡ body.Proctitle
 proctitle_body value body.Proctitle h = refl
 proctitle_body value _ h = absurd h
 
-eoe_body : (value : Field → Option (List ℕ)) (said : Body) → SpellsBody kind.Eoe value said → said ≡ body.Eoe
+pub eoe_body : (value : Field → Option (List ℕ)) (said : Body) → SpellsBody kind.Eoe value said → said ≡ body.Eoe
 eoe_body value body.Eoe h = refl
 eoe_body value _ h = absurd h
 
@@ -175,7 +175,7 @@ path_there line can =
       record { item = item.1; name = name.1; inode = inode.0; inode_is = inode.1; device = device.0; device_is = device.1; file = refl; kind = refl },
     )
 
-body_there : (line : List ℕ) (k : Kind) → IsReadable k line → (said : Body) × SpellsBody k (value_in_line line) said
+pub body_there : (line : List ℕ) (k : Kind) → IsReadable k line → (said : Body) × SpellsBody k (value_in_line line) said
 body_there line kind.Syscall can = let call = syscall_there line can in (body.Syscall call.0, call.1)
 body_there line kind.Path can = let path = path_there line can in (body.Path path.0, path.1)
 body_there line kind.Cwd can = let text = value_there _ can in (body.Cwd text.0, text.1)

@@ -1,97 +1,79 @@
-//! Numbers and words of used lines.
+//! Numbers and words, by the values of their fields.
 //!
-//! `lex` found no fault in a used line, so a field that must be there is there, and what is there can be read.
-ghost use Rattle.std.specs.Prelude.{◌≡◌, Some, IsSome};
-ghost use Rattle.audit_lex.specs.Values.{dec32_of, dec64_of, signed_of, hex32_of, hex64_of, device_of, handle_of, yesno_of};
-ghost use Rattle.audit_lex.specs.LineFields.{needed, offered};
+//! The answer is `None` if the value isn't spelled so, or if it isn't there and must be.
+ghost use Rattle.std.specs.Prelude.{◌≡◌, option_map};
+ghost use Rattle.std.specs.Option.{option_and_then};
+ghost use Rattle.audit_lex.specs.Values.{dec32_of, dec64_of, signed_of, hex32_of, hex64_of};
+ghost use Rattle.audit_lex.specs.Values.{device_of, handle_of, yesno_of};
+ghost use Rattle.audit_lex.specs.LineFields.{reads_if_there};
 
-use audit_lex::{Field, UsedLine, dec32, dec64, device, handle, hex32, hex64, signed, yesno};
+use audit_lex::{dec32, dec64, device, handle, hex32, hex64, signed, yesno};
 use flow_base::Device;
 
 /// A number that must be there.
-pub fn needed_dec32(used: &UsedLine<'_>, field: Field) -> u32
-    requires { IsSome (needed dec32_of used.now.line.now field) }
-    ensures { needed dec32_of used.now.line.now field ≡ Some result }
+pub fn needed_dec32(value: Option<&[u8]>) -> Option<u32>
+    ensures { result ≡ option_and_then dec32_of (option_map (λ text. text.now) value.entry) }
 {
-    let Some(value) = used.field(field) else {
-        unreachable!();
-    };
-    let Some(number) = dec32(value) else {
-        unreachable!();
-    };
-    number
+    dec32(value?)
 }
 
 /// A hex number that must be there.
-pub fn needed_hex32(used: &UsedLine<'_>, field: Field) -> u32
-    requires { IsSome (needed hex32_of used.now.line.now field) }
-    ensures { needed hex32_of used.now.line.now field ≡ Some result }
+pub fn needed_hex32(value: Option<&[u8]>) -> Option<u32>
+    ensures { result ≡ option_and_then hex32_of (option_map (λ text. text.now) value.entry) }
 {
-    let Some(value) = used.field(field) else {
-        unreachable!();
-    };
-    let Some(number) = hex32(value) else {
-        unreachable!();
-    };
-    number
+    hex32(value?)
 }
 
 /// A hex number of 64 bits that must be there.
-pub fn needed_hex64(used: &UsedLine<'_>, field: Field) -> u64
-    requires { IsSome (needed hex64_of used.now.line.now field) }
-    ensures { needed hex64_of used.now.line.now field ≡ Some result }
+pub fn needed_hex64(value: Option<&[u8]>) -> Option<u64>
+    ensures { result ≡ option_and_then hex64_of (option_map (λ text. text.now) value.entry) }
 {
-    let Some(value) = used.field(field) else {
-        unreachable!();
-    };
-    let Some(number) = hex64(value) else {
-        unreachable!();
-    };
-    number
+    hex64(value?)
 }
 
 /// A handle that must be there.
-pub fn needed_handle(used: &UsedLine<'_>, field: Field) -> u32
-    requires { IsSome (needed handle_of used.now.line.now field) }
-    ensures { needed handle_of used.now.line.now field ≡ Some result }
+pub fn needed_handle(value: Option<&[u8]>) -> Option<u32>
+    ensures { result ≡ option_and_then handle_of (option_map (λ text. text.now) value.entry) }
 {
-    let Some(value) = used.field(field) else {
-        unreachable!();
-    };
-    let Some(number) = handle(value) else {
-        unreachable!();
-    };
-    number
+    handle(value?)
 }
 
 /// `yes` or `no`, if it is there.
-pub fn offered_yesno(used: &UsedLine<'_>, field: Field) -> Option<bool>
-    requires { IsSome (offered yesno_of used.now.line.now field) }
-    ensures { offered yesno_of used.now.line.now field ≡ Some result }
+pub fn offered_yesno(value: Option<&[u8]>) -> Option<Option<bool>>
+    ensures { result ≡ reads_if_there yesno_of (option_map (λ text. text.now) value.entry) }
 {
-    yesno(used.field(field)?)
+    match value {
+        Some(text) => Some(Some(yesno(text)?)),
+        None => Some(None),
+    }
 }
 
 /// A signed number, if it is there.
-pub fn offered_signed(used: &UsedLine<'_>, field: Field) -> Option<i64>
-    requires { IsSome (offered signed_of used.now.line.now field) }
-    ensures { offered signed_of used.now.line.now field ≡ Some result }
+pub fn offered_signed(value: Option<&[u8]>) -> Option<Option<i64>>
+    ensures { result ≡ reads_if_there signed_of (option_map (λ text. text.now) value.entry) }
 {
-    signed(used.field(field)?)
+    match value {
+        Some(text) => Some(Some(signed(text)?)),
+        None => Some(None),
+    }
 }
 
 /// A number of 64 bits, if it is there.
-pub fn offered_dec64(used: &UsedLine<'_>, field: Field) -> Option<u64>
-    requires { IsSome (offered dec64_of used.now.line.now field) }
-    ensures { offered dec64_of used.now.line.now field ≡ Some result }
+pub fn offered_dec64(value: Option<&[u8]>) -> Option<Option<u64>>
+    ensures { result ≡ reads_if_there dec64_of (option_map (λ text. text.now) value.entry) }
 {
-    dec64(used.field(field)?)
+    match value {
+        Some(text) => Some(Some(dec64(text)?)),
+        None => Some(None),
+    }
 }
 
 /// A device, if it is there.
-pub fn offered_device(used: &UsedLine<'_>, field: Field) -> Option<Device>
-    requires { IsSome (offered device_of used.now.line.now field) }
-    ensures { offered device_of used.now.line.now field ≡ Some result }
+pub fn offered_device(value: Option<&[u8]>) -> Option<Option<Device>>
+    ensures { result ≡ reads_if_there device_of (option_map (λ text. text.now) value.entry) }
 {
-    device(used.field(field)?)
+    match value {
+        Some(text) => Some(Some(device(text)?)),
+        None => Some(None),
+    }
 }

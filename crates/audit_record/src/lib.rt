@@ -2,7 +2,7 @@
 //!
 //! A line is a header and a raw part of tokens; a record is the header's key, the line itself, and what the fields
 //! of its kind say: the first token of a name counts. `Spells` in specs/ is this relation between a line and a
-//! record, over the whole line; `read_record` gives the record that a used line spells.
+//! record, over the whole line; `read_line` gives the record that a line spells, if it is a used one.
 #![tactic(auto)]
 
 mod fields;
@@ -12,5 +12,5 @@ mod texts;
 mod types;
 
 pub use laws::one_record_a_line;
-pub use read::read_record;
-pub use types::{Body, NameKind, PathItem, Record, Syscall};
+pub use read::{read_line, read_record};
+pub use types::{Body, Entry, NameKind, PathItem, Record, Syscall};

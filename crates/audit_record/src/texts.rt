@@ -1,79 +1,103 @@
-//! Texts and bytes of used lines, copied and decoded.
+//! Texts and bytes, copied and decoded by the values of their fields.
 //!
-//! A text stands between quotes, is absent by the word `(null)`, or is pairs of hex digits.
-ghost use Rattle.std.specs.Prelude.{◌≡◌, Some, IsSome, IfOk};
-ghost use Rattle.audit_lex.specs.Values.{text_of, bytes_of};
-ghost use Rattle.audit_lex.specs.LineFields.{needed, offered_text};
+//! A text stands between quotes, is absent by the word `(null)`, or is pairs of hex digits. The answer is `Ok(None)` if
+//! the value isn't spelled so, or if it isn't there and must be.
+ghost use Rattle.std.specs.Prelude.{◌≡◌, Some, IsSome, IfOk, option_map};
+ghost use Rattle.std.specs.Option.{option_and_then};
+ghost use Rattle.audit_lex.specs.Values.{text_of, quoted_text, bytes_of};
+ghost use Rattle.audit_lex.specs.LineFields.{text_if_there};
 
-use audit_lex::{Field, UsedLine, quoted};
+use audit_lex::{is_bytes, quoted};
 use flow_base::{Bytes, NoMemory};
 use hex::FromHexError;
 use std::alloc::Global;
 
 /// Bytes that must be there.
-pub fn needed_bytes(alloc: Global, used: &UsedLine<'_>, field: Field) -> Result<Bytes, NoMemory>
-    requires { IsSome (needed bytes_of used.now.line.now field) }
-    ensures { IfOk result (λ bytes. needed bytes_of used.now.line.now field ≡ Some bytes) }
+pub fn needed_bytes(alloc: Global, value: Option<&[u8]>) -> Result<Option<Bytes>, NoMemory>
+    ensures { IfOk result (λ bytes. bytes
+        ≡ option_and_then bytes_of (option_map (λ text. text.now) value.entry)) }
 {
-    match used.field(field) {
+    match value {
         Some(value) => read_bytes(alloc, value),
-        None => unreachable!(),
+        None => Ok(None),
     }
 }
 
-/// A text that must be there. One that is absent by its word is `None`.
-pub fn needed_text(
-    alloc: Global,
-    used: &UsedLine<'_>,
-    field: Field,
-) -> Result<Option<Bytes>, NoMemory>
-    requires { IsSome (needed text_of used.now.line.now field) }
-    ensures { IfOk result (λ text. needed text_of used.now.line.now field ≡ Some text) }
+/// A text that must be there. One that is absent by its word is `Some(None)`.
+pub fn needed_text(alloc: Global, value: Option<&[u8]>) -> Result<Option<Option<Bytes>>, NoMemory>
+    ensures { IfOk result (λ text. text
+        ≡ option_and_then text_of (option_map (λ text. text.now) value.entry)) }
 {
-    match used.field(field) {
-        Some(value) => read_text(alloc, value),
-        None => unreachable!(),
-    }
-}
-
-/// A text, if it is there.
-pub fn text_where_offered(
-    alloc: Global,
-    used: &UsedLine<'_>,
-    field: Field,
-) -> Result<Option<Bytes>, NoMemory>
-    requires { IsSome (offered_text used.now.line.now field) }
-    ensures { IfOk result (λ text. offered_text used.now.line.now field ≡ Some text) }
-{
-    match used.field(field) {
+    match value {
         Some(value) => read_text(alloc, value),
         None => Ok(None),
     }
 }
 
-// The text that a value spells.
-fn read_text(alloc: Global, value: &[u8]) -> Result<Option<Bytes>, NoMemory>
-    requires { IsSome (text_of value.now) }
-    ensures { IfOk result (λ text. text_of value.now ≡ Some text) }
+/// A text, if it is there.
+pub fn offered_text(alloc: Global, value: Option<&[u8]>) -> Result<Option<Option<Bytes>>, NoMemory>
+    ensures { IfOk result (λ text. text
+        ≡ text_if_there (option_map (λ text. text.now) value.entry)) }
 {
     match value {
-        [b'"', ..] => match quoted(value) {
-            Some(inner) => {
-                let text = Bytes::from_slice(alloc, inner)?;
-                Ok(Some(text))
-            }
-            None => unreachable!(),
-        },
-        b"(null)" => Ok(None),
+        Some(value) => read_text(alloc, value),
+        None => Ok(Some(None)),
+    }
+}
+
+// The text that a value spells.
+fn read_text(alloc: Global, value: &[u8]) -> Result<Option<Option<Bytes>>, NoMemory>
+    ensures { IfOk result (λ text. text ≡ text_of value.now) }
+{
+    match value {
+        [b'"', ..] => {
+            let text = read_quoted(alloc, value)?;
+            Ok(present(text))
+        }
+        b"(null)" => Ok(Some(None)),
         _ => {
             let text = read_bytes(alloc, value)?;
-            Ok(Some(text))
+            Ok(present(text))
         }
     }
 }
 
+// A text that is there, if it is spelled.
+fn present(text: Option<Bytes>) -> Option<Option<Bytes>>
+    ensures { result ≡ option_map Some text }
+{
+    match text {
+        Some(text) => Some(Some(text)),
+        None => None,
+    }
+}
+
+// The text between quotes.
+fn read_quoted(alloc: Global, value: &[u8]) -> Result<Option<Bytes>, NoMemory>
+    ensures { IfOk result (λ text. text ≡ quoted_text value.now) }
+{
+    match quoted(value) {
+        Some(inner) => {
+            let text = Bytes::from_slice(alloc, inner)?;
+            Ok(Some(text))
+        }
+        None => Ok(None),
+    }
+}
+
 // The bytes that a value spells.
-fn read_bytes(alloc: Global, value: &[u8]) -> Result<Bytes, NoMemory>
+fn read_bytes(alloc: Global, value: &[u8]) -> Result<Option<Bytes>, NoMemory>
+    ensures { IfOk result (λ bytes. bytes ≡ bytes_of value.now) }
+{
+    if !is_bytes(value) {
+        return Ok(None);
+    }
+    let bytes = decode(alloc, value)?;
+    Ok(Some(bytes))
+}
+
+// The bytes of pairs of hex digits.
+fn decode(alloc: Global, value: &[u8]) -> Result<Bytes, NoMemory>
     requires { IsSome (bytes_of value.now) }
     ensures { IfOk result (λ bytes. bytes_of value.now ≡ Some bytes) }
 {

@@ -60,3 +60,11 @@ pub struct Record {
     pub line: Bytes,
     pub body: Body,
 }
+
+/// What a used line gives: its record, or the key of the event that it ends. The record of an end says no more than that,
+/// so none is made of it.
+#[derive(Drop)]
+pub enum Entry {
+    Record(Record),
+    End(EventKey),
+}

@@ -1,6 +1,6 @@
 -- The laws of events' acts, from what holds of each act of a caller.
 use Rattle.std.proofs.Common.{◌≡◌, refl, ap, sym, subst, ◌∙◌, ℕ, Bool, true, false, List, [], ◌∷◌, ◌++◌, reverse, Option, None, Some, if◌then◌else◌, inl, inr, eq-eqb, append_assoc}
-use Rattle.std.specs.Prelude.{◌==◌}
+use Rattle.std.specs.Prelude.{◌==◌, option_map}
 use Rattle.std.specs.Option.{option_and_then}
 use Rattle.std.proofs.lemmas.Grind.{reverse_onto}
 use Rattle.std.proofs.lemmas.List.{reverse-append}
@@ -14,8 +14,10 @@ use Rattle.acts.specs.Lives.{live, is_child}
 use Rattle.acts.specs.Admitted.{Admitted, names_live}
 use Rattle.acts.specs.LookBack.{opens}
 use Rattle.call_acts.specs.declared.calls.Call.{Call}
+use Rattle.call_acts.specs.declared.calls.Row.{Row}
+use Rattle.call_acts.specs.Calls.{flags_of}
 use Rattle.call_acts.specs.Records.{call}
-use Rattle.call_acts.specs.Acts.{row_acts, acts_by, acts_from, acts_of_events, event_acts, event_call, row_of}
+use Rattle.call_acts.specs.Acts.{kind_acts, acts_by, acts_from, acts_of_events, event_acts, event_call, kind_of, row_of}
 use Rattle.call_acts.specs.Laws.{is_act_of, AreOfCaller, OpenNothing, opens_descriptors}
 use Rattle.call_acts.proofs.RowActs.{HoldsOfCaller, ends_caller, Each, all_of_each, all_hold, ends_or_not}
 
@@ -38,9 +40,9 @@ own_acts caller by =
       addresses = λ opening n bytes. same;
     }
 
-own_by : (limit : ℕ) (records : List Record) (caller : Syscall) (by : Option Call) → Each (λ act. is_act_of caller.pid act ≡ true) (acts_by limit records caller by)
+own_by : (limit : ℕ) (records : List Record) (caller : Syscall) (by : Option Row) → Each (λ act. is_act_of caller.pid act ≡ true) (acts_by limit records caller by)
 own_by limit records caller None = tt
-own_by limit records caller (Some by) = all_hold limit records caller by _ (own_acts caller by)
+own_by limit records caller (Some by) = all_hold limit records caller (flags_of by.flags caller) by.call _ (own_acts caller by.call)
 
 pub of_caller : (limit : ℕ) (records : List Record) (caller : Syscall) → call records ≡ Some caller → AreOfCaller caller (event_acts limit records)
 of_caller limit records caller is = record {
@@ -84,16 +86,16 @@ admitted_after pid (act ∷ acts) before all is admitted =
     let one = all.0 before is in
     subst Admitted (sym (turned act acts before)) (admitted_after pid acts (act ∷ before) all.1 one.1 (one.0, admitted))
 
-row_admitted : (limit : ℕ) (records : List Record) (caller : Syscall) (by : Call) (before : List Act) → live before caller.pid ≡ true → Admitted before → Admitted (reverse (row_acts limit records caller by) ++ before)
-row_admitted limit records caller by before is admitted =
+kind_admitted : (limit : ℕ) (records : List Record) (caller : Syscall) (flags : ℕ) (by : Call) (before : List Act) → live before caller.pid ≡ true → Admitted before → Admitted (reverse (kind_acts limit records caller flags by) ++ before)
+kind_admitted limit records caller flags by before is admitted =
     elim (ends_or_not by) [
-      | inl exits ↦ subst (λ (one : Call). Admitted (reverse (row_acts limit records caller one) ++ before)) (sym exits) (is, admitted)
-      | inr stays ↦ admitted_after caller.pid _ before (all_hold limit records caller by _ (leaving_acts caller by stays)) is admitted
+      | inl exits ↦ subst (λ (one : Call). Admitted (reverse (kind_acts limit records caller flags one) ++ before)) (sym exits) (is, admitted)
+      | inr stays ↦ admitted_after caller.pid _ before (all_hold limit records caller flags by _ (leaving_acts caller by stays)) is admitted
     ]
 
-by_admitted : (limit : ℕ) (records : List Record) (caller : Syscall) (by : Option Call) (before : List Act) → live before caller.pid ≡ true → Admitted before → Admitted (reverse (acts_by limit records caller by) ++ before)
+by_admitted : (limit : ℕ) (records : List Record) (caller : Syscall) (by : Option Row) (before : List Act) → live before caller.pid ≡ true → Admitted before → Admitted (reverse (acts_by limit records caller by) ++ before)
 by_admitted limit records caller None before is admitted = admitted
-by_admitted limit records caller (Some by) before is admitted = row_admitted limit records caller by before is admitted
+by_admitted limit records caller (Some by) before is admitted = kind_admitted limit records caller (flags_of by.flags caller) by.call before is admitted
 
 from_admitted : (limit : ℕ) (records : List Record) (caller : Option Syscall) (before : List Act) → Admitted before → Admitted (reverse (acts_from limit records caller) ++ before)
 from_admitted limit records None before admitted = admitted
@@ -132,11 +134,11 @@ closed_acts caller by closed = record {
   addresses = λ opening n bytes. absurd (both_ways _ closed opening);
 }
 
-closed_by : (limit : ℕ) (records : List Record) (caller : Syscall) (by : Option Call) → ((one : Call) → by ≡ Some one → opens_descriptors one ≡ false) → Each (λ act. opens act ≡ false) (acts_by limit records caller by)
+closed_by : (limit : ℕ) (records : List Record) (caller : Syscall) (by : Option Row) → ((one : Call) → option_map (λ row. row.call) by ≡ Some one → opens_descriptors one ≡ false) → Each (λ act. opens act ≡ false) (acts_by limit records caller by)
 closed_by limit records caller None closed = tt
-closed_by limit records caller (Some by) closed = all_hold limit records caller by _ (closed_acts caller by (closed by refl))
+closed_by limit records caller (Some by) closed = all_hold limit records caller (flags_of by.flags caller) by.call _ (closed_acts caller by.call (closed by.call refl))
 
-closed_from : (limit : ℕ) (records : List Record) (caller : Option Syscall) → ((one : Call) → option_and_then row_of caller ≡ Some one → opens_descriptors one ≡ false) → Each (λ act. opens act ≡ false) (acts_from limit records caller)
+closed_from : (limit : ℕ) (records : List Record) (caller : Option Syscall) → ((one : Call) → option_and_then kind_of caller ≡ Some one → opens_descriptors one ≡ false) → Each (λ act. opens act ≡ false) (acts_from limit records caller)
 closed_from limit records None closed = tt
 closed_from limit records (Some caller) closed = (refl, closed_by limit records caller (row_of caller) closed)
 

@@ -3,3 +3,4 @@ pub mod RowActs
 pub mod RowSizes
 pub mod EventLaws
 pub mod RowShapes
+pub mod TableLemmas

@@ -1,4 +1,4 @@
--- What holds of each act of a caller holds of all acts of a row.
+-- What holds of each act of a caller holds of all acts of a kind of call.
 use Rattle.std.proofs.Common.{◌≡◌, refl, ℕ, ◌&&◌, ◌||◌, not, Bool, true, false, List, [], ◌∷◌, ◌++◌, Option, None, Some, if◌then◌else◌, inl, inr, ◌⊎◌}
 use Rattle.std.specs.Prelude.{◌==◌, All, ⊤}
 use Rattle.std.specs.List.{flat_map}
@@ -17,22 +17,23 @@ use Rattle.acts.specs.declared.act.Thing.TheVariants as thing
 use Rattle.acts.specs.declared.act.Opens.{Opens}
 use Rattle.acts.specs.declared.act.Opens.TheVariants as opens
 use Rattle.call_acts.specs.declared.calls.Call.{Call}
-use Rattle.call_acts.specs.declared.calls.Call.TheVariants as row
+use Rattle.call_acts.specs.declared.calls.Call.TheVariants as kind
 use Rattle.call_acts.specs.Answers.{is_ok, moved, answered, goes_on, fd, has, when, for_number}
+use Rattle.call_acts.specs.Calls.{TRUNCATE}
 use Rattle.call_acts.specs.Records.{paths, target, file_of, address, mapped, pair, same_kind}
 use Rattle.call_acts.specs.Transfers.{inward, outward, peer, passes, maps_fd}
-use Rattle.call_acts.specs.Descriptors.{CLOEXEC, TRUNCATE, open_flags, sets_file, opens_file, opens_target, copies_to_other, controls, pairs_up, pair_cloexec, gets_address, accept_cloexec}
+use Rattle.call_acts.specs.Descriptors.{CLOEXEC, sets_file, opens_file, opens_target, copies_to_other, controls, pairs_up, gets_address}
 use Rattle.call_acts.specs.Processes.{THREAD, runs_file, makes_child, forks}
 use Rattle.call_acts.specs.Files.{alters_file, alters_target, alters_target_or_fd, bears}
-use Rattle.call_acts.specs.Acts.{row_acts}
+use Rattle.call_acts.specs.Acts.{kind_acts}
 use Rattle.call_acts.specs.Laws.{opens_descriptors}
 
--- the row ends its caller
+-- the kind ends its caller
 abbrev pub ends_caller : Call → Bool
-ends_caller row.Exit = true
+ends_caller kind.Exit = true
 ends_caller other = false
 
--- the property holds of each act that a caller can do by this row
+-- the property holds of each act that a caller can do by a call of this kind
 pub record HoldsOfCaller (call : Syscall) (by : Call) (P : Act → Type 0) : Type 0 where
   pub moves : (inward : Bool) (way : How) (what : Thing) → P (TheAct.Move call.pid inward way what)
   pub births : (file : FileRef) → P (TheAct.Birth file)
@@ -46,7 +47,7 @@ pub record HoldsOfCaller (call : Syscall) (by : Call) (P : Act → Type 0) : Typ
   pub copies : opens_descriptors by ≡ true → (from to : ℕ) (cloexec : Bool) → P (TheAct.Copy call.pid from to cloexec)
   pub addresses : opens_descriptors by ≡ true → (n : ℕ) (bytes : List ℕ) → P (TheAct.Address call.pid n bytes)
 
--- ---- parts of rows
+-- ---- parts of kinds
 
 -- the property holds of each act
 abbrev pub Each : (Act → Type 0) → List Act → Type 0
@@ -86,15 +87,15 @@ if_all P false xs ys all others = others
 passes_all : {call : Syscall} {by : Call} {P : Act → Type 0} → HoldsOfCaller call by P → (from to : ℕ) → Each P (passes call from to)
 passes_all {call} {by} {P} h from to = when_all P (moved call) (inward call how.Read (thing.Fd from) ∷ outward call how.Write (thing.Fd to) ∷ []) (two P (h.moves true how.Read (thing.Fd from)) (h.moves false how.Write (thing.Fd to)))
 
-opens_file_all : {call : Syscall} {by : Call} {P : Act → Type 0} → HoldsOfCaller call by P → opens_descriptors by ≡ true → (n : ℕ) (created : Bool) (file : FileRef) → Each P (opens_file call n created file)
-opens_file_all {call} {by} {P} h opening n true file = (h.births file, two P (h.moves false how.Make (thing.File file)) (h.sets opening n (opens.File file) (has (open_flags call) CLOEXEC)))
-opens_file_all {call} {by} {P} h opening n false file =
-    each_append P (when (has (open_flags call) TRUNCATE) (outward call how.Alter (thing.File file) ∷ [])) (sets_file call n file ∷ [])
-    (when_all P (has (open_flags call) TRUNCATE) (outward call how.Alter (thing.File file) ∷ []) (one P (h.moves false how.Alter (thing.File file)))) (one P (h.sets opening n (opens.File file) (has (open_flags call) CLOEXEC)))
+opens_file_all : {call : Syscall} {by : Call} {P : Act → Type 0} → HoldsOfCaller call by P → opens_descriptors by ≡ true → (flags n : ℕ) (created : Bool) (file : FileRef) → Each P (opens_file call flags n created file)
+opens_file_all {call} {by} {P} h opening flags n true file = (h.births file, two P (h.moves false how.Make (thing.File file)) (h.sets opening n (opens.File file) (has flags CLOEXEC)))
+opens_file_all {call} {by} {P} h opening flags n false file =
+    each_append P (when (has flags TRUNCATE) (outward call how.Alter (thing.File file) ∷ [])) (sets_file call flags n file ∷ [])
+    (when_all P (has flags TRUNCATE) (outward call how.Alter (thing.File file) ∷ []) (one P (h.moves false how.Alter (thing.File file)))) (one P (h.sets opening n (opens.File file) (has flags CLOEXEC)))
 
-opens_all : {call : Syscall} {by : Call} {P : Act → Type 0} → HoldsOfCaller call by P → opens_descriptors by ≡ true → (limit : ℕ) (records : List Record) (item : Option PathItem) (n : ℕ) → Each P (opens_target limit records call item n)
-opens_all h opening limit records None n = (h.closes n, tt)
-opens_all h opening limit records (Some item) n = opens_file_all h opening n (same_kind item.kind named.Create) (file_of limit records item)
+opens_all : {call : Syscall} {by : Call} {P : Act → Type 0} → HoldsOfCaller call by P → opens_descriptors by ≡ true → (limit : ℕ) (records : List Record) (flags : ℕ) (item : Option PathItem) (n : ℕ) → Each P (opens_target limit records call flags item n)
+opens_all h opening limit records flags None n = (h.closes n, tt)
+opens_all h opening limit records flags (Some item) n = opens_file_all h opening flags n (same_kind item.kind named.Create) (file_of limit records item)
 
 copies_all : {call : Syscall} {by : Call} {P : Act → Type 0} → HoldsOfCaller call by P → opens_descriptors by ≡ true → (cloexec : Bool) (n : ℕ) → Each P (copies_to_other call cloexec n)
 copies_all {call} {by} {P} h opening cloexec n = if_all P (fd call.a0 == n) [] _ tt (one P (h.copies opening (fd call.a0) n cloexec))
@@ -105,9 +106,9 @@ controls_all {call} {by} {P} h opening =
     (if_all P (fd call.a1 == 1030) _ _ (for_all P (answered call) _ (λ n. one P (h.copies opening (fd call.a0) n true)))
     (if_all P (fd call.a1 == 2) _ _ (when_all P (is_ok call) (TheAct.Mark call.pid (fd call.a0) (has call.a2 1) ∷ []) (one P (h.marks (fd call.a0) (has call.a2 1)))) tt))
 
-pair_all : {call : Syscall} {by : Call} {P : Act → Type 0} → HoldsOfCaller call by P → opens_descriptors by ≡ true → (both : Option (ℕ × ℕ)) → Each P (pairs_up call both)
-pair_all h opening None = tt
-pair_all {call} h opening (Some both) = (h.both opening both.0 both.1 (pair_cloexec call), tt)
+pair_all : {call : Syscall} {by : Call} {P : Act → Type 0} → HoldsOfCaller call by P → opens_descriptors by ≡ true → (flags : ℕ) (both : Option (ℕ × ℕ)) → Each P (pairs_up call flags both)
+pair_all h opening flags None = tt
+pair_all {call} h opening flags (Some both) = (h.both opening both.0 both.1 (has flags CLOEXEC), tt)
 
 address_all : {call : Syscall} {by : Call} {P : Act → Type 0} → HoldsOfCaller call by P → opens_descriptors by ≡ true → (bytes : Option (List ℕ)) → Each P (gets_address call bytes)
 address_all h opening None = tt
@@ -116,8 +117,8 @@ address_all {call} h opening (Some bytes) = (h.addresses opening (fd call.a0) by
 child_all : {call : Syscall} {by : Call} {P : Act → Type 0} → HoldsOfCaller call by P → (n : ℕ) → Each P (makes_child call n)
 child_all {call} {by} {P} h n = if_all P (n == 0 || n == call.pid) [] _ tt (one P (h.forks n))
 
-mapped_all : {call : Syscall} {by : Call} {P : Act → Type 0} → HoldsOfCaller call by P → (n : ℕ) → Each P (maps_fd call n)
-mapped_all {call} {by} {P} h n = (h.moves true how.Read (thing.Fd n), when_all P (has call.a3 1 && has call.a2 2) (outward call how.Write (thing.Fd n) ∷ []) (one P (h.moves false how.Write (thing.Fd n))))
+mapped_all : {call : Syscall} {by : Call} {P : Act → Type 0} → HoldsOfCaller call by P → (flags n : ℕ) → Each P (maps_fd call flags n)
+mapped_all {call} {by} {P} h flags n = (h.moves true how.Read (thing.Fd n), when_all P (has flags 1 && has call.a2 2) (outward call how.Write (thing.Fd n) ∷ []) (one P (h.moves false how.Write (thing.Fd n))))
 
 target_all : {call : Syscall} {by : Call} {P : Act → Type 0} → HoldsOfCaller call by P → (limit : ℕ) (records : List Record) (item : Option PathItem) → Each P (alters_target limit records call item)
 target_all h limit records None = tt
@@ -127,64 +128,64 @@ target_or_fd_all : {call : Syscall} {by : Call} {P : Act → Type 0} → HoldsOf
 target_or_fd_all {call} h limit records None = (h.moves false how.Alter (thing.Fd (fd call.a0)), tt)
 target_or_fd_all h limit records (Some item) = (h.moves false how.Alter (thing.File (file_of limit records item)), tt)
 
--- ---- all rows
+-- ---- all kinds
 
-pub all_hold : (limit : ℕ) (records : List Record) (call : Syscall) (by : Call) (P : Act → Type 0) → HoldsOfCaller call by P → Each P (row_acts limit records call by)
-all_hold limit records call row.Read P h = when_all P (moved call) (inward call how.Read (thing.Fd (fd call.a0)) ∷ []) (one P (h.moves true how.Read (thing.Fd (fd call.a0))))
-all_hold limit records call row.Receive P h = when_all P (moved call) (inward call how.Read (peer call (address records)) ∷ []) (one P (h.moves true how.Read (peer call (address records))))
-all_hold limit records call row.Write P h = when_all P (moved call) (outward call how.Write (thing.Fd (fd call.a0)) ∷ []) (one P (h.moves false how.Write (thing.Fd (fd call.a0))))
-all_hold limit records call row.Send P h = when_all P (moved call) (outward call how.Write (peer call (address records)) ∷ []) (one P (h.moves false how.Write (peer call (address records))))
-all_hold limit records call row.SendFile P h = passes_all h (fd call.a1) (fd call.a0)
-all_hold limit records call row.Tee P h = passes_all h (fd call.a0) (fd call.a1)
-all_hold limit records call row.Splice P h = passes_all h (fd call.a0) (fd call.a2)
-all_hold limit records call row.Open P h = for_all P (answered call) _ (λ n. opens_all h refl limit records (target records) n)
-all_hold limit records call row.Close P h = when_all P (is_ok call) (TheAct.Close call.pid (fd call.a0) ∷ []) (one P (h.closes (fd call.a0)))
-all_hold limit records call row.Dup P h = for_all P (answered call) _ (λ n. one P (h.copies refl (fd call.a0) n false))
-all_hold limit records call row.Dup2 P h = for_all P (answered call) _ (λ n. copies_all h refl false n)
-all_hold limit records call row.Dup3 P h = for_all P (answered call) _ (λ n. copies_all h refl (has call.a2 CLOEXEC) n)
-all_hold limit records call row.Fcntl P h = controls_all h refl
-all_hold limit records call row.Pair P h = when_all P (is_ok call) (pairs_up call (pair records)) (pair_all h refl (pair records))
-all_hold limit records call row.Socket P h = for_all P (answered call) _ (λ n. one P (h.sets refl n (opens.Socket None None) (has call.a1 CLOEXEC)))
-all_hold limit records call row.Bind P h = when_all P (is_ok call) (gets_address call (address records)) (address_all h refl (address records))
-all_hold limit records call row.Connect P h = when_all P (is_ok call || goes_on call.exit) (gets_address call (address records)) (address_all h refl (address records))
-all_hold limit records call row.Accept P h = for_all P (answered call) _ (λ n. one P (h.sets refl n (opens.Socket (address records) (Some (fd call.a0))) (accept_cloexec call)))
-all_hold limit records call row.Exec P h = when_all P (is_ok call) (flat_map (runs_file limit records call) (paths named.Normal records) ++ TheAct.Exec call.pid ∷ []) (each_append P (flat_map (runs_file limit records call) (paths named.Normal records)) (TheAct.Exec call.pid ∷ []) (flat_all P (runs_file limit records call) (paths named.Normal records) (λ item. one P (h.moves true how.Exec (thing.File (file_of limit records item))))) (one P (h.execs)))
-all_hold limit records call row.Fork P h = for_all P (answered call) _ (λ n. child_all h n)
-all_hold limit records call row.Clone P h = when_all P (not (has call.a0 THREAD)) (forks call) (for_all P (answered call) _ (λ n. child_all h n))
-all_hold limit records call row.Exit P h = one P (h.ends refl)
-all_hold limit records call row.Map P h = when_all P (is_ok call && not (has call.a3 32)) (for_number (mapped records) (maps_fd call)) (for_all P (mapped records) (maps_fd call) (mapped_all h))
-all_hold limit records call row.AlterPath P h = when_all P (is_ok call) (alters_target limit records call (target records)) (target_all h limit records (target records))
-all_hold limit records call row.AlterFd P h = when_all P (is_ok call) (alters_target_or_fd limit records call (target records)) (target_or_fd_all h limit records (target records))
-all_hold limit records call row.Rename P h = when_all P (is_ok call) (flat_map (alters_file limit records call) (paths named.Create records)) (flat_all P (alters_file limit records call) (paths named.Create records) (λ item. one P (h.moves false how.Alter (thing.File (file_of limit records item)))))
-all_hold limit records call row.Remove P h = when_all P (is_ok call) (flat_map (alters_file limit records call) (paths named.Delete records)) (flat_all P (alters_file limit records call) (paths named.Delete records) (λ item. one P (h.moves false how.Alter (thing.File (file_of limit records item)))))
-all_hold limit records call row.MakePath P h = when_all P (is_ok call) (flat_map (λ item. bears call (file_of limit records item)) (paths named.Create records)) (flat_all P (λ item. bears call (file_of limit records item)) (paths named.Create records) (λ item. two P (h.births (file_of limit records item)) (h.moves false how.Make (thing.File (file_of limit records item)))))
+pub all_hold : (limit : ℕ) (records : List Record) (call : Syscall) (flags : ℕ) (by : Call) (P : Act → Type 0) → HoldsOfCaller call by P → Each P (kind_acts limit records call flags by)
+all_hold limit records call flags kind.Read P h = when_all P (moved call) (inward call how.Read (thing.Fd (fd call.a0)) ∷ []) (one P (h.moves true how.Read (thing.Fd (fd call.a0))))
+all_hold limit records call flags kind.Receive P h = when_all P (moved call) (inward call how.Read (peer call (address records)) ∷ []) (one P (h.moves true how.Read (peer call (address records))))
+all_hold limit records call flags kind.Write P h = when_all P (moved call) (outward call how.Write (thing.Fd (fd call.a0)) ∷ []) (one P (h.moves false how.Write (thing.Fd (fd call.a0))))
+all_hold limit records call flags kind.Send P h = when_all P (moved call) (outward call how.Write (peer call (address records)) ∷ []) (one P (h.moves false how.Write (peer call (address records))))
+all_hold limit records call flags kind.SendFile P h = passes_all h (fd call.a1) (fd call.a0)
+all_hold limit records call flags kind.Tee P h = passes_all h (fd call.a0) (fd call.a1)
+all_hold limit records call flags kind.Splice P h = passes_all h (fd call.a0) (fd call.a2)
+all_hold limit records call flags kind.Open P h = for_all P (answered call) _ (λ n. opens_all h refl limit records flags (target records) n)
+all_hold limit records call flags kind.Close P h = when_all P (is_ok call) (TheAct.Close call.pid (fd call.a0) ∷ []) (one P (h.closes (fd call.a0)))
+all_hold limit records call flags kind.Dup P h = for_all P (answered call) _ (λ n. one P (h.copies refl (fd call.a0) n false))
+all_hold limit records call flags kind.Dup2 P h = for_all P (answered call) _ (λ n. copies_all h refl false n)
+all_hold limit records call flags kind.Dup3 P h = for_all P (answered call) _ (λ n. copies_all h refl (has flags CLOEXEC) n)
+all_hold limit records call flags kind.Fcntl P h = controls_all h refl
+all_hold limit records call flags kind.Pair P h = when_all P (is_ok call) (pairs_up call flags (pair records)) (pair_all h refl flags (pair records))
+all_hold limit records call flags kind.Socket P h = for_all P (answered call) _ (λ n. one P (h.sets refl n (opens.Socket None None) (has flags CLOEXEC)))
+all_hold limit records call flags kind.Bind P h = when_all P (is_ok call) (gets_address call (address records)) (address_all h refl (address records))
+all_hold limit records call flags kind.Connect P h = when_all P (is_ok call || goes_on call.exit) (gets_address call (address records)) (address_all h refl (address records))
+all_hold limit records call flags kind.Accept P h = for_all P (answered call) _ (λ n. one P (h.sets refl n (opens.Socket (address records) (Some (fd call.a0))) (has flags CLOEXEC)))
+all_hold limit records call flags kind.Exec P h = when_all P (is_ok call) (flat_map (runs_file limit records call) (paths named.Normal records) ++ TheAct.Exec call.pid ∷ []) (each_append P (flat_map (runs_file limit records call) (paths named.Normal records)) (TheAct.Exec call.pid ∷ []) (flat_all P (runs_file limit records call) (paths named.Normal records) (λ item. one P (h.moves true how.Exec (thing.File (file_of limit records item))))) (one P (h.execs)))
+all_hold limit records call flags kind.Fork P h = for_all P (answered call) _ (λ n. child_all h n)
+all_hold limit records call flags kind.Clone P h = when_all P (not (has flags THREAD)) (forks call) (for_all P (answered call) _ (λ n. child_all h n))
+all_hold limit records call flags kind.Exit P h = one P (h.ends refl)
+all_hold limit records call flags kind.Map P h = when_all P (is_ok call && not (has flags 32)) (for_number (mapped records) (maps_fd call flags)) (for_all P (mapped records) (maps_fd call flags) (mapped_all h flags))
+all_hold limit records call flags kind.AlterPath P h = when_all P (is_ok call) (alters_target limit records call (target records)) (target_all h limit records (target records))
+all_hold limit records call flags kind.AlterFd P h = when_all P (is_ok call) (alters_target_or_fd limit records call (target records)) (target_or_fd_all h limit records (target records))
+all_hold limit records call flags kind.Rename P h = when_all P (is_ok call) (flat_map (alters_file limit records call) (paths named.Create records)) (flat_all P (alters_file limit records call) (paths named.Create records) (λ item. one P (h.moves false how.Alter (thing.File (file_of limit records item)))))
+all_hold limit records call flags kind.Remove P h = when_all P (is_ok call) (flat_map (alters_file limit records call) (paths named.Delete records)) (flat_all P (alters_file limit records call) (paths named.Delete records) (λ item. one P (h.moves false how.Alter (thing.File (file_of limit records item)))))
+all_hold limit records call flags kind.MakePath P h = when_all P (is_ok call) (flat_map (λ item. bears call (file_of limit records item)) (paths named.Create records)) (flat_all P (λ item. bears call (file_of limit records item)) (paths named.Create records) (λ item. two P (h.births (file_of limit records item)) (h.moves false how.Make (thing.File (file_of limit records item)))))
 
-pub ends_or_not : (by : Call) → (by ≡ row.Exit) ⊎ (ends_caller by ≡ false)
-ends_or_not row.Read = inr refl
-ends_or_not row.Receive = inr refl
-ends_or_not row.Write = inr refl
-ends_or_not row.Send = inr refl
-ends_or_not row.SendFile = inr refl
-ends_or_not row.Tee = inr refl
-ends_or_not row.Splice = inr refl
-ends_or_not row.Open = inr refl
-ends_or_not row.Close = inr refl
-ends_or_not row.Dup = inr refl
-ends_or_not row.Dup2 = inr refl
-ends_or_not row.Dup3 = inr refl
-ends_or_not row.Fcntl = inr refl
-ends_or_not row.Pair = inr refl
-ends_or_not row.Socket = inr refl
-ends_or_not row.Bind = inr refl
-ends_or_not row.Connect = inr refl
-ends_or_not row.Accept = inr refl
-ends_or_not row.Exec = inr refl
-ends_or_not row.Fork = inr refl
-ends_or_not row.Clone = inr refl
-ends_or_not row.Exit = inl refl
-ends_or_not row.Map = inr refl
-ends_or_not row.AlterPath = inr refl
-ends_or_not row.AlterFd = inr refl
-ends_or_not row.Rename = inr refl
-ends_or_not row.Remove = inr refl
-ends_or_not row.MakePath = inr refl
+pub ends_or_not : (by : Call) → (by ≡ kind.Exit) ⊎ (ends_caller by ≡ false)
+ends_or_not kind.Read = inr refl
+ends_or_not kind.Receive = inr refl
+ends_or_not kind.Write = inr refl
+ends_or_not kind.Send = inr refl
+ends_or_not kind.SendFile = inr refl
+ends_or_not kind.Tee = inr refl
+ends_or_not kind.Splice = inr refl
+ends_or_not kind.Open = inr refl
+ends_or_not kind.Close = inr refl
+ends_or_not kind.Dup = inr refl
+ends_or_not kind.Dup2 = inr refl
+ends_or_not kind.Dup3 = inr refl
+ends_or_not kind.Fcntl = inr refl
+ends_or_not kind.Pair = inr refl
+ends_or_not kind.Socket = inr refl
+ends_or_not kind.Bind = inr refl
+ends_or_not kind.Connect = inr refl
+ends_or_not kind.Accept = inr refl
+ends_or_not kind.Exec = inr refl
+ends_or_not kind.Fork = inr refl
+ends_or_not kind.Clone = inr refl
+ends_or_not kind.Exit = inl refl
+ends_or_not kind.Map = inr refl
+ends_or_not kind.AlterPath = inr refl
+ends_or_not kind.AlterFd = inr refl
+ends_or_not kind.Rename = inr refl
+ends_or_not kind.Remove = inr refl
+ends_or_not kind.MakePath = inr refl

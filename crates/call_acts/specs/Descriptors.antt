@@ -1,5 +1,5 @@
 -- The acts of calls that open, copy and close descriptors.
-use Rattle.std.specs.Prelude.{ℕ, ◌==◌, ◌||◌, ◌&&◌, ◌++◌, Bool, true, false, not, List, [], ◌∷◌, Option, None, Some, if◌then◌else◌}
+use Rattle.std.specs.Prelude.{ℕ, ◌==◌, ◌||◌, ◌++◌, Bool, true, false, List, [], ◌∷◌, Option, None, Some, if◌then◌else◌}
 use Rattle.flow_base.specs.declared.types.How.TheVariants as how
 use Rattle.audit_record.specs.declared.types.Record.{Record}
 use Rattle.audit_record.specs.declared.types.Syscall.{Syscall}
@@ -11,45 +11,36 @@ use Rattle.acts.specs.declared.act.Act.TheVariants.{Set, SetBoth, Copy, Close, M
 use Rattle.acts.specs.declared.act.Thing.TheVariants as thing
 use Rattle.acts.specs.declared.act.Opens.TheVariants as opens
 use Rattle.call_acts.specs.Answers.{is_ok, answered, goes_on, fd, has, when, for_number}
+use Rattle.call_acts.specs.Calls.{TRUNCATE}
 use Rattle.call_acts.specs.Records.{address, pair, target, file_of, same_kind}
 use Rattle.call_acts.specs.Transfers.{outward}
 
--- the flag that a descriptor closes at an exec, of open, pipe2, socket, accept4 and dup3
+-- the flag that a descriptor closes at an exec, in the flags of all calls that open descriptors
 abbrev pub CLOEXEC : ℕ
 CLOEXEC = 524288
 
--- the flag of an open that empties the file
-abbrev pub TRUNCATE : ℕ
-TRUNCATE = 512
-
 -- ---- open
 
--- the flags of an open, by its number: open has them second and openat third, creat always truncates, and the ones of
--- openat2 lie in memory that no record shows
-abbrev pub open_flags : Syscall → ℕ
-open_flags call =
-    if call.number == 2 then call.a1
-    else if call.number == 257 then call.a2
-    else if call.number == 85 then TRUNCATE
-    else 0
-
 -- the descriptor opens the file
-abbrev pub sets_file : Syscall → ℕ → FileRef → Act
-sets_file call n file = Set call.pid n (opens.File file) (has (open_flags call) CLOEXEC)
+abbrev pub sets_file : Syscall → ℕ → ℕ → FileRef → Act
+sets_file call flags n file = Set call.pid n (opens.File file) (has flags CLOEXEC)
 
 -- a file that was created is born and made; one that was there is altered if the open truncates it
-abbrev pub opens_file : Syscall → ℕ → Bool → FileRef → List Act
-opens_file call n true file = Birth file ∷ outward call how.Make (thing.File file) ∷ sets_file call n file ∷ []
-opens_file call n false file = when (has (open_flags call) TRUNCATE) (outward call how.Alter (thing.File file) ∷ []) ++ sets_file call n file ∷ []
+abbrev pub opens_file : Syscall → ℕ → ℕ → Bool → FileRef → List Act
+opens_file call flags n true file =
+    Birth file ∷ outward call how.Make (thing.File file) ∷ sets_file call flags n file ∷ []
+opens_file call flags n false file =
+    when (has flags TRUNCATE) (outward call how.Alter (thing.File file) ∷ []) ++ sets_file call flags n file ∷ []
 
 -- an open opens its target; if the event has none, nothing is known of the descriptor any more
-abbrev pub opens_target : ℕ → List Record → Syscall → Option PathItem → ℕ → List Act
-opens_target limit records call None n = Close call.pid n ∷ []
-opens_target limit records call (Some item) n = opens_file call n (same_kind item.kind named.Create) (file_of limit records item)
+abbrev pub opens_target : ℕ → List Record → Syscall → ℕ → Option PathItem → ℕ → List Act
+opens_target limit records call flags None n = Close call.pid n ∷ []
+opens_target limit records call flags (Some item) n =
+    opens_file call flags n (same_kind item.kind named.Create) (file_of limit records item)
 
 -- an open that answered a descriptor
-abbrev pub opens_path : ℕ → List Record → Syscall → List Act
-opens_path limit records call = for_number (answered call) (opens_target limit records call (target records))
+abbrev pub opens_path : ℕ → List Record → Syscall → ℕ → List Act
+opens_path limit records call flags = for_number (answered call) (opens_target limit records call flags (target records))
 
 -- ---- close, dup, fcntl
 
@@ -74,8 +65,8 @@ abbrev pub dups_to : Syscall → List Act
 dups_to call = for_number (answered call) (copies_to_other call false)
 
 -- a dup3 is a dup2 with flags
-abbrev pub dups_with_flags : Syscall → List Act
-dups_with_flags call = for_number (answered call) (copies_to_other call (has call.a2 CLOEXEC))
+abbrev pub dups_with_flags : Syscall → ℕ → List Act
+dups_with_flags call flags = for_number (answered call) (copies_to_other call (has flags CLOEXEC))
 
 -- an fcntl copies by its commands 0 and 1030, the second with the mark, and marks by its command 2
 abbrev pub controls : Syscall → List Act
@@ -87,26 +78,22 @@ controls call =
 
 -- ---- pipes and sockets
 
--- the ends of a pipe are marked as pipe2 and socketpair say; pipe has no flags
-abbrev pub pair_cloexec : Syscall → Bool
-pair_cloexec call = not (call.number == 22) && has call.a1 CLOEXEC
-
 -- both descriptors of a pair
-abbrev pub pairs_up : Syscall → Option (ℕ × ℕ) → List Act
-pairs_up call None = []
-pairs_up call (Some both) = SetBoth call.pid both.0 both.1 (pair_cloexec call) ∷ []
+abbrev pub pairs_up : Syscall → ℕ → Option (ℕ × ℕ) → List Act
+pairs_up call flags None = []
+pairs_up call flags (Some both) = SetBoth call.pid both.0 both.1 (has flags CLOEXEC) ∷ []
 
 -- a pipe or a socketpair that is ok opens the pair that its record names
-abbrev pub opens_pair : List Record → Syscall → List Act
-opens_pair records call = when (is_ok call) (pairs_up call (pair records))
+abbrev pub opens_pair : List Record → Syscall → ℕ → List Act
+opens_pair records call flags = when (is_ok call) (pairs_up call flags (pair records))
 
 -- a socket opens the descriptor that it answered
-abbrev pub sets_socket : Syscall → ℕ → List Act
-sets_socket call n = Set call.pid n (opens.Socket None None) (has call.a1 CLOEXEC) ∷ []
+abbrev pub sets_socket : Syscall → ℕ → ℕ → List Act
+sets_socket call flags n = Set call.pid n (opens.Socket None None) (has flags CLOEXEC) ∷ []
 
 -- a socket that answered a descriptor
-abbrev pub opens_socket : Syscall → List Act
-opens_socket call = for_number (answered call) (sets_socket call)
+abbrev pub opens_socket : Syscall → ℕ → List Act
+opens_socket call flags = for_number (answered call) (sets_socket call flags)
 
 -- the descriptor of the first argument gets the address, if there is one
 abbrev pub gets_address : Syscall → Option (List ℕ) → List Act
@@ -121,14 +108,11 @@ binds records call = when (is_ok call) (gets_address call (address records))
 abbrev pub connects : List Record → Syscall → List Act
 connects records call = when (is_ok call || goes_on call.exit) (gets_address call (address records))
 
--- an accepted descriptor is marked as accept4 says; accept has no flags
-abbrev pub accept_cloexec : Syscall → Bool
-accept_cloexec call = not (call.number == 43) && has call.a3 CLOEXEC
-
 -- an accepted socket has the address of the event and the listener of the first argument
-abbrev pub sets_accepted : List Record → Syscall → ℕ → List Act
-sets_accepted records call n = Set call.pid n (opens.Socket (address records) (Some (fd call.a0))) (accept_cloexec call) ∷ []
+abbrev pub sets_accepted : List Record → Syscall → ℕ → ℕ → List Act
+sets_accepted records call flags n =
+    Set call.pid n (opens.Socket (address records) (Some (fd call.a0))) (has flags CLOEXEC) ∷ []
 
 -- an accept that answered a descriptor
-abbrev pub accepts : List Record → Syscall → List Act
-accepts records call = for_number (answered call) (sets_accepted records call)
+abbrev pub accepts : List Record → Syscall → ℕ → List Act
+accepts records call flags = for_number (answered call) (sets_accepted records call flags)

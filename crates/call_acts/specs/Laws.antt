@@ -5,7 +5,7 @@ use Rattle.acts.specs.declared.act.Act.{Act}
 use Rattle.acts.specs.declared.act.Act.TheVariants.{See, Fork, End, Exec, Set, SetBoth, Copy, Close, Mark, Address, Birth, Move}
 use Rattle.acts.specs.LookBack.{opens}
 use Rattle.call_acts.specs.declared.calls.Call.{Call}
-use Rattle.call_acts.specs.declared.calls.Call.TheVariants as row
+use Rattle.call_acts.specs.declared.calls.Call.TheVariants as kind
 
 -- the act is one of this pid, or a birth, which is nobody's
 abbrev pub is_act_of : ℕ → Act → Bool
@@ -28,18 +28,18 @@ pub record AreOfCaller (call : Syscall) (acts : List Act) : Type 0 where
   pub begins : acts ≡ See call.pid call.ppid call.exe ∷ rest
   pub follows : All (λ act. is_act_of call.pid act ≡ true) rest
 
--- the row makes, copies or names descriptors
+-- calls of the kind make, copy or name descriptors
 abbrev pub opens_descriptors : Call → Bool
-opens_descriptors row.Open = true
-opens_descriptors row.Dup = true
-opens_descriptors row.Dup2 = true
-opens_descriptors row.Dup3 = true
-opens_descriptors row.Fcntl = true
-opens_descriptors row.Pair = true
-opens_descriptors row.Socket = true
-opens_descriptors row.Bind = true
-opens_descriptors row.Connect = true
-opens_descriptors row.Accept = true
+opens_descriptors kind.Open = true
+opens_descriptors kind.Dup = true
+opens_descriptors kind.Dup2 = true
+opens_descriptors kind.Dup3 = true
+opens_descriptors kind.Fcntl = true
+opens_descriptors kind.Pair = true
+opens_descriptors kind.Socket = true
+opens_descriptors kind.Bind = true
+opens_descriptors kind.Connect = true
+opens_descriptors kind.Accept = true
 opens_descriptors other = false
 
 -- none of the acts puts anything at a descriptor

@@ -34,8 +34,8 @@ abbrev pub forks : Syscall → List Act
 forks call = for_number (answered call) (makes_child call)
 
 -- a clone is a fork, unless it makes a thread
-abbrev pub clones : Syscall → List Act
-clones call = when (not (has call.a0 THREAD)) (forks call)
+abbrev pub clones : Syscall → ℕ → List Act
+clones call flags = when (not (has flags THREAD)) (forks call)
 
 -- the caller ends, whatever the record says of success
 abbrev pub exits : Syscall → List Act

@@ -45,10 +45,11 @@ abbrev pub passes : Syscall → ℕ → ℕ → List Act
 passes call from to = when (moved call) (inward call how.Read (thing.Fd from) ∷ outward call how.Write (thing.Fd to) ∷ [])
 
 -- a mapping reads from its descriptor, and one that is shared and can be written also writes to it
-abbrev pub maps_fd : Syscall → ℕ → List Act
-maps_fd call mapped_fd =
-    inward call how.Read (thing.Fd mapped_fd) ∷ when (has call.a3 1 && has call.a2 2) (outward call how.Write (thing.Fd mapped_fd) ∷ [])
+abbrev pub maps_fd : Syscall → ℕ → ℕ → List Act
+maps_fd call flags mapped_fd =
+    inward call how.Read (thing.Fd mapped_fd)
+    ∷ when (has flags 1 && has call.a2 2) (outward call how.Write (thing.Fd mapped_fd) ∷ [])
 
 -- an mmap that is ok and of a file maps the descriptor that its record names
-abbrev pub maps : List Record → Syscall → List Act
-maps records call = when (is_ok call && not (has call.a3 32)) (for_number (mapped records) (maps_fd call))
+abbrev pub maps : List Record → Syscall → ℕ → List Act
+maps records call flags = when (is_ok call && not (has flags 32)) (for_number (mapped records) (maps_fd call flags))

@@ -1,6 +1,6 @@
 //! Calls that copy, close and mark descriptors, and those that make pipes and sockets.
 ghost use Rattle.std.specs.Prelude.{◌≡◌, ◌++◌, OnOk};
-ghost use Rattle.call_acts.specs.Descriptors.{closes, dups, dups_to, dups_with_flags, copies_to, copies_to_other, controls, pair_cloexec, opens_pair, opens_socket, gets_address, binds, connects, accept_cloexec, accepts};
+ghost use Rattle.call_acts.specs.Descriptors.{closes, dups, dups_to, dups_with_flags, copies_to, copies_to_other, controls, opens_pair, opens_socket, gets_address, binds, connects, accepts};
 ghost use Rattle.call_acts.specs.Records.{address};
 
 use crate::answers::{answered, fd, goes_on, has, is_ok};
@@ -10,7 +10,7 @@ use audit_record::{Record, Syscall};
 use flow_base::{List, NoMemory};
 use std::alloc::Global;
 
-/// The flag of most calls that a descriptor closes at an exec.
+/// The flag that a descriptor closes at an exec, in the flags of all calls that open descriptors.
 pub const CLOEXEC: u64 = 0x80000;
 
 // The commands of fcntl that copy a descriptor, copy it with the mark, and set or take away the mark.
@@ -56,11 +56,11 @@ pub fn dup2(call: &Syscall, done: &mut List<Act>) -> Result<(), NoMemory>
 }
 
 /// A dup3 is a dup2 with flags.
-pub fn dup3(call: &Syscall, done: &mut List<Act>) -> Result<(), NoMemory>
-    ensures { OnOk result (done.new ≡ done.old ++ dups_with_flags call.now) }
+pub fn dup3(call: &Syscall, flags: u64, done: &mut List<Act>) -> Result<(), NoMemory>
+    ensures { OnOk result (done.new ≡ done.old ++ dups_with_flags call.now flags) }
 {
     match answered(call) {
-        Some(to) => copy_to_other(call, to, has(call.a2, CLOEXEC), done),
+        Some(to) => copy_to_other(call, to, has(flags, CLOEXEC), done),
         None => Ok(()),
     }
 }
@@ -109,30 +109,28 @@ pub fn control(call: &Syscall, done: &mut List<Act>) -> Result<(), NoMemory>
 }
 
 /// A pipe or a pair of sockets opens two descriptors.
-pub fn open_pair(records: &[Record], call: &Syscall, done: &mut List<Act>) -> Result<(), NoMemory>
-    ensures { OnOk result (done.new ≡ done.old ++ opens_pair records.now call.now) }
+pub fn open_pair(
+    records: &[Record],
+    call: &Syscall,
+    flags: u64,
+    done: &mut List<Act>,
+) -> Result<(), NoMemory>
+    ensures { OnOk result (done.new ≡ done.old ++ opens_pair records.now call.now flags) }
 {
     match pair(records) {
         Some((first, second)) if is_ok(call) => done.push(Act::SetBoth {
             pid: call.pid,
             first,
             second,
-            cloexec: pair_cloexec(call),
+            cloexec: has(flags, CLOEXEC),
         }),
         _ => Ok(()),
     }
 }
 
-// pipe2 and socketpair have flags, pipe (22) has none.
-fn pair_cloexec(call: &Syscall) -> bool
-    ensures { result ≡ pair_cloexec call.now }
-{
-    call.number != 22 && has(call.a1, CLOEXEC)
-}
-
 /// A socket opens a descriptor.
-pub fn open_socket(call: &Syscall, done: &mut List<Act>) -> Result<(), NoMemory>
-    ensures { OnOk result (done.new ≡ done.old ++ opens_socket call.now) }
+pub fn open_socket(call: &Syscall, flags: u64, done: &mut List<Act>) -> Result<(), NoMemory>
+    ensures { OnOk result (done.new ≡ done.old ++ opens_socket call.now flags) }
 {
     match answered(call) {
         Some(fd) => done.push(Act::Set {
@@ -142,7 +140,7 @@ pub fn open_socket(call: &Syscall, done: &mut List<Act>) -> Result<(), NoMemory>
                 address: None,
                 listener: None,
             },
-            cloexec: has(call.a1, CLOEXEC),
+            cloexec: has(flags, CLOEXEC),
         }),
         None => Ok(()),
     }
@@ -203,9 +201,10 @@ pub fn accept(
     alloc: Global,
     records: &[Record],
     call: &Syscall,
+    flags: u64,
     done: &mut List<Act>,
 ) -> Result<(), NoMemory>
-    ensures { OnOk result (done.new ≡ done.old ++ accepts records.now call.now) }
+    ensures { OnOk result (done.new ≡ done.old ++ accepts records.now call.now flags) }
 {
     let Some(to) = answered(call) else {
         return Ok(());
@@ -218,13 +217,6 @@ pub fn accept(
             address,
             listener: Some(fd(call.a0)),
         },
-        cloexec: accept_cloexec(call),
+        cloexec: has(flags, CLOEXEC),
     })
-}
-
-// accept4 has flags, accept (43) has none.
-fn accept_cloexec(call: &Syscall) -> bool
-    ensures { result ≡ accept_cloexec call.now }
-{
-    call.number != 43 && has(call.a3, CLOEXEC)
 }

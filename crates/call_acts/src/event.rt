@@ -1,9 +1,9 @@
 //! The acts of an event.
 ghost use Rattle.std.specs.Prelude.{◌≡◌, ◌++◌, OnOk, IfOk};
-ghost use Rattle.call_acts.specs.Acts.{row_acts, acts_by, row_of, event_acts, event_call, is_unmapped};
+ghost use Rattle.call_acts.specs.Acts.{kind_acts, acts_by, row_of, event_acts, event_call, is_unmapped};
 
 use crate::answers::fd;
-use crate::calls::{Call, call_of};
+use crate::calls::{Call, Row, call_of, flags_of, row_at};
 use crate::descriptors::{
     accept, bind, close, connect, control, dup, dup2, dup3, open_pair, open_socket,
 };
@@ -30,11 +30,12 @@ pub fn acts(alloc: Global, event: &EventView<'_>, limits: &Limits) -> Result<Lis
     Ok(done)
 }
 
-/// The row of an event's call.
+/// The kind of call of an event's call.
 pub fn event_call(event: &EventView<'_>) -> Option<Call>
     ensures { result ≡ event_call event.now.records.now }
 {
-    row_of(call(event.records)?)
+    let call = call(event.records)?;
+    call_of(call.arch, call.number)
 }
 
 /// Whether the event has a call that isn't in the table.
@@ -47,10 +48,10 @@ pub fn is_unmapped(event: &EventView<'_>) -> bool
     }
 }
 
-fn row_of(call: &Syscall) -> Option<Call>
+fn row_of(call: &Syscall) -> Option<Row>
     ensures { result ≡ row_of call.now }
 {
-    call_of(call.arch, call.number)
+    row_at(call.arch, call.number)
 }
 
 // The call shows its caller.
@@ -75,26 +76,32 @@ fn act(
     call: &Syscall,
     done: &mut List<Act>,
 ) -> Result<(), NoMemory>
-    ensures { OnOk result (done.new ≡ done.old ++ acts_by limit records.now call.now (row_of call.now)) }
+    ensures { OnOk result (done.new ≡ done.old
+        ++ acts_by limit records.now call.now (row_of call.now)) }
 {
     match row_of(call) {
-        Some(row) => act_by(alloc, limit, records, call, row, done),
+        Some(row) => {
+            let flags = flags_of(row.flags, call);
+            act_by(alloc, limit, records, call, flags, row.call, done)
+        }
         None => Ok(()),
     }
 }
 
-// What a call did, by its row.
+// What a call of a kind did, with these flags.
 fn act_by(
     alloc: Global,
     limit: usize,
     records: &[Record],
     call: &Syscall,
-    row: Call,
+    flags: u64,
+    kind: Call,
     done: &mut List<Act>,
 ) -> Result<(), NoMemory>
-    ensures { OnOk result (done.new ≡ done.old ++ row_acts limit records.now call.now row) }
+    ensures { OnOk result (done.new ≡ done.old
+        ++ kind_acts limit records.now call.now flags kind) }
 {
-    match row {
+    match kind {
         Call::Read => read(call, done),
         Call::Receive => receive(alloc, records, call, done),
         Call::Write => write(call, done),
@@ -102,22 +109,22 @@ fn act_by(
         Call::SendFile => pass(call, call.a1, call.a0, done),
         Call::Tee => pass(call, call.a0, call.a1, done),
         Call::Splice => pass(call, call.a0, call.a2, done),
-        Call::Open => open(alloc, limit, records, call, done),
+        Call::Open => open(alloc, limit, records, call, flags, done),
         Call::Close => close(call, done),
         Call::Dup => dup(call, done),
         Call::Dup2 => dup2(call, done),
-        Call::Dup3 => dup3(call, done),
+        Call::Dup3 => dup3(call, flags, done),
         Call::Fcntl => control(call, done),
-        Call::Pair => open_pair(records, call, done),
-        Call::Socket => open_socket(call, done),
+        Call::Pair => open_pair(records, call, flags, done),
+        Call::Socket => open_socket(call, flags, done),
         Call::Bind => bind(alloc, records, call, done),
         Call::Connect => connect(alloc, records, call, done),
-        Call::Accept => accept(alloc, records, call, done),
+        Call::Accept => accept(alloc, records, call, flags, done),
         Call::Exec => exec(alloc, limit, records, call, done),
         Call::Fork => fork(call, done),
-        Call::Clone => clone(call, done),
+        Call::Clone => clone(call, flags, done),
         Call::Exit => exit(call, done),
-        Call::Map => map(records, call, done),
+        Call::Map => map(records, call, flags, done),
         Call::AlterPath => alter_path(alloc, limit, records, call, done),
         Call::AlterFd => alter_fd(alloc, limit, records, call, done),
         Call::Rename => rename(alloc, limit, records, call, done),

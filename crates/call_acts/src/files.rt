@@ -98,7 +98,8 @@ fn alter_each(
     kind: NameKind,
     done: &mut List<Act>,
 ) -> Result<(), NoMemory>
-    ensures { OnOk result (done.new ≡ done.old ++ flat_map (alters_file limit records.now call.now) (paths kind records.now)) }
+    ensures { OnOk result (done.new ≡ done.old
+        ++ flat_map (alters_file limit records.now call.now) (paths kind records.now)) }
 {
     let cwd = cwd(records);
     for record in records {
@@ -135,7 +136,9 @@ fn make_each(
     call: &Syscall,
     done: &mut List<Act>,
 ) -> Result<(), NoMemory>
-    ensures { OnOk result (done.new ≡ done.old ++ flat_map (λ item. bears call.now (file_of limit records.now item)) (paths Create records.now)) }
+    ensures { OnOk result (done.new ≡ done.old
+        ++ flat_map (λ item. bears call.now (file_of limit records.now item))
+        (paths Create records.now)) }
 {
     let cwd = cwd(records);
     for record in records {

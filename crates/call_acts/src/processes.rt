@@ -42,7 +42,8 @@ fn run_files(
     call: &Syscall,
     done: &mut List<Act>,
 ) -> Result<(), NoMemory>
-    ensures { OnOk result (done.new ≡ done.old ++ flat_map (runs_file limit records.now call.now) (paths Normal records.now)) }
+    ensures { OnOk result (done.new ≡ done.old
+        ++ flat_map (runs_file limit records.now call.now) (paths Normal records.now)) }
 {
     let cwd = cwd(records);
     for record in records {
@@ -68,10 +69,10 @@ pub fn fork(call: &Syscall, done: &mut List<Act>) -> Result<(), NoMemory>
 }
 
 /// A clone is a fork, unless it makes a thread.
-pub fn clone(call: &Syscall, done: &mut List<Act>) -> Result<(), NoMemory>
-    ensures { OnOk result (done.new ≡ done.old ++ clones call.now) }
+pub fn clone(call: &Syscall, flags: u64, done: &mut List<Act>) -> Result<(), NoMemory>
+    ensures { OnOk result (done.new ≡ done.old ++ clones call.now flags) }
 {
-    if has(call.a0, THREAD) {
+    if has(flags, THREAD) {
         Ok(())
     } else {
         fork(call, done)

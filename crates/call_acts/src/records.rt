@@ -3,7 +3,6 @@
 //! Of a working directory, an address, a pair and a mapping the first record counts. Records may come in any order: a
 //! path that arrives before its call counts too.
 ghost use Rattle.std.specs.Prelude.{◌≡◌, Option, None, Some, IfOk, option_map};
-ghost use Rattle.std.specs.List.{last_or};
 ghost use Rattle.std.specs.Option.{option_copied, option_to_list};
 ghost use Rattle.call_acts.specs.Records.{first_of, call, cwd, address, sockaddr_in, pair, mapped, names_file, path_in, paths, target, file_in, file_of};
 
@@ -105,27 +104,18 @@ fn names_file(item: &PathItem) -> bool
 
 /// The path that the call was about: the last one of kind Create that names a file, else the last of kind Normal, else
 /// the last of kind Unknown.
-#[tactic(auto, using(crate::proofs::RecordLists::last_or_else))]
 pub fn target(records: &[Record]) -> Option<&PathItem>
     ensures { option_map (λ p. p.now) result ≡ target records.now }
 {
-    let created = last_path(records, NameKind::Create);
-    let normal = last_path(records, NameKind::Normal);
-    let unknown = last_path(records, NameKind::Unknown);
-    created.or(normal).or(unknown)
-}
-
-// The last path of this kind that names a file.
-fn last_path(records: &[Record], kind: NameKind) -> Option<&PathItem>
-    ensures { option_map (λ p. p.now) result ≡ last_or None (paths kind records.now) }
-{
-    let mut last = None;
+    let mut created = None;
+    let mut normal = None;
+    let mut unknown = None;
     for record in records {
-        if let Some(item) = path_of(record, kind) {
-            last = Some(item);
-        }
+        created = path_of(record, NameKind::Create).or(created);
+        normal = path_of(record, NameKind::Normal).or(normal);
+        unknown = path_of(record, NameKind::Unknown).or(unknown);
     }
-    last
+    created.or(normal).or(unknown)
 }
 
 /// The file of a path of an event, in its working directory.

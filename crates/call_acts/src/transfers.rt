@@ -116,24 +116,29 @@ pub fn pass(call: &Syscall, from: u64, to: u64, done: &mut List<Act>) -> Result<
 }
 
 /// A mapping of a file reads from the descriptor that its record names, and may write to it.
-pub fn map(records: &[Record], call: &Syscall, done: &mut List<Act>) -> Result<(), NoMemory>
-    ensures { OnOk result (done.new ≡ done.old ++ maps records.now call.now) }
+pub fn map(
+    records: &[Record],
+    call: &Syscall,
+    flags: u64,
+    done: &mut List<Act>,
+) -> Result<(), NoMemory>
+    ensures { OnOk result (done.new ≡ done.old ++ maps records.now call.now flags) }
 {
-    if !is_ok(call) || has(call.a3, ANONYMOUS) {
+    if !is_ok(call) || has(flags, ANONYMOUS) {
         return Ok(());
     }
     match mapped(records) {
-        Some(mapped) => map_fd(call, mapped, done),
+        Some(mapped) => map_fd(call, flags, mapped, done),
         None => Ok(()),
     }
 }
 
 // What is written to a shared mapping that can be written goes to its descriptor.
-fn map_fd(call: &Syscall, mapped: u32, done: &mut List<Act>) -> Result<(), NoMemory>
-    ensures { OnOk result (done.new ≡ done.old ++ maps_fd call.now mapped) }
+fn map_fd(call: &Syscall, flags: u64, mapped: u32, done: &mut List<Act>) -> Result<(), NoMemory>
+    ensures { OnOk result (done.new ≡ done.old ++ maps_fd call.now flags mapped) }
 {
     done.push(inward(call, How::Read, Thing::Fd(mapped)))?;
-    if has(call.a3, SHARED) && has(call.a2, WRITABLE) {
+    if has(flags, SHARED) && has(call.a2, WRITABLE) {
         done.push(outward(call, How::Write, Thing::Fd(mapped)))?;
     }
     Ok(())

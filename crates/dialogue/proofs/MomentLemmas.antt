@@ -23,8 +23,8 @@ use Rattle.ingest.specs.StandsFor.{StandsFor}
 use Rattle.ingest.specs.Stops.{Stops, StopsBy}
 use Rattle.ingest.specs.declared.ask_fault.AskFault.{AskFault}
 use Rattle.ingest.specs.declared.ask_fault.AskFault.TheVariants as asking
-use Rattle.ingest.specs.declared.stop.StopWhy.{StopWhy}
-use Rattle.ingest.specs.declared.stop.StopWhy.TheVariants as why
+use Rattle.flow_base.specs.declared.faults.Refused.{Refused}
+use Rattle.flow_base.specs.declared.faults.Refused.TheVariants as why
 use Rattle.dialogue.specs.declared.halt.Halt.{Halt}
 use Rattle.dialogue.specs.declared.halt.Halt.TheVariants as halt
 use Rattle.dialogue.specs.Dialogue.{Moment, after, settled_on, taken_on, Answers}
@@ -90,12 +90,12 @@ stop_later stay limits m a b full below stops =
     subst (λ (h : History). Stops limits h full) (sym longer.1) (stay limits (taken_on a m).history longer.0 full stops)
 
 -- why an engine stopped within a piece is due
-pub due_for : (reason : StopWhy) (limits : Limits) (h : History) (piece : List ℕ) (done : ℕ) (passes : Full → Type 0) → StopsBy limits h piece done reason → ((full : Full) → Stops limits (with_bytes h piece) full → passes full) → IsDue passes (halt_for reason)
+pub due_for : (reason : Refused) (limits : Limits) (h : History) (piece : List ℕ) (done : ℕ) (passes : Full → Type 0) → StopsBy limits h piece done reason → ((full : Full) → Stops limits (with_bytes h piece) full → passes full) → IsDue passes (halt_for reason)
 due_for why.NoMemory limits h piece done passes stops over = tt
 due_for (why.Full full) limits h piece done passes stops over = over full stops.0
 
 -- the same at a settle
-pub due_where : (reason : StopWhy) (passes : Full → Type 0) → ((full : Full) → reason ≡ why.Full full → passes full) → IsDue passes (halt_for reason)
+pub due_where : (reason : Refused) (passes : Full → Type 0) → ((full : Full) → reason ≡ why.Full full → passes full) → IsDue passes (halt_for reason)
 due_where why.NoMemory passes over = tt
 due_where (why.Full full) passes over = over full refl
 

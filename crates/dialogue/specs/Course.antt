@@ -7,8 +7,8 @@ use Rattle.reach_model.specs.declared.modes.Mode.{Mode}
 use Rattle.report_json.specs.declared.ask.Ask.{Ask}
 use Rattle.report_json.specs.declared.reply.Reply.{Reply}
 use Rattle.ingest.specs.Parts.{Engine}
-use Rattle.ingest.specs.declared.stop.StopWhy.{StopWhy}
-use Rattle.ingest.specs.declared.stop.StopWhy.TheVariants as why
+use Rattle.flow_base.specs.declared.faults.Refused.{Refused}
+use Rattle.flow_base.specs.declared.faults.Refused.TheVariants as why
 use Rattle.ingest.specs.StandsFor.{StandsFor}
 use Rattle.ingest.specs.Stops.{Fits}
 use Rattle.dialogue.specs.declared.halt.Halt.{Halt}
@@ -52,7 +52,7 @@ abbrev pub never : Full → Type 0
 never full = ⊥
 
 -- why an engine stopped, as a halt
-abbrev pub halt_for : StopWhy → Halt
+abbrev pub halt_for : Refused → Halt
 halt_for why.NoMemory = halt.NoMemory
 halt_for (why.Full full) = halt.Full full
 

@@ -6,8 +6,8 @@ ghost use Rattle.dialogue.specs.Course.{halt_for};
 ghost use Rattle.dialogue.specs.StoreHalts.{ask_halt, commit_halt, open_halt, over_run, restore_halt};
 
 use batch_log::CommitFault;
-use flow_base::{Full, NoMemory};
-use ingest::{AskFault, RestoreFault, StopWhy};
+use flow_base::{Full, NoMemory, Refused};
+use ingest::{AskFault, RestoreFault};
 use reach_model::Mode;
 use reduced_store::OpenFault;
 
@@ -111,12 +111,12 @@ pub fn halt_of_ask(fault: AskFault) -> Halt
 }
 
 /// Why the engine stopped, as a halt.
-pub fn halt_of(why: StopWhy) -> Halt
+pub fn halt_of(why: Refused) -> Halt
     ensures { result ≡ halt_for why }
 {
     match why {
-        StopWhy::NoMemory => Halt::NoMemory,
-        StopWhy::Full(full) => Halt::Full(full),
+        Refused::NoMemory => Halt::NoMemory,
+        Refused::Full(full) => Halt::Full(full),
     }
 }
 

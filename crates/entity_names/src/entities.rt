@@ -8,14 +8,15 @@ ghost use Rattle.flow_base.specs.contracts.types.KeyPartialEq.TheImpl.{ghosts};
 ghost use Rattle.flow_base.specs.declared.limits.Full.{Full};
 ghost use Rattle.acts.specs.Keys.{put_new};
 ghost use Rattle.flow_base.specs.declared.types.EntityId.{EntityId};
-ghost use Rattle.entity_names.specs.declared.fault.EnterFault.TheVariants as fault;
+ghost use Rattle.flow_base.specs.declared.faults.Refused.TheVariants as fault;
 ghost use Rattle.entity_names.specs.Known.{NamesAs, ids_where, HasPlace, full_at, names_at, saved_at, capacity_at, with_name_within, AreNew, pairs_of};
 
-use crate::fault::EnterFault;
 use crate::key_names::{Named, Names};
 use crate::saving::{names_from, save_from, set_apart};
 use acts::copy_key;
-use flow_base::{Bytes, EntityId, Full, Key, Limit, Limits, List, NoMemory, equal_keys_are_one};
+use flow_base::{
+    Bytes, EntityId, Full, Key, Limit, Limits, List, NoMemory, Refused, equal_keys_are_one,
+};
 use indexmap::{IndexMap, IndexSet};
 use std::alloc::Global;
 use std::marker::Model;
@@ -82,7 +83,8 @@ impl Entities {
 
     /// The number of a key, if it is known.
     pub fn id(&self, key: &Key) -> Option<EntityId>
-        ensures place { option_map (λ (id : EntityId). id.0) result ≡ position (ghosts.eq key.now) self.now.keys }
+        ensures place { option_map (λ (id : EntityId). id.0) result
+            ≡ position (ghosts.eq key.now) self.now.keys }
         ensures known { is_some result ≡ list_any (ghosts.eq key.now) self.now.keys }
     {
         match self.keys.get_index_of(key) {
@@ -92,11 +94,16 @@ impl Entities {
     }
 
     /// The number of a key: the next number, if the key is new.
-    pub fn enter(&mut self, key: Key) -> Result<EntityId, EnterFault>
+    pub fn enter(&mut self, key: Key) -> Result<EntityId, Refused>
         ensures keys { OnOk result (self.new.keys ≡ put_new ghosts.eq self.old.keys key) }
-        ensures id { IfOk result (λ (id : EntityId). position (ghosts.eq key) self.new.keys ≡ Some id.0) }
-        ensures full { (full : Full) → (result ≡ Err (fault.Full full)) ↔ ((full ≡ full_at self.old.limit) × ((list_any (ghosts.eq key) self.old.keys ≡ false) × (length self.old.keys ≡ self.old.limit))) }
-        ensures room { 1 ≤ self.old.spare → IfErr result (λ e. e ≡ fault.Full (full_at self.old.limit)) }
+        ensures id { IfOk result (λ (id : EntityId). position (ghosts.eq key) self.new.keys
+            ≡ Some id.0) }
+        ensures full { (full : Full) → (result ≡ Err (fault.Full full))
+            ↔ ((full ≡ full_at self.old.limit)
+            × ((list_any (ghosts.eq key) self.old.keys ≡ false)
+            × (length self.old.keys ≡ self.old.limit))) }
+        ensures room { 1 ≤ self.old.spare
+            → IfErr result (λ e. e ≡ fault.Full (full_at self.old.limit)) }
         ensures spare { self.old.spare ≤ self.new.spare + 1 }
         ensures err { OnErr result (self.new.keys ≡ self.old.keys) }
         ensures rest { self.new ≡ record self.old { keys = self.new.keys; spare = self.new.spare } }
@@ -105,20 +112,21 @@ impl Entities {
             return Ok(id);
         }
         if self.count() == self.limit {
-            return Err(EnterFault::Full(Full {
+            return Err(Refused::Full(Full {
                 limit: Limit::Entities,
                 number: u64::from(self.limit),
             }));
         }
         match self.keys.insert_full(key) {
             Ok((index, _)) => Ok(EntityId(index as u32)),
-            Err(_) => Err(EnterFault::NoMemory),
+            Err(_) => Err(Refused::NoMemory),
         }
     }
 
     /// The objects that have exactly this name, ascending.
     pub fn find(&self, text: &[u8]) -> Result<List<EntityId>, NoMemory>
-        ensures { IfOk result (λ ids. ids ≡ ids_where (λ key. list_any (pointwise nat_eq text.now) (names_at self.now key)) 0 self.now.keys) }
+        ensures { IfOk result (λ ids. ids ≡ ids_where
+            (λ key. list_any (pointwise nat_eq text.now) (names_at self.now key)) 0 self.now.keys) }
     {
         let mut ids = List::new(*self.names.allocator());
         let mut next = 0;
@@ -143,11 +151,16 @@ impl Entities {
 
     /// Makes room for more keys, and for one more name for each of these.
     pub fn reserve(&mut self, keys: usize, named: &[Key]) -> Result<(), NoMemory>
-        ensures rest { self.new ≡ record self.old { names = self.new.names; spare = self.new.spare } }
+        ensures rest { self.new ≡ record self.old {
+          names = self.new.names;
+          spare = self.new.spare;
+        } }
         ensures names { (k : Key) → names_at self.new k ≡ names_at self.old k }
         ensures saved { (k : Key) → saved_at self.new k ≡ saved_at self.old k }
         ensures spare { OnOk result (keys ≤ self.new.spare) }
-        ensures room { OnOk result ((k : Key) → list_any (ghosts.eq k) named.now ≡ true → min self.old.most_names (length (names_at self.old k) + length named.now) ≤ capacity_at self.new k) }
+        ensures room { OnOk result ((k : Key) → list_any (ghosts.eq k) named.now ≡ true
+            → min self.old.most_names (length (names_at self.old k) + length named.now)
+            ≤ capacity_at self.new k) }
     {
         for key in named {
             self.make_room(key, named.len())?;
@@ -161,7 +174,9 @@ impl Entities {
         ensures rest { self.new ≡ record self.old { names = self.new.names } }
         ensures names { (k : Key) → names_at self.new k ≡ names_at self.old k }
         ensures saved { (k : Key) → saved_at self.new k ≡ saved_at self.old k }
-        ensures room { OnOk result ((k : Key) → ghosts.eq k key.now ≡ true → min self.old.most_names (length (names_at self.old k) + more) ≤ capacity_at self.new k) }
+        ensures room { OnOk result ((k : Key) → ghosts.eq k key.now ≡ true
+            → min self.old.most_names (length (names_at self.old k) + more)
+            ≤ capacity_at self.new k) }
         ensures capacity { (k : Key) → capacity_at self.old k ≤ capacity_at self.new k }
     {
         equal_keys_are_one();
@@ -184,7 +199,8 @@ impl Entities {
 
     /// The names of a key, if it has any.
     pub fn names(&self, key: &Key) -> Option<&[Bytes]>
-        ensures names { option_map_or (λ (list : _). list.now) result [] ≡ names_at self.now key.now }
+        ensures names { option_map_or (λ (list : _). list.now) result []
+            ≡ names_at self.now key.now }
         ensures some { IfSome result (λ list. list.now ≢ []) }
     {
         match self.names.get(key) {
@@ -196,8 +212,11 @@ impl Entities {
     #[tactic(auto, using(crate::proofs::Names::one_more))]
     /// Gives a key a name. One that it has, and one past the most that a key may have, changes nothing.
     pub fn add_name(&mut self, key: Key, text: Bytes) -> Result<(), NoMemory>
-        ensures ok { OnOk result ((k : Key) → names_at self.new k ≡ (if ghosts.eq key k then with_name_within self.old.most_names (names_at self.old k) text else names_at self.old k)) }
-        ensures next { OnOk result ((given : List (Key × List ℕ)) → NamesAs self.old given → NamesAs self.new (given ++ (key, text) ∷ [])) }
+        ensures ok { OnOk result ((k : Key) → names_at self.new k
+            ≡ (if ghosts.eq key k then with_name_within self.old.most_names
+            (names_at self.old k) text else names_at self.old k)) }
+        ensures next { OnOk result ((given : List (Key × List ℕ)) → NamesAs self.old given
+            → NamesAs self.new (given ++ (key, text) ∷ [])) }
         ensures err { OnErr result ((k : Key) → names_at self.new k ≡ names_at self.old k) }
         ensures rest { self.new ≡ record self.old { names = self.new.names } }
         ensures room { HasPlace self.old key → IsOk result }

@@ -5,10 +5,8 @@
 #![tactic(auto)]
 
 mod entities;
-mod fault;
 mod key_names;
 mod saving;
 
 pub use entities::Entities;
-pub use fault::EnterFault;
 pub use key_names::Named;

@@ -113,7 +113,7 @@ pub fn carry(
     let mut node = Node::empty();
     for digit in 0..16u8 {
         let child = carry(nodes, objects, moving, height - 1, old.child(digit))?;
-        node = node.with_child(digit, child);
+        node.set_child(digit, child);
     }
     let moved = moving.move_node(node)?;
     moving.note(height, id, moved)?;

@@ -21,11 +21,15 @@ pub fn node_at(nodes: &[Node], id: usize) -> Node
     nodes[id - 1]
 }
 
-/// The id of a child.
+/// The id of a child. It reads one number where the node stands, since a node is large.
+#[tactic(auto, using(crate::proofs::TreeLemmas::children_there, crate::proofs::TreeLemmas::children_past))]
 fn child(nodes: &[Node], id: usize, digit: u8) -> usize
     ensures { result ≡ child nodes.now id digit }
 {
-    node_at(nodes, id).child(digit)
+    if id == 0 || id > nodes.len() {
+        return 0;
+    }
+    nodes[id - 1].child(digit)
 }
 
 /// The number at a path, or 0.
@@ -52,9 +56,10 @@ pub fn put(nodes: &mut Vec<Node>, id: usize, path: &[u8], number: usize) -> usiz
         [] => return number,
         [first, rest @ ..] => (*first, rest),
     };
-    let node = node_at(nodes, id);
-    let changed = put(nodes, node.child(first), rest, number);
-    add(nodes, node.with_child(first, changed))
+    let mut node = node_at(nodes, id);
+    let changed = put(nodes, child(nodes, id, first), rest, number);
+    node.set_child(first, changed);
+    add(nodes, node)
 }
 
 /// Appends a node, and gives its id.

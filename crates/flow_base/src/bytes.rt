@@ -81,6 +81,13 @@ impl Bytes {
         }
     }
 
+    /// Takes all bytes away, and keeps their room.
+    pub fn clear(&mut self)
+        ensures { self.new ≡ [] }
+    {
+        self.bytes.clear();
+    }
+
     /// Puts a piece after the bytes. If allocation fails, nothing has changed.
     pub fn append(&mut self, piece: &[u8]) -> Result<(), NoMemory>
         ensures ok { OnOk result (self.new ≡ self.old ++ piece.now) }

@@ -12,7 +12,7 @@ mod list;
 mod types;
 
 pub use bytes::Bytes;
-pub use faults::NoMemory;
+pub use faults::{NoMemory, Refused};
 pub use limits::{Full, Limit, Limits};
 pub use list::List;
 pub use types::{
@@ -36,6 +36,9 @@ mod tests {
         bytes.append(b"dit".as_slice())?;
         assert_eq!(rt; bytes.copy()?.as_slice(), b"audit".as_slice());
         assert_eq!(rt; bytes.take().as_slice(), b"audit".as_slice());
+        assert!(rt; bytes.as_slice().is_empty());
+        bytes.append(b"log".as_slice())?;
+        bytes.clear();
         assert!(rt; bytes.as_slice().is_empty());
         Ok(())
     }

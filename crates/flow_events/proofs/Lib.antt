@@ -27,3 +27,4 @@ pub mod Collecting
 pub mod Sayings
 pub mod Holding
 pub mod RowLaws
+mod Turning

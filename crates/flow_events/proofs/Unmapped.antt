@@ -4,12 +4,12 @@ use Rattle.audit_record.specs.declared.types.Record.{Record}
 use Rattle.audit_record.specs.declared.types.Syscall.{Syscall}
 use Rattle.acts.specs.declared.act.Act.{Act}
 use Rattle.acts.specs.declared.act.Act.TheVariants.{See}
-use Rattle.call_acts.specs.declared.calls.Call.{Call}
+use Rattle.call_acts.specs.declared.calls.Row.{Row}
 use Rattle.call_acts.specs.Acts.{acts_by, acts_from, event_acts, row_of, has_no_row, is_without_row, is_unmapped}
 use Rattle.call_acts.specs.Records.{call}
 
 -- a call without a row has no acts but its see
-mapped_by : (limit : ℕ) (records : List Record) (caller : Syscall) (see : Act) (row : Option Call) → 1 < length (see ∷ acts_by limit records caller row) → has_no_row row ≡ false
+mapped_by : (limit : ℕ) (records : List Record) (caller : Syscall) (see : Act) (row : Option Row) → 1 < length (see ∷ acts_by limit records caller row) → has_no_row row ≡ false
 mapped_by limit records caller see None more = absurd (omega (arith, more))
 mapped_by limit records caller see (Some row) more = refl
 

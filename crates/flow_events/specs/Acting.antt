@@ -96,6 +96,12 @@ SeesHolder procs pid ppid holder =
     (before : List Act) (exe : Option (List ℕ)) → StandsFor procs before → Admitted before
     → (n : ℕ) → holds (See pid ppid exe ∷ before) pid n ≡ holds before holder n
 
+-- a see of this pid, which says this parent, does this to descriptors
+abbrev pub SeesChange : Procs → ℕ → ℕ → Change → Type 0
+SeesChange procs pid ppid change =
+    (before : List Act) (exe : Option (List ℕ)) → StandsFor procs before → Admitted before
+    → DoesAs change before (See pid ppid exe)
+
 -- a see of this pid, which says this parent, links this
 abbrev pub SeesLink : Procs → ℕ → ℕ → Option Link → Type 0
 SeesLink procs pid ppid link =

@@ -9,8 +9,8 @@ use Rattle.acts.specs.declared.link.Link.{Link}
 use Rattle.acts.specs.Keys.{put_new}
 use Rattle.acts.specs.Flows.{number_in, with_ends}
 use Rattle.entity_names.specs.Known.{Known, full_at}
-use Rattle.flow_events.specs.declared.fault.PrepareFault.{PrepareFault}
-use Rattle.flow_events.specs.declared.fault.PrepareFault.TheVariants as fault
+use Rattle.flow_base.specs.declared.faults.Refused.{Refused}
+use Rattle.flow_base.specs.declared.faults.Refused.TheVariants as fault
 use Rattle.flow_events.specs.Entering.{entered}
 use Rattle.reach_rows.specs.Kept.{GoOn, known_after}
 
@@ -45,11 +45,11 @@ pub record IsPast (most : ℕ) (full : Full) (seen : List Key) : Type 0 where
   pub past : most < length seen
 
 -- if the result is the fault that a limit is passed, this holds of that limit
-abbrev pub IfFull : {T : Type 0} → Result T PrepareFault → (Full → Type 0) → Type 0
+abbrev pub IfFull : {T : Type 0} → Result T Refused → (Full → Type 0) → Type 0
 IfFull result fact = (full : Full) → result ≡ Err (fault.Full full) → fact full
 
 -- if the fault is that a limit is passed, this holds of that limit
-abbrev pub IfLimit : PrepareFault → (Full → Type 0) → Type 0
+abbrev pub IfLimit : Refused → (Full → Type 0) → Type 0
 IfLimit why fact = (full : Full) → why ≡ fault.Full full → fact full
 
 -- a link, if there is one, has two ends that differ

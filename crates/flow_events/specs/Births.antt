@@ -1,5 +1,5 @@
 -- The table of births, and what it stands for. Every list of acts is ordered newest first.
-use Rattle.std.specs.Prelude.{◌≡◌, ◌<◌, ◌+◌, ◌-◌, ◌^◌, ℕ, List, ◌∷◌, unwrap_or, if◌then◌else◌}
+use Rattle.std.specs.Prelude.{◌≡◌, ◌<◌, ◌+◌, ◌-◌, ◌^◌, ℕ, Option, None, Some, List, [], ◌∷◌, unwrap_or, if◌then◌else◌}
 use Rattle.std.specs.List.{sum_by}
 use Rattle.std.specs.Map.{lookup}
 use Rattle.flow_base.specs.declared.types.FileId.{FileId}
@@ -12,6 +12,11 @@ use Rattle.acts.specs.Births.{born, same_file}
 pub record Table : Type 0 where
   pub all : List (FileId × ℕ)
   pub spare : ℕ
+
+-- the table, if there is one, and else one of no births
+abbrev pub table_if : Option Table → Table
+table_if None = record { all = []; spare = 0 }
+table_if (Some table) = table
 
 -- a number that is not in the table was never born
 abbrev pub born_at : Table → FileId → ℕ

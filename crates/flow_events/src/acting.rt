@@ -18,7 +18,7 @@ ghost use Rattle.flow_events.specs.Lives.{LivesBelow};
 ghost use Rattle.flow_events.specs.Acting.{ByBirths, ByDescriptors, ByEvent, ByLives, SeesHolder, SeesLife, SeesLink, is_process, process_of};
 ghost use Rattle.flow_events.specs.Added.{HasTwoEnds};
 
-use crate::births::Births;
+use crate::births::{Births, Fresh};
 use acts::{FileRef, Link, Object, Thing, copy_key, only_live_pids_hold, sees_hand_on};
 use fd_table::Fds;
 use flow_base::{Bytes, FileId, How, Key, NoMemory};
@@ -90,7 +90,7 @@ fn next_life(procs: &Procs, pid: u32) -> u64
 
 // How often a file number was born.
 #[tactic(auto, using(crate::proofs::Numbers::born_both))]
-fn born(births: &Births, fresh: &Births, id: FileId) -> u64
+fn born(births: &Births, fresh: &Fresh, id: FileId) -> u64
     ensures born { ByBirths births.now fresh.now (λ acts. result ≡ born acts id) }
     ensures few { ByBirths births.now fresh.now (λ acts. result < 2 ^ 64 - 1) }
 {
@@ -101,7 +101,7 @@ fn born(births: &Births, fresh: &Births, id: FileId) -> u64
 pub fn file_key(
     alloc: Global,
     births: &Births,
-    fresh: &Births,
+    fresh: &Fresh,
     file: &FileRef,
 ) -> Result<Key, NoMemory>
     ensures { ByBirths births.now fresh.now
@@ -123,7 +123,7 @@ pub fn file_key(
 pub fn birth_key(
     alloc: Global,
     births: &Births,
-    fresh: &Births,
+    fresh: &Fresh,
     file: &FileRef,
 ) -> Result<Key, NoMemory>
     ensures { ByBirths births.now fresh.now
@@ -187,7 +187,7 @@ pub fn thing_key(
     alloc: Global,
     fds: &Fds,
     births: &Births,
-    fresh: &Births,
+    fresh: &Fresh,
     acting: &Acting,
     what: &Thing,
 ) -> Result<Key, NoMemory>

@@ -6,10 +6,11 @@ ghost use Rattle.acts.specs.Keys.{put_new};
 ghost use Rattle.acts.specs.Flows.{number_in, with_ends};
 ghost use Rattle.flow_events.specs.Added.{AddsEnds, AddsFlow, AddsKey, IfFull, IsPast, StayNew, StayNumbered, objects_in};
 
-use crate::fault::PrepareFault;
 use acts::Link;
 use entity_names::Entities;
-use flow_base::{EntityId, Flow, Full, Key, Limit, List, NoMemory, Stamp, equal_keys_are_one};
+use flow_base::{
+    EntityId, Flow, Full, Key, Limit, List, NoMemory, Refused, Stamp, equal_keys_are_one,
+};
 use std::alloc::Global;
 use std::marker::Model;
 
@@ -41,7 +42,7 @@ impl Added {
 
     #[tactic(auto, using(crate::proofs::Numbering::known_number, crate::proofs::Numbering::new_number, crate::proofs::Numbering::known_stays, crate::proofs::Numbering::new_comes, crate::proofs::Numbering::still_fits, crate::proofs::Numbering::still_new))]
     // The number of a key: the next number, if the key is new.
-    fn number(&mut self, entities: &Entities, most: u32, key: Key) -> Result<EntityId, PrepareFault>
+    fn number(&mut self, entities: &Entities, most: u32, key: Key) -> Result<EntityId, Refused>
         requires limit { most ≡ entities.now.limit }
         requires fits { length (objects_in entities.now self.old) ≤ most }
         ensures keys { OnOk result (AddsKey entities.now self.old self.new key) }
@@ -59,7 +60,7 @@ impl Added {
         }
         let place = entities.count() as usize + put_new(&mut self.keys, key)?;
         if place >= most as usize {
-            return Err(PrepareFault::Full(Full {
+            return Err(Refused::Full(Full {
                 limit: Limit::Entities,
                 number: u64::from(most),
             }));
@@ -83,7 +84,7 @@ impl Added {
         link: Link,
         at: Stamp,
         serial: u32,
-    ) -> Result<(), PrepareFault>
+    ) -> Result<(), Refused>
         requires limit { most ≡ entities.now.limit }
         requires fits { length (objects_in entities.now self.old) ≤ most }
         requires ends { link.from ≢ link.to }

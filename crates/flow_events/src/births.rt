@@ -1,7 +1,7 @@
 //! How often each file number was born.
 //!
 //! Acts leave no count at the end of its numbers, but a store might say one. A count stays there then.
-ghost use Rattle.std.specs.Prelude.{◌≡◌, ◌≤◌, ◌+◌, [], OnOk};
+ghost use Rattle.std.specs.Prelude.{◌≡◌, ◌≤◌, ◌+◌, [], OnOk, IfOk};
 ghost use Rattle.flow_events.specs.Births.{BearsAct, BornAs, CountsBirth, SetsBirths, born_at, births_of, births_in};
 
 use acts::Act;
@@ -123,13 +123,58 @@ pub fn births_in(acts: &[Act]) -> usize
     births
 }
 
-/// What an act does to births. If it is a birth, there must be room for it. It takes no memory.
-pub fn bear(births: &mut Births, act: &Act)
-    requires room { births_of act.now ≤ births.old.spare }
-    ensures next { BearsAct births.old births.new act.now }
-    ensures spare { births.old.spare ≤ births.new.spare + births_of act.now }
-{
-    if let Act::Birth { .. } = act {
-        births.act(act);
+/// How often each file number was born in one event. Most events have no births, and then there is no table.
+#[derive(Drop)]
+pub struct Fresh {
+    table: Option<Box<Births>>,
+}
+
+impl Model for Fresh {
+    ghost use Rattle.std.specs.Prelude.{option_map};
+    ghost use Rattle.flow_events.specs.Births.{Table, table_if};
+
+    ghost Value = { Table };
+
+    ghost view = { λ a. table_if (option_map (λ b. b.value) a.table) };
+}
+
+impl Fresh {
+    /// No file was born yet, and there is room for this many births.
+    pub fn new(alloc: Global, salt: Salt, more: usize) -> Result<Fresh, NoMemory>
+        ensures births { IfOk result (λ fresh. BornAs fresh []) }
+        ensures room { IfOk result (λ fresh. more ≤ fresh.spare) }
+    {
+        if more == 0 {
+            return Ok(Fresh { table: None });
+        }
+        let mut births = Births::new(alloc, salt);
+        births.reserve(more)?;
+        Ok(Fresh {
+            table: Some(Box::new(alloc, births)?),
+        })
+    }
+
+    /// How often a file number was born.
+    pub fn count(&self, id: FileId) -> u64
+        ensures { result ≡ born_at self.now id }
+    {
+        match &self.table {
+            Some(births) => births.count(id),
+            None => 0,
+        }
+    }
+
+    /// What an act does to births. If it is a birth, there must be room for it. It takes no memory.
+    pub fn bear(&mut self, act: &Act)
+        requires room { births_of act.now ≤ self.old.spare }
+        ensures next { BearsAct self.old self.new act.now }
+        ensures spare { self.old.spare ≤ self.new.spare + births_of act.now }
+    {
+        if let Act::Birth { .. } = act {
+            match &mut self.table {
+                Some(births) => births.act(act),
+                None => unreachable!(),
+            }
+        }
     }
 }

@@ -2,24 +2,23 @@
 ghost use Rattle.std.specs.Prelude.{◌≡◌, ◌≤◌, ◌<◌, ◌+◌, ◌++◌, ◌^◌, [], All, IfOk, OnOk, length, map};
 ghost use Rattle.acts.specs.Flows.{with_ends};
 ghost use Rattle.call_acts.specs.Events.{IsCalmOf, IsOf};
-ghost use Rattle.flow_events.specs.Acting.{pair_if};
+ghost use Rattle.flow_events.specs.Acting.{SeesLink, pair_if};
 ghost use Rattle.flow_events.specs.Births.{BornAs, births_of, births_in};
 ghost use Rattle.flow_events.specs.Drafts.{ActPasses, AddsAct, AddsActs, AddsSee, DraftFits, DraftedActsPass, GrowsAtMost};
 ghost use Rattle.flow_events.specs.Drafts.{HasPlacesFor, SeePasses, StaysNew, StaysNumbered};
 ghost use Rattle.flow_events.specs.Added.{AddsEnds, AddsFlow, HasTwoEnds, IfFull, IsPast, StayNew, StayNumbered, objects_in};
 ghost use Rattle.flow_events.specs.Entering.{pair_of};
 
-use crate::acting::{Acting, see_link};
+use crate::acting::Acting;
 use crate::added::Added;
-use crate::births::{Births, bear};
-use crate::fault::PrepareFault;
+use crate::births::{Births, Fresh};
 use crate::given::Given;
-use crate::naming::{if_new, new_exe};
+use crate::naming::new_exe;
 use crate::steps::{link_of, name_of};
 use acts::{Act, Link};
 use entity_names::Entities;
 use fd_table::Fds;
-use flow_base::{Bytes, List, NoMemory, Stamp};
+use flow_base::{Bytes, List, NoMemory, Refused, Stamp};
 use proc_table::Procs;
 use std::alloc::Global;
 use table_salt::Salt;
@@ -34,6 +33,7 @@ pub fn put_name(given: &mut List<Given>, name: Option<Given>) -> Result<(), NoMe
     Ok(())
 }
 
+#[inline]
 /// Adds the flow of a link, if there is one.
 pub fn add_link(
     added: &mut Added,
@@ -42,7 +42,7 @@ pub fn add_link(
     link: Option<Link>,
     at: Stamp,
     serial: u32,
-) -> Result<(), PrepareFault>
+) -> Result<(), Refused>
     requires limit { most ≡ entities.now.limit }
     requires fits { length (objects_in entities.now added.old) ≤ most }
     requires ends { HasTwoEnds link }
@@ -64,7 +64,7 @@ pub fn add_link(
 /// What is worked out of an event.
 #[derive(Drop)]
 pub struct Draft {
-    pub births: Births,
+    pub births: Fresh,
     pub given: List<Given>,
     pub added: Added,
 }
@@ -93,26 +93,27 @@ impl Draft {
         ensures given { IfOk result (λ draft. draft.given ≡ []) }
         ensures added { IfOk result (λ draft. draft.added ≡ record { keys = []; flows = [] }) }
     {
-        let mut births = Births::new(alloc, salt);
-        births.reserve(more)?;
         Ok(Draft {
-            births,
+            births: Fresh::new(alloc, salt, more)?,
             given: List::new(alloc),
             added: Added::new(alloc),
         })
     }
 
-    /// Works out the see that comes first.
+    /// Works out the see that comes first, which links this.
     pub fn see(
         &mut self,
         ground: &Ground<'_>,
         acting: &Acting,
         ppid: u32,
+        link: Option<Link>,
         exe: &Option<Bytes>,
-    ) -> Result<(), PrepareFault>
+    ) -> Result<(), Refused>
         requires limit { ground.now.most ≡ ground.now.entities.now.limit }
         requires fits { DraftFits ground.now self.old }
         requires flows { ground.now.flows + length self.old.added.flows < 2 ^ 64 }
+        requires link { SeesLink ground.now.procs.now acting.now.pid ppid link }
+        requires ends { HasTwoEnds link }
         ensures next { OnOk result (AddsSee ground.now acting.now ppid exe.now self.old self.new) }
         ensures new { OnOk result (StaysNew ground.now self.old self.new) }
         ensures fits { OnOk result (DraftFits ground.now self.new) }
@@ -121,7 +122,6 @@ impl Draft {
         ensures full { IfFull result (SeePasses ground.now acting.now ppid exe.now self.old) }
         ensures room { self.new.births ≡ self.old.births }
     {
-        let link = see_link(ground.procs, acting.pid, ppid);
         let name = new_exe(ground.entities, acting, exe)?;
         let at = Stamp {
             ms: ground.ms,
@@ -140,12 +140,7 @@ impl Draft {
     }
 
     /// Works out one more act, which is not the see that comes first.
-    pub fn act(
-        &mut self,
-        ground: &Ground<'_>,
-        acting: &Acting,
-        act: &Act,
-    ) -> Result<(), PrepareFault>
+    pub fn act(&mut self, ground: &Ground<'_>, acting: &Acting, act: &Act) -> Result<(), Refused>
         requires of { IsOf acting.now.pid act.now }
         requires limit { ground.now.most ≡ ground.now.entities.now.limit }
         requires fits { DraftFits ground.now self.old }
@@ -168,8 +163,13 @@ impl Draft {
             acting,
             act,
         )?;
-        let name = name_of(ground.alloc, ground.births, &self.births, act)?;
-        let name = if_new(ground.entities, name);
+        let name = name_of(
+            ground.alloc,
+            ground.entities,
+            ground.births,
+            &self.births,
+            act,
+        )?;
         let at = Stamp {
             ms: ground.ms,
             place: ground.flows + self.added.count(),
@@ -183,7 +183,7 @@ impl Draft {
             at,
             ground.serial,
         )?;
-        bear(&mut self.births, act);
+        self.births.bear(act);
         Ok(())
     }
 
@@ -193,7 +193,7 @@ impl Draft {
         ground: &Ground<'_>,
         acting: &Acting,
         acts: &[Act],
-    ) -> Result<(), PrepareFault>
+    ) -> Result<(), Refused>
         requires calm { All (IsCalmOf acting.now.pid) acts.now }
         requires limit { ground.now.most ≡ ground.now.entities.now.limit }
         requires fits { DraftFits ground.now self.old }

@@ -13,8 +13,8 @@ ghost use Rattle.flow_events.specs.Acting.{ByBirths, ByDescriptors, ByLives, Doe
 ghost use Rattle.flow_events.specs.Entering.{pair_of};
 ghost use Rattle.flow_events.specs.Standing.{GivesAddress};
 
-use crate::acting::{Acting, birth_key, file_key};
-use crate::births::Births;
+use crate::acting::{Acting, file_key};
+use crate::births::{Births, Fresh};
 use crate::change::Change;
 use crate::given::Given;
 use crate::plan::NewAddress;
@@ -24,7 +24,6 @@ use acts::{
 };
 use fd_table::Fds;
 use flow_base::{Bytes, Key, NoMemory};
-use name_text::address_text;
 use proc_table::Procs;
 use std::alloc::Global;
 
@@ -76,7 +75,7 @@ fn is_awaiting(procs: &Procs, child: u32, pid: u32) -> bool
 pub fn opened(
     alloc: Global,
     births: &Births,
-    fresh: &Births,
+    fresh: &Fresh,
     number: u64,
     what: &Opens,
 ) -> Result<Object, NoMemory>
@@ -219,56 +218,6 @@ fn heard<'a>(fds: &'a Fds, acting: &Acting, listener: u32) -> Option<&'a Bytes>
     match socket_at(fds, acting, listener) {
         Some(socket) => fds.address(socket),
         None => None,
-    }
-}
-
-/// An address is named by its text.
-pub fn address_name(alloc: Global, bytes: &Bytes) -> Result<Given, NoMemory>
-    ensures { IfOk result (λ given. pair_of given ≡ (key.Address bytes.now, text_of bytes.now)) }
-{
-    Ok(Given {
-        key: Key::Address {
-            bytes: bytes.copy()?,
-        },
-        text: address_text(alloc, bytes.as_slice())?,
-    })
-}
-
-/// A file is named by its path, if it has one.
-pub fn file_name(
-    alloc: Global,
-    births: &Births,
-    fresh: &Births,
-    file: &FileRef,
-) -> Result<Option<Given>, NoMemory>
-    ensures { ByBirths births.now fresh.now
-        (λ acts. IfOk result (λ given. pair_if given ≡ path_name acts file.now)) }
-{
-    match &file.path {
-        None => Ok(None),
-        Some(path) => Ok(Some(Given {
-            key: file_key(alloc, births, fresh, file)?,
-            text: path.copy()?,
-        })),
-    }
-}
-
-/// A file that is born is named by its path, if it has one, and its birth counts.
-pub fn birth_name(
-    alloc: Global,
-    births: &Births,
-    fresh: &Births,
-    file: &FileRef,
-) -> Result<Option<Given>, NoMemory>
-    ensures { ByBirths births.now fresh.now (λ acts. IfOk result
-        (λ given. pair_if given ≡ path_name (act.Birth file.now ∷ acts) file.now)) }
-{
-    match &file.path {
-        None => Ok(None),
-        Some(path) => Ok(Some(Given {
-            key: birth_key(alloc, births, fresh, file)?,
-            text: path.copy()?,
-        })),
     }
 }
 

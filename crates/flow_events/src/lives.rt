@@ -2,7 +2,7 @@
 ghost use Rattle.std.specs.Prelude.{◌≡◌, ◌≤◌, ◌<◌, ◌+◌, ◌-◌, ◌^◌, ◌↔◌, ◌∷◌, ℕ, List, Option, IfSome, IsTrue};
 ghost use Rattle.acts.specs.declared.act.Act.{Act};
 ghost use Rattle.acts.specs.declared.act.Act.TheVariants as act;
-ghost use Rattle.proc_table.specs.Table.{StandsFor, at};
+ghost use Rattle.proc_table.specs.Table.{StandsFor, at, standing_of};
 ghost use Rattle.flow_events.specs.Lives.{LivesBelow};
 
 use acts::Act;
@@ -33,14 +33,24 @@ fn has_next(procs: &Procs, pid: u32) -> bool
     }
 }
 
-// A call of the process was logged.
+// Whether a pid is live.
+fn is_live(procs: &Procs, pid: u32) -> bool
+    ensures { result ≡ (standing_of (at procs.now pid)).live }
+{
+    match procs.at(pid) {
+        Some(last) => last.live,
+        None => false,
+    }
+}
+
+// A call of the process was logged. Nearly always the process is live by then, and nothing changes.
 fn see(procs: &mut Procs, pid: u32, ppid: u32)
     requires room { 1 ≤ procs.old.spare }
     ensures next { LivesBelow procs.old (2 ^ 64 - 1) → (acts : List Act) (exe : Option (List ℕ))
         → StandsFor procs.old acts → StandsFor procs.new (act.See pid ppid exe ∷ acts) }
     ensures spare { procs.old.spare ≤ procs.new.spare + 1 }
 {
-    if has_next(procs, pid) {
+    if !is_live(procs, pid) && has_next(procs, pid) {
         procs.see(pid, ppid);
     }
 }

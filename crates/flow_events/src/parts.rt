@@ -6,10 +6,14 @@ use acts::copy_key;
 use flow_base::{Key, List, NoMemory};
 use std::alloc::Global;
 
-/// The items with the last one first.
+#[tactic(auto, using(crate::proofs::Turning::few_turned))]
+/// The items with the last one first. Most lists have at most one item, and then the list itself is given back.
 pub fn newest_first<T: Drop>(alloc: Global, items: List<T>) -> Result<List<T>, NoMemory>
     ensures { IfOk result (λ turned. turned ≡ reverse items) }
 {
+    if items.as_slice().len() <= 1 {
+        return Ok(items);
+    }
     let mut items = items;
     let mut turned = List::new(alloc);
     while let Some(item) = items.pop() {

@@ -7,18 +7,20 @@ ghost use Rattle.flow_events.specs.Lives.{LivesBelow};
 ghost use Rattle.call_acts.specs.Events.{IsOf};
 ghost use Rattle.flow_events.specs.Acting.{ByBirths, ByDescriptors, ByEvent, IsNoSee, DoesAs, pair_if};
 ghost use Rattle.flow_events.specs.Added.{HasTwoEnds};
+ghost use Rattle.flow_events.specs.Entering.{NameAlike};
 ghost use Rattle.flow_events.specs.Standing.{GivesAddress};
 
 use crate::acting::{Acting, between, fork_link, thing_key};
-use crate::births::Births;
+use crate::births::{Births, Fresh};
 use crate::change::Change;
 use crate::effects::{
-    address_at, address_change, address_name, birth_name, copy_change, file_name, fork_change,
-    opened, socket_address,
+    address_at, address_change, copy_change, fork_change, opened, socket_address,
 };
 use crate::given::Given;
+use crate::naming::{address_name, birth_name, file_name};
 use crate::plan::NewAddress;
 use acts::{Act, Held, Link, Opens, Thing};
+use entity_names::Entities;
 use fd_table::Fds;
 use flow_base::NoMemory;
 use proc_table::Procs;
@@ -30,7 +32,7 @@ pub fn link_of(
     procs: &Procs,
     fds: &Fds,
     births: &Births,
-    fresh: &Births,
+    fresh: &Fresh,
     acting: &Acting,
     act: &Act,
 ) -> Result<Option<Link>, NoMemory>
@@ -56,40 +58,41 @@ pub fn link_of(
     }
 }
 
-/// The name that an act gives.
+/// The name that an act gives, if its key doesn't have it.
 pub fn name_of(
     alloc: Global,
+    entities: &Entities,
     births: &Births,
-    fresh: &Births,
+    fresh: &Fresh,
     act: &Act,
 ) -> Result<Option<Given>, NoMemory>
     requires kind { IsNoSee act.now }
-    ensures { ByBirths births.now fresh.now
-        (λ acts. IfOk result (λ name. pair_if name ≡ given text_of acts act.now)) }
+    ensures { ByBirths births.now fresh.now (λ acts. IfOk result
+        (λ name. NameAlike entities.now (given text_of acts act.now) (pair_if name))) }
 {
     match act {
         Act::See { .. } => unreachable!(),
-        Act::Birth { file } => birth_name(alloc, births, fresh, file),
+        Act::Birth { file } => birth_name(alloc, entities, births, fresh, file),
         Act::Set {
             what: Opens::File(file),
             ..
-        } => file_name(alloc, births, fresh, file),
+        } => file_name(alloc, entities, births, fresh, file),
         Act::Set {
             what: Opens::Socket {
                 address: Some(bytes),
                 ..
             },
             ..
-        } => Ok(Some(address_name(alloc, bytes)?)),
+        } => address_name(alloc, entities, bytes),
         Act::Move {
             what: Thing::File(file),
             ..
-        } => file_name(alloc, births, fresh, file),
+        } => file_name(alloc, entities, births, fresh, file),
         Act::Move {
             what: Thing::Address(bytes),
             ..
-        } => Ok(Some(address_name(alloc, bytes)?)),
-        Act::Address { bytes, .. } => Ok(Some(address_name(alloc, bytes)?)),
+        } => address_name(alloc, entities, bytes),
+        Act::Address { bytes, .. } => address_name(alloc, entities, bytes),
         _ => Ok(None),
     }
 }
@@ -100,7 +103,7 @@ pub fn change_of(
     procs: &Procs,
     fds: &Fds,
     births: &Births,
-    fresh: &Births,
+    fresh: &Fresh,
     acting: &Acting,
     act: &Act,
     number: u64,

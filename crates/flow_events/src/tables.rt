@@ -21,7 +21,6 @@ ghost use Rattle.stored.specs.Words.{state_of};
 use crate::births::Births;
 use crate::change::{make_change, need};
 use crate::draft::Ground;
-use crate::fault::PrepareFault;
 use crate::filled::{Filled, fill_all};
 use crate::parts::named_keys;
 use crate::passes::{bear_through, enter_all, give_all, live_through};
@@ -33,7 +32,7 @@ use acts::{Act, each_beginning_is_an_act};
 use call_acts::{acts_are_of_one_event, is_unmapped};
 use entity_names::Entities;
 use fd_table::Fds;
-use flow_base::{Flow, Full, Limit, Limits, List, NoMemory};
+use flow_base::{Flow, Full, Limit, Limits, List, NoMemory, Refused};
 use proc_table::Procs;
 use record_join::EventView;
 use row_codec::StoreRow;
@@ -205,7 +204,7 @@ impl Tables {
     }
 
     /// Works out what an event will do, and takes all the memory for it. The tables stand for the same acts as before.
-    pub fn prepare(&mut self, alloc: Global, event: &EventView<'_>) -> Result<Plan, PrepareFault>
+    pub fn prepare(&mut self, alloc: Global, event: &EventView<'_>) -> Result<Plan, Refused>
         requires safe { AreSafe self.old }
         requires few { HasNumbersFor self.old (length (acts_of_event self.old.limits event.now)) }
         ensures plan { IfOk result (PlansEvent self.old event.now) }
@@ -238,7 +237,7 @@ impl Tables {
         ms: u64,
         serial: u32,
         unmapped: bool,
-    ) -> Result<Plan, PrepareFault>
+    ) -> Result<Plan, Refused>
         requires event { IsEvent acts }
         requires safe { AreSafe self.old }
         requires few { HasNumbersFor self.old (length acts) }
@@ -258,7 +257,7 @@ impl Tables {
     {
         let plan = self.plan(alloc, acts, ms, serial, unmapped)?;
         if self.limits.flows < self.flows + plan.flows.as_slice().len() as u64 {
-            return Err(PrepareFault::Full(Full {
+            return Err(Refused::Full(Full {
                 limit: Limit::Flows,
                 number: self.limits.flows,
             }));
@@ -275,7 +274,7 @@ impl Tables {
         ms: u64,
         serial: u32,
         unmapped: bool,
-    ) -> Result<Plan, PrepareFault>
+    ) -> Result<Plan, Refused>
         requires event { IsEvent acts }
         requires safe { AreSafe self.now }
         requires few { HasNumbersFor self.now (length acts) }

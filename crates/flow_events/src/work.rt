@@ -6,16 +6,15 @@ ghost use Rattle.flow_events.specs.Births.{births_in, births_of};
 ghost use Rattle.flow_events.specs.Drafts.{DraftFits, GrowsAtMost, HasNewKeys, HasPlacesFor, IsNumbered, StaysNew, StaysNumbered};
 ghost use Rattle.flow_events.specs.Working.{BeginsAs, BeginsWay, DoesEvent, DoesRest, EventIsPast, GoesOnWith, GoesPast, RestIsPast, SeeIsPast};
 
-use crate::acting::{Acting, see_acting};
+use crate::acting::Acting;
 use crate::births::births_in;
 use crate::change::Change;
 use crate::draft::{Draft, Ground};
-use crate::effects::see_change;
-use crate::fault::PrepareFault;
 use crate::plan::NewAddress;
+use crate::seeing::{Seen, see_process};
 use crate::steps::{address_of, change_of};
 use acts::Act;
-use flow_base::Bytes;
+use flow_base::{Bytes, Refused};
 
 /// What an event does to the tables.
 #[derive(Drop)]
@@ -41,7 +40,7 @@ pub fn begin(
     ppid: u32,
     exe: &Option<Bytes>,
     more: usize,
-) -> Result<Begun, PrepareFault>
+) -> Result<Begun, Refused>
     requires limit { ground.now.most ≡ ground.now.entities.now.limit }
     requires fits { length ground.now.entities.now.keys ≤ ground.now.most }
     requires flows { ground.now.flows < 2 ^ 64 }
@@ -55,10 +54,14 @@ pub fn begin(
     ensures flows { IfOk result (λ begun. length begun.draft.added.flows ≤ 1) }
     ensures full { IfFull result (SeeIsPast ground.now pid ppid exe.now) }
 {
-    let acting = see_acting(ground.procs, pid, ppid);
-    let see = see_change(ground.procs, pid, ppid);
+    let seen = see_process(ground.procs, pid, ppid);
+    let Seen {
+        acting,
+        change: see,
+        link,
+    } = seen;
     let mut draft = Draft::start(ground.alloc, ground.births.salt(), more)?;
-    draft.see(ground, &acting, ppid, exe)?;
+    draft.see(ground, &acting, ppid, link, exe)?;
     Ok(Begun { acting, see, draft })
 }
 
@@ -69,7 +72,7 @@ pub fn go_on(
     acts: u64,
     front: &[Act],
     last: &Act,
-) -> Result<Worked, PrepareFault>
+) -> Result<Worked, Refused>
     requires few { acts + (length front.now + 2) < 2 ^ 64 }
     requires limit { ground.now.most ≡ ground.now.entities.now.limit }
     requires fits { DraftFits ground.now begun.draft }
@@ -121,7 +124,7 @@ pub fn work_out(
     ppid: u32,
     exe: &Option<Bytes>,
     rest: &[Act],
-) -> Result<Worked, PrepareFault>
+) -> Result<Worked, Refused>
     requires few { acts + (length rest.now + 2) < 2 ^ 64 }
     requires limit { ground.now.most ≡ ground.now.entities.now.limit }
     requires fits { length ground.now.entities.now.keys ≤ ground.now.most }
@@ -148,7 +151,7 @@ pub fn work_out(
 }
 
 /// Works out an event by its acts, oldest first, after this many earlier acts.
-pub fn work_event(ground: &Ground<'_>, number: u64, acts: &[Act]) -> Result<Worked, PrepareFault>
+pub fn work_event(ground: &Ground<'_>, number: u64, acts: &[Act]) -> Result<Worked, Refused>
     requires few { number + (length acts.now + 2) < 2 ^ 64 }
     requires limit { ground.now.most ≡ ground.now.entities.now.limit }
     requires fits { length ground.now.entities.now.keys ≤ ground.now.most }

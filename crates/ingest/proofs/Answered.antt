@@ -1,7 +1,7 @@
 -- Facts on answers.
 use Rattle.std.proofs.Common.{◌≡◌, subst, refl, Option, None, Some, false}
 use Rattle.std.specs.Prelude.{Result, Ok, Err, OnOk, IfOk, IfErr, is_some}
-use Rattle.ingest.specs.declared.stop.StopWhy.{StopWhy}
+use Rattle.flow_base.specs.declared.faults.Refused.{Refused}
 
 pub on_ok_so : {T E : Type 0} (r : Result T E) (P Q : Type 0) → (P → Q) → OnOk r P → OnOk r Q
 on_ok_so (Ok value) P Q f p = f p
@@ -22,10 +22,10 @@ pub by_err : {T E : Type 0} (r : Result T E) (P : E → Type 0) → ((e : E) →
 by_err (Ok value) P f = tt
 by_err (Err e) P f = f e
 
-abbrev pub refused : StopWhy → Result (Unit {0}) StopWhy
+abbrev pub refused : Refused → Result (Unit {0}) Refused
 refused cause = Err cause
 
-pub one_why : (a b : StopWhy) → refused a ≡ refused b → a ≡ b
+pub one_why : (a b : Refused) → refused a ≡ refused b → a ≡ b
 one_why a b e = cc e
 
 pub if_ok_so : {T E : Type 0} (r : Result T E) (P Q : T → Type 0) → ((value : T) → P value → Q value) → IfOk r P → IfOk r Q

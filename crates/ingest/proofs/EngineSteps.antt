@@ -24,8 +24,8 @@ use Rattle.ingest.specs.Parts.{Reader, Joined, Engine}
 use Rattle.ingest.specs.StandsFor.{ReaderStandsFor, JoinedStandsFor, StandsFor, HasNoTail}
 use Rattle.ingest.specs.Stops.{Fits, Stops, StopsAmong, StopsFor, full_of}
 use Rattle.ingest.specs.declared.stop.Stop.{Stop}
-use Rattle.ingest.specs.declared.stop.StopWhy.{StopWhy}
-use Rattle.ingest.specs.declared.stop.StopWhy.TheVariants as why
+use Rattle.flow_base.specs.declared.faults.Refused.{Refused}
+use Rattle.flow_base.specs.declared.faults.Refused.TheVariants as why
 use Rattle.ingest.proofs.Bytes.{bytes_more, bytes_settled}
 use Rattle.ingest.proofs.Clocking.{clock_so}
 use Rattle.ingest.proofs.Closing.{released_closed, left_when_closed}
@@ -269,7 +269,7 @@ module _ (limits : Limits) where
       (joined_to after _ _ _ _ w.left_is w.events_are (releases w.rest w.done w.joined (few_owed (record { reader = reader; joined = before; part = part }) h w)))
       w.within
 
-  pub still_owes : {K : Type 0} {part : ℕ} (reader : Reader) (before after : Joined K) (h : History) (cause : StopWhy) → MayOwe limits (record { reader = reader; joined = before; part = part }) h
+  pub still_owes : {K : Type 0} {part : ℕ} (reader : Reader) (before after : Joined K) (h : History) (cause : Refused) → MayOwe limits (record { reader = reader; joined = before; part = part }) h
       → ((s : Joining) (released : List Event) → JoinedStandsFor limits before s released → length released + length s.waiting ≤ 2 ^ 61 → IsOwed limits after s released cause)
       → OwesFor limits (record { reader = reader; joined = after; part = part }) h cause
   still_owes {part} reader before after h cause w releases =
@@ -289,7 +289,7 @@ module _ (limits : Limits) where
       }
 
   -- what was refused at a release was owed before it
-  pub owed_some : {K : Type 0} (own old : Engine K) (after : Joined K) (h : History) (cause : StopWhy) (w : MayOwe limits old h) → own ≡ old
+  pub owed_some : {K : Type 0} (own old : Engine K) (after : Joined K) (h : History) (cause : Refused) (w : MayOwe limits old h) → own ≡ old
       → ((s : Joining) (released : List Event) → JoinedStandsFor limits own.joined s released → length released + length s.waiting ≤ 2 ^ 61 → IsOwed limits after s released cause)
       → length w.done < length (events_of limits h)
   owed_some {K} own old after h cause w is releases =
@@ -360,9 +360,9 @@ module _ (limits : Limits) where
   pub settle_full : {K : Type 0} (engine : Engine K) (h : History) (full : Full) → Fits limits h → OwesFor limits engine (h ++ Settle ∷ []) (why.Full full) → Stops limits (h ++ Settle ∷ []) full
   settle_full engine h full fits owes = owes_stops limits engine h Settle full fits owes.stands owes.by
 
-  pub never_full : {K : Type 0} (engine : Engine K) (h : History) (cause : StopWhy) (full : Full) → cause ≡ why.Full full → Fits limits h → OwesFor limits engine h cause → ⊥
+  pub never_full : {K : Type 0} (engine : Engine K) (h : History) (cause : Refused) (full : Full) → cause ≡ why.Full full → Fits limits h → OwesFor limits engine h cause → ⊥
   never_full engine h cause full is fits owes =
-      let own = subst (λ (c : StopWhy). OwesFor limits engine h c) is owes in
+      let own = subst (λ (c : Refused). OwesFor limits engine h c) is owes in
       none_passes limits engine h full fits own.stands own.by
 
 abbrev pub engine_of : {K : Type 0} → Reader → Joined K → ℕ → Engine K
@@ -390,7 +390,7 @@ abbrev pub Releases : {K : Type 0} → Joined K → Joined K → Type 0
 Releases old new = (limits : Limits) (s : Joining) (released : List Event) → JoinedStandsFor limits old s released → length released + length s.waiting ≤ 2 ^ 61
     → JoinedStandsFor limits new (left_after limits s) (released ++ released_after limits s)
 
-abbrev pub OwesSome : {K : Type 0} → Joined K → Joined K → StopWhy → Type 0
+abbrev pub OwesSome : {K : Type 0} → Joined K → Joined K → Refused → Type 0
 OwesSome old new cause = (limits : Limits) (s : Joining) (released : List Event) → JoinedStandsFor limits old s released → length released + length s.waiting ≤ 2 ^ 61
     → IsOwed limits new s released cause
 

@@ -1,6 +1,5 @@
 -- Acts are few: an event takes its records along.
-use Rattle.std.proofs.Common.{◌≡◌, ◌≤◌, ◌<◌, ◌+◌, ◌-◌, ◌*◌, ◌^◌, ◌++◌, ◌∙◌, sym, ap, subst, ℕ, List, length, map, arith, length-append, Option, Some}
-use Rattle.std.proofs.lemmas.List.{length-map, length-reverse}
+use Rattle.std.proofs.Common.{◌≡◌, ◌≤◌, ◌<◌, ◌+◌, ◌-◌, ◌*◌, ◌^◌, sym, ap, subst, ℕ, List, length, arith, Option, Some}
 use Rattle.std.specs.Option.{option_to_list}
 use Rattle.std.specs.Prelude.{Result, Ok, Err, OnOk, OnErr}
 use Rattle.audit_record.specs.declared.types.Record.{Record}
@@ -8,12 +7,8 @@ use Rattle.flow_base.specs.declared.limits.Limits.{Limits}
 use Rattle.record_join.specs.Events.{Joining, enter, settled, ripe_key, next_event, next_left}
 use Rattle.record_join.specs.StandsFor.{Joiner, StandsFor as JoinStandsFor, WhereStands}
 use Rattle.record_join.specs.declared.event.Event.{Event}
-use Rattle.acts.specs.declared.act.Taken.{Taken}
 use Rattle.call_acts.specs.Acts.{event_acts}
 use Rattle.ingest.specs.Bounds.{IsFew, IsBounded, HasFewRecords, StaysFew, OneMore, KeepsLines, EndsLine}
-use Rattle.ingest.specs.EventActs.{acts_of_event}
-use Rattle.ingest.specs.Events.{taken_at}
-use Rattle.ingest.specs.Following.{turned_by}
 use Rattle.ingest.specs.Parts.{Reader, Joined}
 use Rattle.ingest.proofs.FewEvents.{records_in, hold_at}
 use Rattle.ingest.proofs.Fewer.{released_so, enter_waiting}

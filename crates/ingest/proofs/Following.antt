@@ -23,8 +23,6 @@ use Rattle.call_acts.specs.Acts.{event_acts, acts_of_events}
 use Rattle.flow_events.specs.declared.plan.Plan.{Plan}
 use Rattle.flow_events.specs.declared.tables.Tables.{Tables}
 use Rattle.flow_events.specs.Drafts.{turned}
-use Rattle.flow_events.specs.declared.fault.PrepareFault.{PrepareFault}
-use Rattle.flow_events.specs.declared.fault.PrepareFault.TheVariants as prepare
 use Rattle.flow_events.specs.Following.{MayFollow, MayComeAfter}
 use Rattle.flow_events.specs.Remembering.{StandsMarked}
 use Rattle.flow_events.specs.Standing.{StandsFor as TablesStandFor, IsPlanOf, HasLimits}
@@ -32,13 +30,10 @@ use Rattle.kept_flows.specs.KeptFlows.{KeptFlows, ComeNext, StandsFor as KeptSta
 use Rattle.ingest.specs.Counting.{counts_in}
 use Rattle.ingest.specs.EventActs.{acts_of_event}
 use Rattle.ingest.specs.Events.{taken_at, taken_by, taken_in, flows_in}
-use Rattle.ingest.specs.Faults.{of_refused}
 use Rattle.ingest.specs.Following.{HasTaken, MayComeAt, turned_by}
 use Rattle.ingest.specs.Parts.{Joined}
 use Rattle.ingest.specs.StandsFor.{IsInTime, AreInTime, JoinedStandsFor}
 use Rattle.ingest.specs.Stops.{full_of}
-use Rattle.ingest.specs.declared.stop.StopWhy.{StopWhy}
-use Rattle.ingest.specs.declared.stop.StopWhy.TheVariants as why
 use Rattle.ingest.proofs.Clocking.{released_then}
 use Rattle.ingest.proofs.Fewer.{released_so}
 use Rattle.ingest.proofs.Growing.{taken_more, map_turned}
@@ -47,11 +42,6 @@ use Rattle.ingest.proofs.Releasing.{ripe_event}
 
 pub same_err : {T E : Type 0} (a b : E) → ◌≡◌ {A = Result T E} (Err a) (Err b) → a ≡ b
 same_err a b e = cc e
-
--- the engine stops for a limit only if an event was refused for it
-pub refused_full : (refused : PrepareFault) (cause : StopWhy) (full : Full) → cause ≡ of_refused refused → cause ≡ why.Full full → refused ≡ prepare.Full full
-refused_full prepare.NoMemory cause full by is = absurd (cc)
-refused_full (prepare.Full other) cause full by is = cc
 
 -- ---- acts of events
 

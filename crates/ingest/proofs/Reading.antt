@@ -3,6 +3,7 @@ use Rattle.std.proofs.Common.{◌≡◌, ◌≤◌, ◌∙◌, sym, refl, ap, su
 use Rattle.std.proofs.lemmas.Grind.{common_steps}
 use Rattle.audit_lex.specs.History.{is_long}
 use Rattle.audit_lex.specs.LineClass.{Class, Used, Other, Blank, Malformed, text_class, class_of}
+use Rattle.audit_lex.specs.Scanning.{IsUnused}
 use Rattle.audit_lex.specs.declared.faults.LineFault.TheVariants as fault
 use Rattle.audit_lex.specs.declared.fields.Kind.{Kind}
 use Rattle.audit_lex.specs.declared.fields.Kind.TheVariants as kind
@@ -10,10 +11,13 @@ use Rattle.audit_lex.specs.declared.header.EventKey.{EventKey}
 use Rattle.audit_record.specs.Records.{Spells, IsUsed}
 use Rattle.audit_record.specs.declared.types.Body.TheVariants as body
 use Rattle.audit_record.specs.declared.types.Record.{Record}
+use Rattle.audit_lex.proofs.ReadableLemmas.{used_within}
 use Rattle.audit_record.proofs.SpellingLaws.{one_record, used_spells, spelled_is_used, spells_where_used}
 use Rattle.record_join.specs.Keys.{EndsAt}
-use Rattle.ingest.specs.Entries.{IsEntered, IsGiven, is_end}
-use Rattle.ingest.specs.declared.entry.Entry.{Entry}
+use Rattle.audit_record.specs.Reading.{is_end, GivesEntry}
+use Rattle.ingest.specs.Entries.{IsEntered, IsGiven}
+use Rattle.audit_record.specs.declared.types.Entry.{Entry}
+use Rattle.audit_record.specs.declared.types.Entry.TheVariants as entry
 use Rattle.ingest.specs.LineRecords.{record_by, record_of}
 
 not_used : (line : List ℕ) (class : Class) (made : Record) → text_class line ≡ class → ((key : EventKey) (kind : Kind) → class ≡ Used key kind → ⊥) → Spells line made → ⊥
@@ -107,3 +111,32 @@ used_class limit line made e =
     let both = spelled_if line (is_long limit line) made e in
     let used : IsUsed line made.key = spelled_is_used line made both.1 in
     (used.0, class_short line (is_long limit line) both.0 ∙ used.1)
+
+-- ---- what a line gives
+
+none_made : (limit : ℕ) (line : List ℕ) (said : Option Record) → record_of limit line ≡ said → IsUnused limit line → said ≡ None
+none_made limit line None is unused = refl
+none_made limit line (Some made) is unused =
+    let used = used_class limit line made is in absurd (unused made.key used.0 used.1)
+
+-- what was read of a line is what it gives the joiner
+pub entry_given : (limit : ℕ) (line : List ℕ) (read : Option Entry) → GivesEntry limit line read → IsGiven read (record_of limit line)
+entry_given limit line None unused = none_made limit line (record_of limit line) refl unused
+entry_given limit line (Some (entry.Record item)) given =
+    record { item = item; spelled = reads_used limit line given.key given.kind item given.used given.gives.1; gives = refl }
+entry_given limit line (Some (entry.End ended)) given =
+    let text = used_within limit line given.key given.kind given.used in
+    let made = end_spelled line given.key given.kind text given.gives.0 in
+    record {
+      item = made.0;
+      spelled = reads_used limit line given.key given.kind made.0 given.used made.1;
+      gives = subst (λ (key : EventKey). EndsAt key made.0) (sym given.gives.1) made.2;
+    }
+
+no_text : (long : Bool) → if_short [] long ≡ None
+no_text true = refl
+no_text false = refl
+
+-- an empty line gives nothing
+pub empty_given : (limit : ℕ) (line : List ℕ) → line ≡ [] → record_of limit line ≡ None
+empty_given limit line is = ap (record_of limit) is ∙ no_text (is_long limit [])

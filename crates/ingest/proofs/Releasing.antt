@@ -21,8 +21,8 @@ use Rattle.kept_flows.specs.KeptFlows.{KeptFlows}
 use Rattle.ingest.specs.Owing.{IsOwed, OwesBy, NextPasses}
 use Rattle.ingest.specs.Parts.{Joined}
 use Rattle.ingest.specs.StandsFor.{IsInTime, JoinedStandsFor}
-use Rattle.ingest.specs.declared.stop.StopWhy.{StopWhy}
-use Rattle.ingest.specs.declared.stop.StopWhy.TheVariants as why
+use Rattle.flow_base.specs.declared.faults.Refused.{Refused}
+use Rattle.flow_base.specs.declared.faults.Refused.TheVariants as why
 use Rattle.record_join.proofs.Turns.{none_released, none_left, one_release, one_left}
 use Rattle.ingest.proofs.Clocking.{released_entered}
 use Rattle.ingest.proofs.Fewer.{released_so, enter_time}
@@ -97,7 +97,7 @@ goes_on limits s before joined after w ripe follows =
     goes_by limits s before joined after next.0 w (sym next.1) (follows limits w.rest (before ++ w.done) next.0 w.stands few next.1)
 
 -- the event that was refused is owed with those behind it
-pub owed : {K : Type 0} (limits : Limits) (s : Joining) (before : List Event) (joined after : Joined K) (cause : StopWhy) (w : IsUnderWay limits s before joined)
+pub owed : {K : Type 0} (limits : Limits) (s : Joining) (before : List Event) (joined after : Joined K) (cause : Refused) (w : IsUnderWay limits s before joined)
     → is_some (ripe_key limits w.rest) ≡ true
     → ((limits : Limits) (s : Joining) (released : List Event) → JoinedStandsFor limits joined s released → JoinedStandsFor limits after s released)
     → ((full : Full) → cause ≡ why.Full full → (limits : Limits) (s : Joining) (released : List Event) → JoinedStandsFor limits joined s released → NextPasses limits s released full)
@@ -112,7 +112,7 @@ owed limits s before joined after cause w ripe same passes = record {
   by = by cause refl;
 }
   where
-    by : (r : StopWhy) → cause ≡ r → OwesBy limits w.rest (before ++ w.done) r
+    by : (r : Refused) → cause ≡ r → OwesBy limits w.rest (before ++ w.done) r
     by why.NoMemory is = tt
     by (why.Full full) is = passes full is limits w.rest (before ++ w.done) w.stands
 

@@ -20,8 +20,8 @@ use Rattle.ingest.specs.Parts.{Engine}
 use Rattle.ingest.specs.StandsFor.{ReaderStandsFor, StandsFor}
 use Rattle.ingest.specs.Stops.{Fits, Stops, StopsHere, StopsBy, StopsFor, input_full}
 use Rattle.ingest.specs.declared.stop.Stop.{Stop}
-use Rattle.ingest.specs.declared.stop.StopWhy.{StopWhy}
-use Rattle.ingest.specs.declared.stop.StopWhy.TheVariants as why
+use Rattle.flow_base.specs.declared.faults.Refused.{Refused}
+use Rattle.flow_base.specs.declared.faults.Refused.TheVariants as why
 use Rattle.ingest.proofs.Bytes.{bytes_more, bytes_append}
 use Rattle.ingest.proofs.EngineSteps.{at_rest, front_fits_too, none_passes, owes_stops}
 use Rattle.ingest.proofs.Limiting.{stop_stays}
@@ -89,7 +89,7 @@ module _ (limits : Limits) where
         subst (λ (g : History). Stops limits g full) (more_taken h done d piece) event.2,
       )
 
-  later_by : (h : History) (piece : List ℕ) (done d : ℕ) (reason : StopWhy) → done ≤ length piece → StopsBy limits (with_bytes h (take done piece)) (drop done piece) d reason → StopsBy limits h piece (done + d) reason
+  later_by : (h : History) (piece : List ℕ) (done d : ℕ) (reason : Refused) → done ≤ length piece → StopsBy limits (with_bytes h (take done piece)) (drop done piece) d reason → StopsBy limits h piece (done + d) reason
   later_by h piece done d why.NoMemory within by = tt
   later_by h piece done d (why.Full full) within by =
       (subst (λ (g : History). Stops limits g full) (with_rest h done piece) by.0, later_here h piece done d full within by.1)
@@ -117,7 +117,7 @@ module _ (limits : Limits) where
         subst (λ (l : List ℕ). Stops limits (with_bytes h l) full) (take-take d room piece short) event.2,
       )
 
-  front_by : (h : History) (piece : List ℕ) (room d : ℕ) (reason : StopWhy) → room ≤ length piece → d ≤ room → StopsBy limits h (take room piece) d reason → StopsBy limits h piece d reason
+  front_by : (h : History) (piece : List ℕ) (room d : ℕ) (reason : Refused) → room ≤ length piece → d ≤ room → StopsBy limits h (take room piece) d reason → StopsBy limits h piece d reason
   front_by h piece room d why.NoMemory within short by = tt
   front_by h piece room d (why.Full full) within short by =
       (subst (λ (g : History). Stops limits g full) (with_rest h room piece) (stop_stays limits (with_bytes h (take room piece)) (map Byte (drop room piece)) full by.0), front_here h piece room d full within short by.1)
@@ -156,7 +156,7 @@ module _ (limits : Limits) where
 
   -- ---- a line that ends with these bytes and a line feed
 
-  ended_by : {K : Type 0} (engine : Engine K) (h : History) (part : List ℕ) (cause : StopWhy) → Fits limits h → bytes_in h + (length part + 1) ≤ limits.input
+  ended_by : {K : Type 0} (engine : Engine K) (h : History) (part : List ℕ) (cause : Refused) → Fits limits h → bytes_in h + (length part + 1) ≤ limits.input
       → position_or_len (is_byte 10) part ≡ length part → OwesFor limits engine (with_bytes h (part ++ 10 ∷ [])) cause → StopsBy limits h (part ++ 10 ∷ []) (length part + 1) cause
   ended_by engine h part why.NoMemory fits room none owes = tt
   ended_by engine h part (why.Full full) fits room none owes =
@@ -175,7 +175,7 @@ module _ (limits : Limits) where
         ),
       )
 
-  pub stop_ended : {K : Type 0} (engine : Engine K) (h : History) (part : List ℕ) (cause : StopWhy) → Fits limits h → bytes_in h + (length part + 1) ≤ limits.input
+  pub stop_ended : {K : Type 0} (engine : Engine K) (h : History) (part : List ℕ) (cause : Refused) → Fits limits h → bytes_in h + (length part + 1) ≤ limits.input
       → position_or_len (is_byte 10) part ≡ length part → OwesFor limits engine (with_bytes h (part ++ 10 ∷ [])) cause
       → StopsFor limits h (part ++ 10 ∷ []) (record { done = length part + 1; why = cause })
   stop_ended engine h part cause fits room none owes = record {
@@ -185,12 +185,12 @@ module _ (limits : Limits) where
 
   -- ---- what the engine stands for after a stop
 
-  halts_by : (h : History) (piece : List ℕ) (done : ℕ) (rest : Joining) (events : List Event) (cause : StopWhy) → OwesBy limits rest events cause → HaltsBy limits h piece done rest events cause
+  halts_by : (h : History) (piece : List ℕ) (done : ℕ) (rest : Joining) (events : List Event) (cause : Refused) → OwesBy limits rest events cause → HaltsBy limits h piece done rest events cause
   halts_by h piece done rest events why.NoMemory by = tt
   halts_by h piece done rest events (why.Full full) by = inr by
 
   -- events are owed after so many bytes
-  pub halts_at : {K : Type 0} (engine : Engine K) (h g : History) (piece : List ℕ) (done : ℕ) (cause : StopWhy) → done ≤ length piece → with_bytes h (take done piece) ≡ g → OwesFor limits engine g cause
+  pub halts_at : {K : Type 0} (engine : Engine K) (h g : History) (piece : List ℕ) (done : ℕ) (cause : Refused) → done ≤ length piece → with_bytes h (take done piece) ≡ g → OwesFor limits engine g cause
       → Halts limits engine h piece (record { done = done; why = cause })
   halts_at engine h g piece done cause within is owes = record {
     within = within;
@@ -202,7 +202,7 @@ module _ (limits : Limits) where
   pub nothing_taken : (h : History) (piece : List ℕ) → with_bytes h (take 0 piece) ≡ h
   nothing_taken h piece = ap (λ l. h ++ map Byte l) (take_zero piece) ∙ append-nil h
 
-  pub halts_ended : {K : Type 0} (engine : Engine K) (h : History) (part : List ℕ) (cause : StopWhy) → OwesFor limits engine (with_bytes h (part ++ 10 ∷ [])) cause
+  pub halts_ended : {K : Type 0} (engine : Engine K) (h : History) (part : List ℕ) (cause : Refused) → OwesFor limits engine (with_bytes h (part ++ 10 ∷ [])) cause
       → Halts limits engine h (part ++ 10 ∷ []) (record { done = length part + 1; why = cause })
   halts_ended engine h part cause owes =
       halts_at engine h (with_bytes h (part ++ 10 ∷ [])) (part ++ 10 ∷ []) (length part + 1) cause (omega (arith, length-append part (10 ∷ []))) (ap (with_bytes h) (take-append-add part (10 ∷ []) 1)) owes
@@ -211,7 +211,7 @@ module _ (limits : Limits) where
   pub halts_memory : {K : Type 0} (engine : Engine K) (h : History) (piece : List ℕ) → MayOwe limits engine h → Halts limits engine h piece (record { done = 0; why = why.NoMemory })
   halts_memory engine h piece owes = halts_at engine h h piece 0 why.NoMemory (omega arith) (nothing_taken h piece) (record { stands = owes; by = tt })
 
-  later_halts : (h : History) (piece : List ℕ) (done d : ℕ) (rest : Joining) (events : List Event) (cause : StopWhy) → done ≤ length piece
+  later_halts : (h : History) (piece : List ℕ) (done d : ℕ) (rest : Joining) (events : List Event) (cause : Refused) → done ≤ length piece
       → HaltsBy limits (with_bytes h (take done piece)) (drop done piece) d rest events cause → HaltsBy limits h piece (done + d) rest events cause
   later_halts h piece done d rest events why.NoMemory within by = tt
   later_halts h piece done d rest events (why.Full full) within (inr by) = inr by
@@ -231,7 +231,7 @@ module _ (limits : Limits) where
     by = later_halts h piece done stop.done halts.stands.rest halts.stands.done stop.why within halts.by;
   }
 
-  front_halts : (h : History) (piece : List ℕ) (room d : ℕ) (rest : Joining) (events : List Event) (cause : StopWhy) → room ≤ length piece → d ≤ room
+  front_halts : (h : History) (piece : List ℕ) (room d : ℕ) (rest : Joining) (events : List Event) (cause : Refused) → room ≤ length piece → d ≤ room
       → HaltsBy limits h (take room piece) d rest events cause → HaltsBy limits h piece d rest events cause
   front_halts h piece room d rest events why.NoMemory within short by = tt
   front_halts h piece room d rest events (why.Full full) within short (inr by) = inr by
@@ -262,14 +262,14 @@ module _ (limits : Limits) where
   }
 
   -- an engine that stood for its history owes nothing that passes a limit
-  never_by : {K : Type 0} (engine : Engine K) (h : History) (piece : List ℕ) (cause : StopWhy) → Fits limits h → OwesFor limits engine h cause → StopsBy limits h piece 0 cause
+  never_by : {K : Type 0} (engine : Engine K) (h : History) (piece : List ℕ) (cause : Refused) → Fits limits h → OwesFor limits engine h cause → StopsBy limits h piece 0 cause
   never_by engine h piece why.NoMemory fits owes = tt
   never_by engine h piece (why.Full full) fits owes = absurd (none_passes limits engine h full fits owes.stands owes.by)
 
-  pub stop_before : {K : Type 0} (engine : Engine K) (h : History) (piece : List ℕ) (cause : StopWhy) → Fits limits h → OwesFor limits engine h cause → StopsFor limits h piece (record { done = 0; why = cause })
+  pub stop_before : {K : Type 0} (engine : Engine K) (h : History) (piece : List ℕ) (cause : Refused) → Fits limits h → OwesFor limits engine h cause → StopsFor limits h piece (record { done = 0; why = cause })
   stop_before engine h piece cause fits owes = record { within = omega arith; by = never_by engine h piece cause fits owes }
 
-  pub halts_before : {K : Type 0} (engine : Engine K) (h : History) (piece : List ℕ) (cause : StopWhy) → OwesFor limits engine h cause → Halts limits engine h piece (record { done = 0; why = cause })
+  pub halts_before : {K : Type 0} (engine : Engine K) (h : History) (piece : List ℕ) (cause : Refused) → OwesFor limits engine h cause → Halts limits engine h piece (record { done = 0; why = cause })
   halts_before engine h piece cause owes = halts_at engine h h piece 0 cause (omega arith) (nothing_taken h piece) owes
 
   -- ---- a piece with a line feed

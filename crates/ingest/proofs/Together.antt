@@ -1,5 +1,5 @@
 -- Tables and kept flows that go together, before and after an event.
-use Rattle.std.proofs.Common.{◌≡◌, ◌≤◌, ◌<◌, ◌+◌, ◌*◌, ◌^◌, ◌⊎◌, inl, inr, ◌∙◌, sym, refl, ap, subst, ℕ, zero, suc, List, [], ◌∷◌, length, map, get_or, arith, Option, None, Some}
+use Rattle.std.proofs.Common.{◌≡◌, ◌≤◌, ◌<◌, ◌+◌, ◌^◌, inl, inr, ◌∙◌, sym, refl, ap, subst, ℕ, zero, suc, List, [], ◌∷◌, length, get_or, arith, Option, None, Some}
 use Rattle.std.specs.List.{Contains}
 use Rattle.std.specs.Option.{IfSome}
 use Rattle.flow_base.specs.declared.limits.Limits.{Limits}

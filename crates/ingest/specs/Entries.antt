@@ -1,17 +1,9 @@
 -- What a line gives the joiner.
-use Rattle.std.specs.Prelude.{◌≡◌, Bool, true, false, Option, None, Some}
-use Rattle.audit_lex.specs.declared.fields.Kind.{Kind}
-use Rattle.audit_lex.specs.declared.fields.Kind.TheVariants as kind
+use Rattle.std.specs.Prelude.{◌≡◌, Option, None, Some}
 use Rattle.audit_record.specs.declared.types.Record.{Record}
 use Rattle.record_join.specs.Keys.{EndsAt}
-use Rattle.ingest.specs.declared.entry.Entry.{Entry}
-use Rattle.ingest.specs.declared.entry.Entry.TheVariants as entry
-
--- the kinds of lines that end their event
-abbrev pub is_end : Kind → Bool
-is_end kind.Proctitle = true
-is_end kind.Eoe = true
-is_end _ = false
+use Rattle.audit_record.specs.declared.types.Entry.{Entry}
+use Rattle.audit_record.specs.declared.types.Entry.TheVariants as entry
 
 -- an entry is this record, or an end whose record this is
 abbrev pub IsEntryOf : Entry → Record → Type 0

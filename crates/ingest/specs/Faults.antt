@@ -1,4 +1,4 @@
--- Why the engine gives no answer, and why it stops at an event.
+-- Why the engine gives no answer.
 use Rattle.std.specs.Prelude.{Result, Ok, Err}
 use Rattle.flow_base.specs.declared.faults.NoMemory.{NoMemory}
 use Rattle.report_json.specs.declared.reply.Reply.{Reply}
@@ -6,10 +6,6 @@ use Rattle.query_walk.specs.declared.fault.WalkFault.{WalkFault}
 use Rattle.query_walk.specs.declared.fault.WalkFault.TheVariants as walk
 use Rattle.ingest.specs.declared.ask_fault.AskFault.{AskFault}
 use Rattle.ingest.specs.declared.ask_fault.AskFault.TheVariants as fault
-use Rattle.flow_events.specs.declared.fault.PrepareFault.{PrepareFault}
-use Rattle.flow_events.specs.declared.fault.PrepareFault.TheVariants as prepare
-use Rattle.ingest.specs.declared.stop.StopWhy.{StopWhy}
-use Rattle.ingest.specs.declared.stop.StopWhy.TheVariants as why
 
 -- the fault of a walk, as the engine hands it on
 abbrev pub of_walk : WalkFault → AskFault
@@ -21,8 +17,3 @@ of_walk walk.NoMemory = fault.NoMemory
 abbrev pub of_reply : Result Reply NoMemory → Result Reply AskFault
 of_reply (Ok reply) = Ok reply
 of_reply (Err e) = Err fault.NoMemory
-
--- why an event was refused, as the engine hands it on
-abbrev pub of_refused : PrepareFault → StopWhy
-of_refused prepare.NoMemory = why.NoMemory
-of_refused (prepare.Full full) = why.Full full

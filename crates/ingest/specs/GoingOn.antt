@@ -9,8 +9,8 @@ use Rattle.ingest.specs.Entries.{IsEntryOf}
 use Rattle.ingest.specs.Owing.{IsOwed}
 use Rattle.ingest.specs.Parts.{Joined}
 use Rattle.ingest.specs.StandsFor.{JoinedStandsFor}
-use Rattle.ingest.specs.declared.entry.Entry.{Entry}
-use Rattle.ingest.specs.declared.stop.StopWhy.{StopWhy}
+use Rattle.audit_record.specs.declared.types.Entry.{Entry}
+use Rattle.flow_base.specs.declared.faults.Refused.{Refused}
 
 -- one more record has entered
 abbrev pub EntersOne : {K : Type 0} → Record → (old new : Joined K) → Type 0
@@ -34,7 +34,7 @@ ReleasesAll old new = (limits : Limits) (s : Joining) (released : List Event)
     → JoinedStandsFor limits new (left_after limits s) (released ++ released_after limits s)
 
 -- of what is ripe some events are released, and the rest is owed for this cause
-abbrev pub OwesRest : {K : Type 0} → (old new : Joined K) → StopWhy → Type 0
+abbrev pub OwesRest : {K : Type 0} → (old new : Joined K) → Refused → Type 0
 OwesRest old new cause = (limits : Limits) (s : Joining) (released : List Event)
     → JoinedStandsFor limits old s released → length released + length s.waiting ≤ 2 ^ 61
     → IsOwed limits new s released cause

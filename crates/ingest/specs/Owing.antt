@@ -14,8 +14,8 @@ use Rattle.ingest.specs.Parts.{Joined, Engine}
 use Rattle.ingest.specs.StandsFor.{ReaderStandsFor, JoinedStandsFor, HasNoTail}
 use Rattle.ingest.specs.Stops.{Fits, full_of, input_full}
 use Rattle.ingest.specs.declared.stop.Stop.{Stop}
-use Rattle.ingest.specs.declared.stop.StopWhy.{StopWhy}
-use Rattle.ingest.specs.declared.stop.StopWhy.TheVariants as why
+use Rattle.flow_base.specs.declared.faults.Refused.{Refused}
+use Rattle.flow_base.specs.declared.faults.Refused.TheVariants as why
 
 -- The events that were followed are the first of the history's, and the joiner releases the others next, before all that
 -- waits. Its clock has the greatest time seen of the history. The greatest key released and the effective time in this clock
@@ -35,12 +35,12 @@ abbrev pub NextPasses : Limits → Joining → List Event → Full → Type 0
 NextPasses limits rest done full = (event : Event) × (next_event limits rest ≡ Some event) × (full_of limits (done ++ event ∷ []) ≡ Some full)
 
 -- why no more events were released: want of memory is free, and a limit is the one that the next event would pass
-abbrev pub OwesBy : Limits → Joining → List Event → StopWhy → Type 0
+abbrev pub OwesBy : Limits → Joining → List Event → Refused → Type 0
 OwesBy limits rest done why.NoMemory = ⊤
 OwesBy limits rest done (why.Full full) = NextPasses limits rest done full
 
 -- of what was ripe some events were followed, and the rest, one event or more, is owed for this cause
-pub record IsOwed {K : Type 0} (limits : Limits) (joined : Joined K) (s : Joining) (released : List Event) (cause : StopWhy) : Type 0 where
+pub record IsOwed {K : Type 0} (limits : Limits) (joined : Joined K) (s : Joining) (released : List Event) (cause : Refused) : Type 0 where
   pub rest : Joining
   pub done : List Event
   pub stands : JoinedStandsFor limits joined rest (released ++ done)
@@ -50,7 +50,7 @@ pub record IsOwed {K : Type 0} (limits : Limits) (joined : Joined K) (s : Joinin
   pub by : OwesBy limits rest (released ++ done) cause
 
 -- the engine stands for the history, and owes for this cause
-pub record OwesFor {K : Type 0} (limits : Limits) (engine : Engine K) (h : History) (cause : StopWhy) : Type 0 where
+pub record OwesFor {K : Type 0} (limits : Limits) (engine : Engine K) (h : History) (cause : Refused) : Type 0 where
   pub stands : MayOwe limits engine h
   pub by : OwesBy limits stands.rest stands.done cause
 
@@ -62,7 +62,7 @@ pub record InputPasses (limits : Limits) (h : History) (piece : List ℕ) (done 
   pub full_is : full ≡ input_full limits
 
 -- why a piece was not taken to its end
-abbrev pub HaltsBy : Limits → History → List ℕ → ℕ → Joining → List Event → StopWhy → Type 0
+abbrev pub HaltsBy : Limits → History → List ℕ → ℕ → Joining → List Event → Refused → Type 0
 HaltsBy limits h piece done rest events why.NoMemory = ⊤
 HaltsBy limits h piece done rest events (why.Full full) = InputPasses limits h piece done full ⊎ NextPasses limits rest events full
 
@@ -78,10 +78,10 @@ IsUnsettled limits engine h done = (length done < length (events_of limits h)) �
 
 -- A settle was refused. Either an event was owed before it, or a byte of the last line had come: then the engine may stand for
 -- the history as it was. Or the engine stands for the history with the settle.
-abbrev pub HaltsSettling : {K : Type 0} (limits : Limits) (old new : Engine K) (h : History) → MayOwe limits old h → StopWhy → Type 0
+abbrev pub HaltsSettling : {K : Type 0} (limits : Limits) (old new : Engine K) (h : History) → MayOwe limits old h → Refused → Type 0
 HaltsSettling limits old new h w cause =
     (IsUnsettled limits old h w.done × OwesFor limits new h cause) ⊎ (Fits limits h × OwesFor limits new (h ++ Settle ∷ []) cause)
 
 -- a settle was refused for this cause, whatever history it was
-abbrev pub SettleHalts : {K : Type 0} → Engine K → Engine K → StopWhy → Type 0
+abbrev pub SettleHalts : {K : Type 0} → Engine K → Engine K → Refused → Type 0
 SettleHalts old new cause = (limits : Limits) (h : History) (w : MayOwe limits old h) → HaltsSettling limits old new h w cause

@@ -9,8 +9,8 @@ use Rattle.acts.specs.LookBack.{full_at}
 use Rattle.ingest.specs.Counting.{bytes_in}
 use Rattle.ingest.specs.Events.{taken_in, flows_of, objects_of, events_of, released_at}
 use Rattle.ingest.specs.declared.stop.Stop.{Stop}
-use Rattle.ingest.specs.declared.stop.StopWhy.{StopWhy}
-use Rattle.ingest.specs.declared.stop.StopWhy.TheVariants as why
+use Rattle.flow_base.specs.declared.faults.Refused.{Refused}
+use Rattle.flow_base.specs.declared.faults.Refused.TheVariants as why
 
 -- no limit is passed
 pub record Fits (limits : Limits) (h : History) : Type 0 where
@@ -57,7 +57,7 @@ StopsHere limits h piece done full =
     ⊎ ((0 < done) × Fits limits (with_bytes h (take (done - 1) piece)) × Stops limits (with_bytes h (take done piece)) full)
 
 -- want of memory is free; a limit is the one that stops the history in this piece
-abbrev pub StopsBy : Limits → History → List ℕ → ℕ → StopWhy → Type 0
+abbrev pub StopsBy : Limits → History → List ℕ → ℕ → Refused → Type 0
 StopsBy limits h piece done why.NoMemory = ⊤
 StopsBy limits h piece done (why.Full full) = Stops limits (with_bytes h piece) full × StopsHere limits h piece done full
 

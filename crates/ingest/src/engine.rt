@@ -38,7 +38,7 @@ ghost use Rattle.ingest.specs.Stops.{Fits, Stops};
 ghost use Rattle.ingest.specs.declared.ask_fault.AskFault.TheVariants as fault;
 ghost use Rattle.ingest.specs.Waiting.{AreSoundWaiting};
 ghost use Rattle.ingest.specs.declared.restoring.RestoreFault.TheVariants as restore;
-ghost use Rattle.ingest.specs.declared.stop.StopWhy.TheVariants as why;
+ghost use Rattle.flow_base.specs.declared.faults.Refused.TheVariants as why;
 
 use crate::ask_fault::{AskFault, of_reply};
 use crate::event_flows::EventFlows;
@@ -47,13 +47,13 @@ use crate::replies::{answer_find, answer_question, answer_show, answer_stat, ans
 use crate::restoring::{Remade, RestoreFault, Unrestored, last_state, make_again};
 use crate::spellable::are_spelled;
 use crate::state_row::state_of;
-use crate::stop::{Stop, StopWhy};
+use crate::stop::Stop;
 use crate::store_laws::{
     histories_may_be_committed, stores_follow_histories, stores_say_what_was_left,
 };
 use batch_log::{CommitFault, a_disk_reads_in_one_way};
 use call_acts::acts_of_events_are_admitted;
-use flow_base::{Full, Limit, Limits, NoMemory};
+use flow_base::{Bytes, Full, Limit, Limits, NoMemory, Refused};
 use memchr::memchr;
 use outside::Disk;
 use query_walk::WalkFault;
@@ -79,6 +79,8 @@ pub struct Ingest<R: Reducer, K: Keep> {
     joined: EventFlows<R, K>,
     /// The bytes that were taken in this part of the log.
     part: u64,
+    /// The memory for the text of the next record: that of an earlier one, if there is any.
+    room: Bytes,
 }
 
 impl<R: Reducer, K: Keep> Model for Ingest<R, K> {
@@ -111,6 +113,7 @@ impl<R: Reducer, K: Keep> Ingest<R, K> {
             reader: LineReader::new(alloc, limits),
             joined: EventFlows::new(alloc, salt, limits, reducer, keep),
             part: 0,
+            room: Bytes::new(alloc),
         }
     }
 
@@ -139,7 +142,7 @@ impl<R: Reducer, K: Keep> Ingest<R, K> {
     }
 
     /// Releases what is owed, then ends the last line, if it has a byte, and releases all that waits.
-    pub fn settle(&mut self) -> Result<(), StopWhy>
+    pub fn settle(&mut self) -> Result<(), Refused>
         ensures ok { OnOk result (SettlesTo self.old self.new) }
         ensures again { OnOk result (SettlesUp self.old self.new) }
         ensures full { (full : Full) → result ≡ Err (why.Full full)
@@ -156,7 +159,7 @@ impl<R: Reducer, K: Keep> Ingest<R, K> {
         }
         match self.end_last() {
             Ok(()) => {}
-            Err(NoMemory) => return Err(StopWhy::NoMemory),
+            Err(NoMemory) => return Err(Refused::NoMemory),
         }
         self.joined.close();
         self.joined.release()
@@ -274,7 +277,7 @@ impl<R: Reducer, K: Keep> Ingest<R, K> {
         match self.feed_within(&piece[..done]) {
             Ok(()) => Err(Stop {
                 done,
-                why: StopWhy::Full(Full {
+                why: Refused::Full(Full {
                     limit: Limit::Input,
                     number: self.reader.most(),
                 }),
@@ -353,7 +356,7 @@ impl<R: Reducer, K: Keep> Ingest<R, K> {
             Ok(()) => Ok(()),
             Err(NoMemory) => Err(Stop {
                 done: 0,
-                why: StopWhy::NoMemory,
+                why: Refused::NoMemory,
             }),
         }
     }
@@ -381,7 +384,7 @@ impl<R: Reducer, K: Keep> Ingest<R, K> {
             Err(NoMemory) => {
                 return Err(Stop {
                     done: 0,
-                    why: StopWhy::NoMemory,
+                    why: Refused::NoMemory,
                 });
             }
         }
@@ -410,9 +413,9 @@ impl<R: Reducer, K: Keep> Ingest<R, K> {
         ensures alike { K.alike self.old.joined.keep self.new.joined.keep }
         ensures marked { self.new.joined.tables.marked ≡ self.old.joined.tables.marked }
     {
-        match self.reader.read(part)? {
+        match self.reader.read(part, &mut self.room)? {
             Some(given) => {
-                self.joined.enter(given)?;
+                self.joined.enter(given, &mut self.room)?;
                 self.reader.end_used(part);
                 Ok(())
             }
@@ -432,9 +435,9 @@ impl<R: Reducer, K: Keep> Ingest<R, K> {
         ensures alike { K.alike self.old.joined.keep self.new.joined.keep }
         ensures marked { self.new.joined.tables.marked ≡ self.old.joined.tables.marked }
     {
-        match self.reader.read(&[])? {
+        match self.reader.read(&[], &mut self.room)? {
             Some(given) => {
-                self.joined.enter(given)?;
+                self.joined.enter(given, &mut self.room)?;
                 self.reader.settle_used();
                 Ok(())
             }
@@ -562,6 +565,7 @@ impl<R: Reducer, D: Disk> Ingest<R, Store<D>> {
                     reader,
                     joined,
                     part: state.part,
+                    room: Bytes::new(alloc),
                 })
             }
             Err(back) => Err(Unrestored {

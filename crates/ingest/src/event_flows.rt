@@ -27,7 +27,6 @@ ghost use Rattle.kept_flows.specs.Committing.{CanCommit, CommitsRows};
 ghost use Rattle.ingest.specs.Committing.{ArePut};
 ghost use Rattle.ingest.specs.EventActs.{is_unmapped};
 ghost use Rattle.ingest.specs.Events.{flows_in, objects_in, taken_in};
-ghost use Rattle.ingest.specs.Faults.{of_refused};
 ghost use Rattle.ingest.specs.Following.{KeepTaken, KeptWith};
 ghost use Rattle.ingest.specs.Following.{IsPlanFor, IsFullWith};
 ghost use Rattle.ingest.specs.GoingOn.{EntersOne, EntersGiven, ClosesAll, ReleasesAll};
@@ -39,19 +38,17 @@ ghost use Rattle.ingest.specs.Rejoining.{RejoinsAlike, RejoinsFrom, StandsForLef
 ghost use Rattle.ingest.specs.Replies.{KeepsSoMany};
 ghost use Rattle.ingest.specs.Together.{GoTogether, GoWithPlan};
 ghost use Rattle.ingest.specs.StandsFor.{JoinedStandsFor, WhereJoined, WhereWaiting};
-ghost use Rattle.ingest.specs.declared.stop.StopWhy.TheVariants as why;
+ghost use Rattle.flow_base.specs.declared.faults.Refused.TheVariants as why;
 
 use crate::commit::rows_around;
-use crate::entry::Entry;
 use crate::event_counts::EventCounts;
-use crate::stop::StopWhy;
 use acts::flows_of_acts_are_lawful;
 use audit_lex::EventKey;
-use audit_record::Record;
+use audit_record::{Entry, Record};
 use batch_log::CommitFault;
 use call_acts::{acts_are_few, acts_of_events_are_admitted};
-use flow_base::{Bytes, EntityId, Key, Limits, List, NoMemory};
-use flow_events::{Plan, PrepareFault, TableRows, Tables};
+use flow_base::{Bytes, EntityId, Key, Limits, List, NoMemory, Refused};
+use flow_events::{Plan, TableRows, Tables};
 use kept_flows::{KeptFlows, Unrestored, Way};
 use outside::Disk;
 use query_walk::WalkFault;
@@ -175,8 +172,9 @@ impl<R: Reducer, K: Keep> EventFlows<R, K> {
         self.kept.into_rows()
     }
 
-    /// Gives the joiner what a line gave. If allocation fails nothing has changed.
-    pub fn enter(&mut self, given: Entry) -> Result<(), NoMemory>
+    /// Gives the joiner what a line gave. If allocation fails nothing has changed. If it was a record, `room` gets the
+    /// memory of the text of an earlier one, if there is any.
+    pub fn enter(&mut self, given: Entry, room: &mut Bytes) -> Result<(), NoMemory>
         requires quiet { NothingRipe self.old.join }
         ensures ok { OnOk result (EntersGiven given self.old self.new) }
         ensures few { OnOk result (OneMore self.old self.new) }
@@ -185,7 +183,7 @@ impl<R: Reducer, K: Keep> EventFlows<R, K> {
         ensures marked { self.new.tables.marked ≡ self.old.tables.marked }
     {
         match given {
-            Entry::Record(item) => self.take(item),
+            Entry::Record(item) => self.take(item, room),
             Entry::End(key) => {
                 self.end(key);
                 Ok(())
@@ -204,7 +202,7 @@ impl<R: Reducer, K: Keep> EventFlows<R, K> {
     }
 
     // Gives the joiner a record. If allocation fails nothing has changed.
-    fn take(&mut self, item: Record) -> Result<(), NoMemory>
+    fn take(&mut self, item: Record, room: &mut Bytes) -> Result<(), NoMemory>
         requires quiet { NothingRipe self.old.join }
         ensures ok { OnOk result (EntersOne item self.old self.new) }
         ensures few { OnOk result (OneMore self.old self.new) }
@@ -213,6 +211,7 @@ impl<R: Reducer, K: Keep> EventFlows<R, K> {
         ensures marked { self.new.tables.marked ≡ self.old.tables.marked }
     {
         let taken = self.join.take(item)?;
+        *room = self.join.spare_line();
         if taken == Entered::Excess {
             self.excess = self.excess.saturating_add(1);
         }
@@ -242,7 +241,7 @@ impl<R: Reducer, K: Keep> EventFlows<R, K> {
 
     /// Releases all that is ripe. It stops at an event that would pass a limit, or for which allocation fails: this event
     /// and those after it are owed.
-    pub fn release(&mut self) -> Result<(), StopWhy>
+    pub fn release(&mut self) -> Result<(), Refused>
         requires few { IsBounded self.old }
         ensures quiet { OnOk result (NothingRipe self.new.join) }
         ensures few { StaysFew self.old self.new }
@@ -415,7 +414,7 @@ impl<R: Reducer, K: Keep> EventFlows<R, K> {
     }
 
     // Follows the event that is released next. If it is refused, nothing has changed.
-    fn follow(&mut self) -> Result<(), StopWhy>
+    fn follow(&mut self) -> Result<(), Refused>
         requires few { IsBounded self.old }
         requires ripe { WhereStands self.old.join (λ limits s.
             is_some (ripe_key limits s) ≡ true) }
@@ -491,7 +490,7 @@ fn take_event<R: Reducer, K: Keep>(
     tables: &mut Tables,
     kept: &mut KeptFlows<R, K>,
     event: &EventView<'_>,
-) -> Result<Plan, StopWhy>
+) -> Result<Plan, Refused>
     requires together { GoTogether event.now.ms tables.old kept.old.kept }
     requires limits { HasLimits tables.old.limits tables.old }
     requires few { tables.old.acts + (2 * length event.now.records.now + 4 + 2) < 2 ^ 63 - 1 }
@@ -521,12 +520,12 @@ fn take_event<R: Reducer, K: Keep>(
     };
     match kept.take(plan.flows()) {
         Ok(()) => Ok(plan),
-        Err(NoMemory) => Err(StopWhy::NoMemory),
+        Err(NoMemory) => Err(Refused::NoMemory),
     }
 }
 
 // Works out what an event does, with all the memory for it. The tables say the same as before.
-fn plan_event(alloc: Global, tables: &mut Tables, event: &EventView<'_>) -> Result<Plan, StopWhy>
+fn plan_event(alloc: Global, tables: &mut Tables, event: &EventView<'_>) -> Result<Plan, Refused>
     requires safe { AreSafe tables.old }
     requires limits { HasLimits tables.old.limits tables.old }
     requires few { tables.old.acts + (2 * length event.now.records.now + 4 + 2) < 2 ^ 63 - 1 }
@@ -547,16 +546,6 @@ fn plan_event(alloc: Global, tables: &mut Tables, event: &EventView<'_>) -> Resu
     acts_are_few();
     match tables.prepare(alloc, event) {
         Ok(plan) => Ok(plan),
-        Err(fault) => Err(why_of(fault)),
-    }
-}
-
-// Why an event was refused.
-fn why_of(refused: PrepareFault) -> StopWhy
-    ensures { result ≡ of_refused refused }
-{
-    match refused {
-        PrepareFault::NoMemory => StopWhy::NoMemory,
-        PrepareFault::Full(full) => StopWhy::Full(full),
+        Err(refused) => Err(refused),
     }
 }

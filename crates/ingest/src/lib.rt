@@ -10,7 +10,6 @@
 mod ask_fault;
 mod commit;
 mod engine;
-mod entry;
 mod event_counts;
 mod event_flows;
 mod laws;
@@ -31,7 +30,7 @@ pub use laws::{
     what_owes_nothing_stands, what_stands_owes_nothing,
 };
 pub use restoring::{RestoreFault, Unrestored};
-pub use stop::{Stop, StopWhy};
+pub use stop::Stop;
 pub use store_laws::{
     a_store_of_a_history_is_no_bad_store, histories_may_be_committed, stores_follow_histories,
     stores_say_what_was_left, what_can_commit_still_can, what_is_saved_stays_saved,

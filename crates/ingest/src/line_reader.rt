@@ -22,9 +22,8 @@ ghost use Rattle.ingest.specs.Storing.{moment_of};
 ghost use Rattle.store_check.specs.Conditions.{HasCounts, HasListed, HasTail};
 ghost use Rattle.stored.specs.Moment.{state_at};
 
-use crate::entry::{Entry, is_end};
 use audit_lex::{Lexed, LineCut, LineFault, Tally, lex, lines_are_counted};
-use audit_record::read_record;
+use audit_record::{Entry, read_line};
 use flow_base::{Bad, Bytes, Limits, List, NoMemory};
 use row_codec::StateRow;
 use std::alloc::Global;
@@ -184,8 +183,8 @@ impl LineReader {
     }
 
     /// What the line that ends with these bytes gives the joiner, if it is a used one. A line that has begun was held
-    /// whole.
-    pub fn read(&self, part: &[u8]) -> Result<Option<Entry>, NoMemory>
+    /// whole. A record takes the memory that `room` has for its text.
+    pub fn read(&self, part: &[u8], room: &mut Bytes) -> Result<Option<Entry>, NoMemory>
         requires no_feed { position_or_len (is_byte 10) part.now ≡ length part.now }
         requires whole { HasNoTail self.now ⊎ (part.now ≡ []) }
         ensures reads { IfOk result (λ r. (limits : Limits) (h : History)
@@ -198,15 +197,12 @@ impl LineReader {
         if self.cut.long() {
             return Ok(None);
         }
-        // A lexed line is large, so its record is read where it was lexed: no call hands it on.
-        let Lexed::Used(used) = lex(text_of_line(&self.cut, part), self.limits.line) else {
+        let line = text_of_line(&self.cut, part);
+        // An empty line gives nothing, even if there is no memory.
+        if line.is_empty() {
             return Ok(None);
-        };
-        if is_end(used.kind) {
-            return Ok(Some(Entry::End(used.key)));
         }
-        let item = read_record(self.alloc, &used)?;
-        Ok(Some(Entry::Record(item)))
+        read_line(self.alloc, line, self.limits.line, room)
     }
 
     /// Ends a used line with these bytes and a line feed.

@@ -2,8 +2,10 @@
 ghost use Rattle.std.specs.Prelude.{◌≡◌, false};
 ghost use Rattle.acts.specs.LookBack.{opens};
 
-use acts::{Act, FileRef, Plain, Refused, Taken, Thing};
-use flow_base::{Bytes, Device, EntityId, FileId, Flow, Full, How, Key, Limit, NoMemory, Stamp};
+use acts::{Act, FileRef, Plain, Taken, Thing};
+use flow_base::{
+    Bytes, Device, EntityId, FileId, Flow, Full, How, Key, Limit, NoMemory, Refused, Stamp,
+};
 use std::alloc::Global;
 use std::test::Fail;
 

@@ -1,7 +1,7 @@
 //! Numbers and names of a few keys, worked out by hand from the rules.
 
-use entity_names::{EnterFault, Entities};
-use flow_base::{Bytes, EntityId, Full, Key, Limit, Limits};
+use entity_names::Entities;
+use flow_base::{Bytes, EntityId, Full, Key, Limit, Limits, Refused};
 use std::alloc::Global;
 use std::test::Fail;
 use table_salt::Salt;
@@ -17,14 +17,14 @@ fn process(pid: u32) -> Key {
     Key::Process { pid, life: 0 }
 }
 
-fn is_full(entered: &Result<EntityId, EnterFault>) -> bool {
+fn is_full(entered: &Result<EntityId, Refused>) -> bool {
     match entered {
-        Err(EnterFault::Full(full)) => full.limit == Limit::Entities && full.number == 2,
+        Err(Refused::Full(full)) => full.limit == Limit::Entities && full.number == 2,
         _ => false,
     }
 }
 
-fn is_number(entered: &Result<EntityId, EnterFault>, number: u32) -> bool {
+fn is_number(entered: &Result<EntityId, Refused>, number: u32) -> bool {
     match entered {
         Ok(id) => id.0 == number,
         Err(_) => false,

@@ -7,14 +7,15 @@ use How::{Alter, Exec, Fork, Make, Read, Write};
 use Known::{AtAddress, Inode, Lost, Made, Process};
 use NameKind::{Create, Delete, Normal};
 use Said::{Address, Pair, Path};
-use acts::{Act, Held, Object, Plain, Refused, Taken};
+use acts::{Act, Held, Object, Plain, Taken};
 use audit_lex::EventKey;
 use audit_record::{Body, NameKind, PathItem, Record, Syscall};
 use call_acts::{acts, acts_are_few, event_acts_are_admitted};
 use flow_base::{
-    Bytes, Device, EntityId, FileId, Flow, Full, How, Key, Limit, Limits, List, NoMemory, Stamp,
+    Bytes, Device, EntityId, FileId, Flow, Full, How, Key, Limit, Limits, List, NoMemory, Refused,
+    Stamp,
 };
-use flow_events::{PrepareFault, Tables};
+use flow_events::Tables;
 use proc_table::Life;
 use record_join::EventView;
 use row_codec::{StateRow, StoreRow};
@@ -276,11 +277,11 @@ impl Course {
     }
 
     // Prepares an event, and applies it if that isn't refused.
-    fn take(&mut self, alloc: Global, event: &EventView<'_>) -> Result<List<Flow>, PrepareFault> {
+    fn take(&mut self, alloc: Global, event: &EventView<'_>) -> Result<List<Flow>, Refused> {
         event_acts_are_admitted();
         acts_are_few();
         if self.tables.acts() > 1_000_000 || event.records.len() > 1_000_000 {
-            return Err(PrepareFault::NoMemory);
+            return Err(Refused::NoMemory);
         }
         let plan = self.tables.prepare(alloc, event)?;
         Ok(self.tables.apply(plan))
@@ -291,9 +292,9 @@ impl Course {
         &mut self,
         alloc: Global,
         event: &EventView<'_>,
-    ) -> Result<(List<Flow>, bool), PrepareFault> {
+    ) -> Result<(List<Flow>, bool), Refused> {
         if self.tables.acts() > 1_000_000 || event.records.len() > 1_000_000 {
-            return Err(PrepareFault::NoMemory);
+            return Err(Refused::NoMemory);
         }
         acts_are_few();
         let plan = self.tables.prepare(alloc, event)?;
@@ -304,12 +305,7 @@ impl Course {
         Ok((flows, plan.unmapped()))
     }
 
-    fn step(
-        &mut self,
-        alloc: Global,
-        step: &Step,
-        number: u32,
-    ) -> Result<List<Flow>, PrepareFault> {
+    fn step(&mut self, alloc: Global, step: &Step, number: u32) -> Result<List<Flow>, Refused> {
         let records = records(alloc, step)?;
         self.take(alloc, &view(records.as_slice(), number))
     }
@@ -385,7 +381,7 @@ fn makes(
     course: &mut Course,
     flows: &mut List<Flow>,
     case: &Case,
-) -> Result<bool, PrepareFault> {
+) -> Result<bool, Refused> {
     for (number, step) in case.0.iter().enumerate() {
         let made = course.step(alloc, step, number.min(1_000_000) as u32)?;
         put_flows(flows, made.as_slice())?;
@@ -413,7 +409,7 @@ fn only_looks(
     step: &Step,
     wanted: &[(u32, u32, u32, How)],
     unmapped: bool,
-) -> Result<bool, PrepareFault> {
+) -> Result<bool, Refused> {
     let records = records(alloc, step)?;
     let (flows, told) = course.look(alloc, &view(records.as_slice(), 0))?;
     Ok(are_arrows(flows.as_slice(), wanted) && told == unmapped && is_empty(course))
@@ -443,7 +439,7 @@ fn has_name(course: &Course, name: &[u8], wanted: &[EntityId]) -> Result<bool, N
 }
 
 // The file has no number when it is named, and has one from its first flow on.
-fn names_follow(alloc: Global, course: &mut Course) -> Result<bool, PrepareFault> {
+fn names_follow(alloc: Global, course: &mut Course) -> Result<bool, Refused> {
     let open: Step = (100, 1, 257, 3, [0, 0, 0], &[Path(Normal, 7, "/a")]);
     let read: Step = (100, 1, 0, 5, [3, 0, 0], &[]);
     course.step(alloc, &open, 0)?;
@@ -475,7 +471,7 @@ fn reads_as(
     course: &mut Course,
     program: &'static str,
     number: u32,
-) -> Result<(), PrepareFault> {
+) -> Result<(), Refused> {
     let read: Step = (100, 1, 0, 5, [3, 0, 0], &[]);
     let mut records = List::new(alloc);
     records.push(record(alloc, call(alloc, &read, program)?))?;
@@ -484,7 +480,7 @@ fn reads_as(
 }
 
 // After each program the first one is given again.
-fn programs_are_kept(alloc: Global, course: &mut Course) -> Result<bool, PrepareFault> {
+fn programs_are_kept(alloc: Global, course: &mut Course) -> Result<bool, Refused> {
     for program in PROGRAMS.iter() {
         reads_as(alloc, course, *program, 0)?;
         reads_as(alloc, course, PROGRAMS[0], 0)?;
@@ -513,9 +509,9 @@ fn small(entities: u32, flows: u64) -> Limits {
     limits
 }
 
-fn is_full(taken: &Result<List<Flow>, PrepareFault>, limit: Limit, number: u64) -> bool {
+fn is_full(taken: &Result<List<Flow>, Refused>, limit: Limit, number: u64) -> bool {
     match taken {
-        Err(fault) => *fault == PrepareFault::Full(Full { limit, number }),
+        Err(fault) => *fault == Refused::Full(Full { limit, number }),
         Ok(_) => false,
     }
 }
@@ -527,7 +523,7 @@ fn refuses(
     step: &Step,
     limit: Limit,
     number: u64,
-) -> Result<bool, PrepareFault> {
+) -> Result<bool, Refused> {
     let fork: Step = (100, 1, 57, 101, [0, 0, 0], &[]);
     let exit: Step = (101, 100, 231, 0, [0, 0, 0], &[]);
     course.step(alloc, &fork, 0)?;
@@ -670,7 +666,7 @@ fn run(
     plain: &mut Plain,
     flows: &mut List<Flow>,
     seed: u64,
-) -> Result<bool, PrepareFault> {
+) -> Result<bool, Refused> {
     let mut state = seed;
     for number in 0..250 {
         let step = some_step(&mut state);

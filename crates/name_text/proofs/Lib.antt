@@ -4,3 +4,4 @@ pub mod PlaceLemmas
 pub mod GroupLemmas
 pub mod HalfLemmas
 pub mod TidyLemmas
+pub mod PlainLemmas

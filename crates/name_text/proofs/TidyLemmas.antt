@@ -10,7 +10,7 @@ use Rattle.name_text.specs.TidyPaths.{IsName, AreTidy}
 use Rattle.name_text.proofs.PartLemmas.{up_is, split-both, kept-name, kept-up, with_up_at, with_up_at-name}
 
 -- a part without slashes
-abbrev Whole : List ℕ → Type 0
+abbrev pub Whole : List ℕ → Type 0
 Whole part = AllByRecursion (λ byte. byte ≢ 47) part
 
 -- a part of a path that leads anywhere
@@ -18,16 +18,16 @@ abbrev IsPart : List ℕ → Type 0
 IsPart part = (is_named part ≡ true) × Whole part
 
 -- the same, and no way up
-abbrev IsPlain : List ℕ → Type 0
+abbrev pub IsPlain : List ℕ → Type 0
 IsPlain part = (is_named part ≡ true) × Whole part × (is_up part ≡ false)
 
 -- parts in order
-record InOrder (absolute : Bool) (parts : List (List ℕ)) : Type 0 where
-  ups : ℕ
-  names : List (List ℕ)
-  order : parts ≡ replicate ups (codes "..") ++ names
-  plain : AllByRecursion IsPlain names
-  at_root : absolute ≡ true → ups ≡ 0
+pub record InOrder (absolute : Bool) (parts : List (List ℕ)) : Type 0 where
+  pub ups : ℕ
+  pub names : List (List ℕ)
+  pub order : parts ≡ replicate ups (codes "..") ++ names
+  pub plain : AllByRecursion IsPlain names
+  pub at_root : absolute ≡ true → ups ≡ 0
 
 no_slash : (byte : ℕ) → is_slash byte ≡ false → byte ≢ 47
 no_slash byte none e = true≢false (sym (eq-eqb byte 47 e) ∙ none)
@@ -37,7 +37,7 @@ split_by true byte parts e h = (tt, h)
 split_by false byte [] e h = ((no_slash byte e, tt), tt)
 split_by false byte (part ∷ parts) e h = ((no_slash byte e, h.0), h.1)
 
-split_whole : (path : List ℕ) → AllByRecursion Whole (slice_split is_slash path)
+pub split_whole : (path : List ℕ) → AllByRecursion Whole (slice_split is_slash path)
 split_whole [] = (tt, tt)
 split_whole (byte ∷ path) = split_by (is_slash byte) byte (slice_split is_slash path) refl (split_whole path)
 
@@ -203,7 +203,7 @@ root_back true parts h = refl
 root_back false [] h = refl
 root_back false (part ∷ rest) h = relative_by part rest h.0
 
-stays_by : (absolute : Bool) (parts : List (List ℕ)) → InOrder absolute parts → tidied (path_of absolute parts) ≡ path_of absolute parts
+pub stays_by : (absolute : Bool) (parts : List (List ℕ)) → InOrder absolute parts → tidied (path_of absolute parts) ≡ path_of absolute parts
 stays_by absolute parts h =
     let each = are_parts absolute parts h in
     ap (λ b. path_of b (kept b (parts_of (path_of absolute parts)))) (root_back absolute parts each) ∙ ap (λ ps. path_of absolute (kept absolute ps)) (parts_back absolute parts each)

@@ -100,7 +100,8 @@ fn zero_at(name: &[u8]) -> usize
 // The key of an address of family 10, without the flow number, which names no end.
 fn internet6_key(alloc: Global, saddr: &[u8]) -> Result<Bytes, NoMemory>
     requires { 24 ≤ length saddr.now }
-    ensures { IfOk result (λ key. key ≡ take 4 saddr.now ++ (replicate 4 0 ++ take 16 (drop 8 saddr.now))) }
+    ensures { IfOk result (λ key. key
+        ≡ take 4 saddr.now ++ (replicate 4 0 ++ take 16 (drop 8 saddr.now))) }
 {
     let mut key = Bytes::from_slice(alloc, &saddr[..4])?;
     key.append(&[0; 4])?;

@@ -5,12 +5,14 @@ ghost use Rattle.name_text.specs.TidyPaths.{AreTidy, IsName};
 
 /// The working directory of an absolute name doesn't matter.
 pub fn absolute_names_stand_alone()
-    ensures { (first second : Option (List ℕ)) (name : List ℕ) (limit : ℕ) → is_absolute name ≡ true → joined first name limit ≡ joined second name limit }
+    ensures { (first second : Option (List ℕ)) (name : List ℕ) (limit : ℕ)
+        → is_absolute name ≡ true → joined first name limit ≡ joined second name limit }
 {}
 
 /// A tidied path has names alone, with `..` before them only if it is relative.
 pub fn tidied_paths_have_names()
-    ensures { (path : List ℕ) → (parts : List (List ℕ)) × (tidied path ≡ path_of (is_absolute path) parts) × AreTidy (is_absolute path) parts }
+    ensures { (path : List ℕ) → (parts : List (List ℕ))
+        × (tidied path ≡ path_of (is_absolute path) parts) × AreTidy (is_absolute path) parts }
 {}
 
 /// A tidied path is left as it is.
@@ -20,5 +22,6 @@ pub fn tidied_paths_stay()
 
 /// A `..` undoes the name before it.
 pub fn a_way_up_takes_a_name_back()
-    ensures { (path name : List ℕ) → path ≢ [] → IsName name → tidied (path ++ 47 ∷ (name ++ codes "/..")) ≡ tidied path }
+    ensures { (path name : List ℕ) → path ≢ [] → IsName name
+        → tidied (path ++ 47 ∷ (name ++ codes "/..")) ≡ tidied path }
 {}

@@ -8,6 +8,7 @@ ghost use Rattle.std.specs.List.{slice_split};
 ghost use Rattle.std.specs.Option.{option_copied};
 ghost use Rattle.name_text.specs.Paths as paths;
 ghost use Rattle.name_text.specs.Paths.{Gains, is_slash, joined, path_of, tidied};
+ghost use Rattle.name_text.specs.PlainPaths.{is_plain, next_begun, plain_from};
 
 use crate::pieces::put_joined;
 use flow_base::{Bytes, NoMemory};
@@ -29,8 +30,97 @@ pub fn join_path(
     }
 }
 
-// The tidied path, as far as its first bytes.
+// The tidied path, as far as its first bytes. Most paths are tidy as they are.
+#[tactic(auto, using(crate::proofs::PlainLemmas::plain_stays))]
 fn tidy(alloc: Global, path: &[u8], limit: usize) -> Result<Bytes, NoMemory>
+    ensures { IfOk result (λ made. made ≡ take limit (tidied path.now)) }
+{
+    if is_plain(path) {
+        cut(alloc, path, limit)
+    } else {
+        resolve(alloc, path, limit)
+    }
+}
+
+// The same of a path that is given as the text before a slash and the text after it.
+#[tactic(auto, using(crate::proofs::PlainLemmas::plain_behind))]
+fn tidy_behind(alloc: Global, front: &[u8], name: &[u8], limit: usize) -> Result<Bytes, NoMemory>
+    ensures { IfOk result (λ made. made ≡ take limit (tidied (front.now ++ 47 ∷ name.now))) }
+{
+    if is_plain(front) && has_plain_parts(name) {
+        cut_behind(alloc, front, name, limit)
+    } else {
+        resolve_behind(alloc, front, name, limit)
+    }
+}
+
+// Whether no part of a path would go out: the path is tidy as it is.
+fn is_plain(path: &[u8]) -> bool
+    ensures { result ≡ is_plain path.now }
+{
+    match path {
+        [b'/', rest @ ..] => has_plain_parts(rest),
+        _ => has_plain_parts(path),
+    }
+}
+
+// How a part has begun: with nothing, with one dot, with two dots, or with anything else, so that it is a name.
+const EMPTY: u8 = 0;
+
+const UP: u8 = 2;
+
+const NAME: u8 = 3;
+
+// Whether each part of a text is a name.
+fn has_plain_parts(text: &[u8]) -> bool
+    ensures { result ≡ plain_from 0 text.now }
+{
+    let mut begun = EMPTY;
+    for byte in text {
+        if *byte != b'/' {
+            begun = next_begun(begun, *byte);
+        } else if begun == NAME {
+            begun = EMPTY;
+        } else {
+            return false;
+        }
+    }
+    begun == NAME
+}
+
+// How a part has begun with one byte more.
+fn next_begun(begun: u8, byte: u8) -> u8
+    ensures { result ≡ next_begun begun byte }
+{
+    if byte == b'.' && begun < UP {
+        begun + 1
+    } else {
+        NAME
+    }
+}
+
+// The path as far as its first bytes.
+fn cut(alloc: Global, path: &[u8], limit: usize) -> Result<Bytes, NoMemory>
+    ensures { IfOk result (λ made. made ≡ take limit path.now) }
+{
+    Ok(Bytes::from_slice(alloc, &path[..path.len().min(limit)])?)
+}
+
+// The same of a path that is given as the text before a slash and the text after it.
+fn cut_behind(alloc: Global, front: &[u8], name: &[u8], limit: usize) -> Result<Bytes, NoMemory>
+    ensures { IfOk result (λ made. made ≡ take limit (front.now ++ 47 ∷ name.now)) }
+{
+    let most = front.len().saturating_add(name.len()).saturating_add(1);
+    let mut path = Vec::with_capacity(alloc, most)?;
+    path.extend_from_slice(front)?;
+    path.push(b'/')?;
+    path.extend_from_slice(name)?;
+    path.truncate(limit);
+    Ok(Bytes::from_vec(path))
+}
+
+// The tidied path, as far as its first bytes, of any path.
+fn resolve(alloc: Global, path: &[u8], limit: usize) -> Result<Bytes, NoMemory>
     ensures { IfOk result (λ made. made ≡ take limit (tidied path.now)) }
 {
     let absolute = is_absolute(path);
@@ -41,7 +131,7 @@ fn tidy(alloc: Global, path: &[u8], limit: usize) -> Result<Bytes, NoMemory>
 }
 
 // The same of a path that is given as the text before a slash and the text after it.
-fn tidy_behind(alloc: Global, front: &[u8], name: &[u8], limit: usize) -> Result<Bytes, NoMemory>
+fn resolve_behind(alloc: Global, front: &[u8], name: &[u8], limit: usize) -> Result<Bytes, NoMemory>
     ensures { IfOk result (λ made. made ≡ take limit (tidied (front.now ++ 47 ∷ name.now))) }
 {
     let absolute = is_root_in_front(front);
@@ -72,7 +162,8 @@ fn put_parts<'a>(
     text: &'a [u8],
     absolute: bool,
 ) -> Result<(), AllocError>
-    ensures { OnOk result (Gains absolute (map (λ p. p.now) parts.old.items) (map (λ p. p.now) parts.new.items) (slice_split is_slash text.now)) }
+    ensures { OnOk result (Gains absolute (map (λ p. p.now) parts.old.items)
+        (map (λ p. p.now) parts.new.items) (slice_split is_slash text.now)) }
 {
     for part in text.split(|byte| *byte == b'/') {
         put_part(parts, part, absolute)?;
@@ -82,7 +173,8 @@ fn put_parts<'a>(
 
 // Appends one part to the kept parts.
 fn put_part<'a>(parts: &mut Vec<&'a [u8]>, part: &'a [u8], absolute: bool) -> Result<(), AllocError>
-    ensures { OnOk result (Gains absolute (map (λ p. p.now) parts.old.items) (map (λ p. p.now) parts.new.items) (part.now ∷ [])) }
+    ensures { OnOk result (Gains absolute (map (λ p. p.now) parts.old.items)
+        (map (λ p. p.now) parts.new.items) (part.now ∷ [])) }
 {
     if is_up(part) {
         put_up(parts, part, absolute)?;
@@ -102,7 +194,8 @@ fn is_named(part: &[u8]) -> bool
 // Appends a `..` to the kept parts.
 fn put_up<'a>(parts: &mut Vec<&'a [u8]>, up: &'a [u8], absolute: bool) -> Result<(), AllocError>
     requires { paths.is_up up.now ≡ true }
-    ensures { OnOk result (Gains absolute (map (λ p. p.now) parts.old.items) (map (λ p. p.now) parts.new.items) (up.now ∷ [])) }
+    ensures { OnOk result (Gains absolute (map (λ p. p.now) parts.old.items)
+        (map (λ p. p.now) parts.new.items) (up.now ∷ [])) }
 {
     match parts.last() {
         Some(last) if !is_up(last) => {
@@ -129,7 +222,8 @@ fn cut_path(
     most: usize,
     limit: usize,
 ) -> Result<Bytes, NoMemory>
-    ensures { IfOk result (λ path. path ≡ take limit (path_of absolute (map (λ p. p.now) parts.now))) }
+    ensures { IfOk result (λ path. path
+        ≡ take limit (path_of absolute (map (λ p. p.now) parts.now))) }
 {
     let mut path = Vec::with_capacity(alloc, most)?;
     if absolute {

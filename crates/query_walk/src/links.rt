@@ -31,7 +31,8 @@ pub fn last_into_before<W: Rows, L: Ledger>(
     requires before { before ≤ W.count rows.old }
     ensures low { IfOk result (λ link. IfSome link (λ index. index < before)) }
     ensures exact { IfOk result (λ link. LinksInto (W.rows rows.old) of.0 before link) }
-    ensures steps { IfOk result (λ _. CountsInto (W.rows rows.old) of.0 before steps.old steps.new) }
+    ensures steps { IfOk result (λ _. CountsInto
+        (W.rows rows.old) of.0 before steps.old steps.new) }
     ensures same { SameRows W.rows W.count W.known rows.old rows.new }
     ensures cause { IsWalkOver W.rows W.faults W.spent rows.old rows.new result }
     ensures alike { W.alike rows.old rows.new }

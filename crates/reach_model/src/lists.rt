@@ -9,8 +9,10 @@ ghost use Rattle.reach_model.specs.Numbers.{IsLawfulWith, MayFollow, beyond, kno
 /// The empty list of flows is lawful, and lawful flows stay lawful exactly if the next flow may follow them.
 pub fn lawful_flows_grow()
     ensures none { IsLawfulWith 0 [] }
-    ensures next { (count : ℕ) (F : List Flow) (f : Flow) → IsLawfulWith count F → MayFollow F f → IsLawfulWith (max count (beyond f)) (F ++ f ∷ []) }
-    ensures only_next { (count : ℕ) (F : List Flow) (f : Flow) → IsLawfulWith count (F ++ f ∷ []) → IsLawfulWith (known F) F × MayFollow F f }
+    ensures next { (count : ℕ) (F : List Flow) (f : Flow) → IsLawfulWith count F → MayFollow F f
+        → IsLawfulWith (max count (beyond f)) (F ++ f ∷ []) }
+    ensures only_next { (count : ℕ) (F : List Flow) (f : Flow) → IsLawfulWith count (F ++ f ∷ [])
+        → IsLawfulWith (known F) F × MayFollow F f }
     ensures known { (F : List Flow) (f : Flow) → known (F ++ f ∷ []) ≡ max (known F) (beyond f) }
 {}
 

@@ -4,6 +4,7 @@ pub mod Questions
 pub mod Asked
 pub mod Verdicts
 pub mod Objects
+pub mod Indexes
 pub mod Packed
 pub mod InMemory
 pub mod Alike

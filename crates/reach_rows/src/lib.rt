@@ -6,6 +6,7 @@
 //! proof never speaks of where rows are kept, and a search over rows never speaks of a mode.
 #![tactic(auto)]
 
+mod index48;
 mod laws;
 mod objects;
 mod packed;

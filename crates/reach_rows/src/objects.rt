@@ -41,7 +41,8 @@ pub fn last_from_of(objects: &[Object], id: EntityId) -> Option<u64>
 pub fn leave(objects: &mut Vec<Object>, flow: &Flow, row: u64)
     requires known { source flow.now ≤ vec_len objects.old }
     requires room { vec_len objects.old < vec_capacity objects.old }
-    ensures left { (K : List AFlow) → AreObjects K objects.old.items → length K ≡ row → source flow.now ≢ target flow.now → HasLeft K flow.now objects.new.items }
+    ensures left { (K : List AFlow) → AreObjects K objects.old.items → length K ≡ row
+        → source flow.now ≢ target flow.now → HasLeft K flow.now objects.new.items }
     ensures len { vec_len objects.new ≡ max (vec_len objects.old) (suc (source flow.now)) }
     ensures room { vec_capacity objects.new ≡ vec_capacity objects.old }
 {
@@ -65,7 +66,8 @@ pub fn leave(objects: &mut Vec<Object>, flow: &Flow, row: u64)
 pub fn enter(objects: &mut Vec<Object>, flow: &Flow, row: u64)
     requires known { target flow.now ≤ vec_len objects.old }
     requires room { vec_len objects.old < vec_capacity objects.old }
-    ensures objects { (K : List AFlow) → HasLeft K flow.now objects.old.items → length K ≡ row → source flow.now ≢ target flow.now → AreObjects (K ++ flow.now ∷ []) objects.new.items }
+    ensures objects { (K : List AFlow) → HasLeft K flow.now objects.old.items → length K ≡ row
+        → source flow.now ≢ target flow.now → AreObjects (K ++ flow.now ∷ []) objects.new.items }
     ensures len { vec_len objects.new ≡ max (vec_len objects.old) (suc (target flow.now)) }
     ensures room { vec_capacity objects.new ≡ vec_capacity objects.old }
 {

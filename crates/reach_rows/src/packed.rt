@@ -1,34 +1,34 @@
-//! Rows as memory keeps them, in 48 bytes each.
+//! Rows as memory keeps them, in 40 bytes each.
 //!
 //!     bytes   what stands there
 //!     8       the time of the first flow
-//!     8       its place, or the index of the row's extension
-//!     8       the greatest earlier row with the same target, 2^64 - 1 for none
-//!     8       the greatest earlier row with the same source, 2^64 - 1 for none
 //!     8       source and target
 //!     4       the serial number of the first flow's event
+//!     6       the place of the first flow, or the index of the row's extension
+//!     6       the greatest earlier row with the same target, 2^48 - 1 for none
+//!     6       the greatest earlier row with the same source, 2^48 - 1 for none
 //!     1       how the first flow came about
 //!     1       whether the row has an extension
-//!     2       nothing
 //!
-//! An extension has the row's first place and its last mark, in 32 bytes of a list apart. Only a
-//! row that was extended has one, which happens in continuous mode alone. Every other row ends with
-//! the flow that it begins with.
-ghost use Rattle.std.specs.Prelude.{◌≡◌, ◌-◌, ◌<◌, ◌≤◌, ◌+◌, ◌^◌, ◌∷◌, ◌++◌, [], false, min, List, OnOk, length, slice_index_or, vec_len, vec_capacity};
-ghost use Rattle.reach_rows.specs.declared.packed.Extension.{Extension as AnExtension};
+//! An extension has the row's first place and its last mark, in 32 bytes of a list apart. A row has
+//! one if it was extended, which happens in continuous mode alone, or if its place doesn't fit in 6
+//! bytes, as no log's does. Every other row ends with the flow that it begins with.
+ghost use Rattle.std.specs.Prelude.{◌≡◌, ◌<◌, ◌≤◌, ◌+◌, ◌^◌, ◌∷◌, ◌++◌, [], false, min, OnOk, length, slice_index_or, vec_len, vec_capacity};
 ghost use Rattle.reach_rows.specs.declared.rows.Row.{Row as KeptRow};
-ghost use Rattle.reach_rows.specs.Packed.{KeptRows, IsLinkable, HasExtension, HaveExtensions, row_of_link, extension_of, row_of_packed, rows_of_packed, row_of_flow, with_last};
+ghost use Rattle.reach_rows.specs.Indexes.{index_in};
+ghost use Rattle.reach_rows.specs.Packed.{KeptRows, IsLinkable, HasExtension, HaveExtensions, NONE, row_of_link, row_with, room_in, extension_of, extension_of_flow, row_of_packed, rows_of_packed, row_of_flow, with_last};
 
-use crate::rows::{Mark, Row};
+use crate::index48::Index48;
+use crate::rows::{Mark, Row, mark_of};
 use flow_base::{EntityId, Flow, How, NoMemory, Stamp};
 use std::alloc::Global;
 use std::marker::Model;
 use std::mem::size_of;
 
-/// No row, as a link. Each index of a row is less.
-pub const NO_ROW: u64 = u64::MAX;
+/// No row, as a link. Each index of a row and of an extension is less.
+pub const NO_ROW: u64 = 0xFFFF_FFFF_FFFF;
 
-const _: () = prove!(size_of::<PackedRow>() == 48);
+const _: () = prove!(size_of::<PackedRow>() == 40);
 
 const _: () = prove!(size_of::<Extension>() == 32);
 
@@ -44,8 +44,8 @@ impl Model for PackedRows {
 
     ghost view = { λ a. record {
       rows = rows_of_packed a.extensions.items a.rows.items;
-      room = min (vec_capacity a.rows - vec_len a.rows)
-          (vec_capacity a.extensions - vec_len a.extensions);
+      room = min (room_in (vec_capacity a.rows) (vec_len a.rows))
+          (room_in (vec_capacity a.extensions) (vec_len a.extensions));
     } };
 
     ghost invariant = { λ a. HaveExtensions a.extensions.items a.rows.items };
@@ -65,7 +65,7 @@ impl PackedRows {
     /// How many rows there are.
     pub fn len(&self) -> u64
         ensures rows { result ≡ length self.now.rows }
-        ensures few { result < 2 ^ 63 }
+        ensures few { result + self.now.room ≤ NONE }
     {
         self.rows.len() as u64
     }
@@ -78,15 +78,16 @@ impl PackedRows {
         self.rows[index as usize].row(&self.extensions)
     }
 
-    /// Makes room for this many more flows, each of which is a row or extends one.
+    /// Makes room for this many more flows, each of which is a row or extends one. More than
+    /// 2^48 - 1 rows, which would take 11 petabytes, are refused like other rows that don't fit
+    /// in memory.
     pub fn reserve(&mut self, flows: usize) -> Result<(), NoMemory>
         ensures room { OnOk result (flows ≤ self.new.room) }
         ensures few { OnOk result (flows < 2 ^ 63) }
         ensures rows { self.new.rows ≡ self.old.rows }
     {
-        self.rows.reserve(flows)?;
-        self.extensions.reserve(flows)?;
-        Ok(())
+        reserve_in(&mut self.rows, flows)?;
+        reserve_in(&mut self.extensions, flows)
     }
 
     /// Appends the row whose first and last flow are this one.
@@ -98,8 +99,21 @@ impl PackedRows {
             ≡ self.old.rows ++ row_of_flow flow.now before_to before_from ∷ [] }
         ensures room { self.old.room ≤ self.new.room + 1 }
     {
-        let row = PackedRow::new(flow, before_to, before_from);
-        self.rows.push_reserved(row);
+        if flow.at.place <= NO_ROW {
+            let row = PackedRow::new(flow, flow.at.place, before_to, before_from);
+            self.rows.push_reserved(row);
+        } else {
+            let extension = self.extensions.len() as u64;
+            let row = PackedRow::new(flow, extension, before_to, before_from);
+            self.rows.push_reserved(PackedRow {
+                extended: true,
+                ..row
+            });
+            self.extensions.push_reserved(Extension {
+                place: flow.at.place,
+                last: mark_of(flow),
+            });
+        }
     }
 
     /// Makes a mark the last one of a row.
@@ -111,36 +125,48 @@ impl PackedRows {
     {
         let packed = self.rows[row as usize];
         if packed.extended {
-            self.extensions[packed.place_or_extension as usize].last = last;
+            self.extensions[packed.place_or_extension.get() as usize].last = last;
         } else {
             self.rows[row as usize] = PackedRow {
-                place_or_extension: self.extensions.len() as u64,
+                place_or_extension: Index48::new(self.extensions.len() as u64),
                 extended: true,
                 ..packed
             };
             self.extensions.push_reserved(Extension {
-                place: packed.place_or_extension,
+                place: packed.place_or_extension.get(),
                 last,
             });
         }
     }
 }
 
+/// Makes room for this many more items, each of which has an index less than `NO_ROW`.
+fn reserve_in<T: Drop>(items: &mut Vec<T>, more: usize) -> Result<(), NoMemory>
+    ensures room { OnOk result (more ≤ room_in (vec_capacity items.new) (vec_len items.new)) }
+    ensures items { items.new.items ≡ items.old.items }
+{
+    if more as u64 > NO_ROW.saturating_sub(items.len() as u64) {
+        return Err(NoMemory);
+    }
+    items.reserve(more)?;
+    Ok(())
+}
+
 /// A row, with what it keeps apart left out. In this order of its fields no gap is between them.
 #[derive(Clone, Copy)]
 pub struct PackedRow {
     pub ms: u64,
-    pub place_or_extension: u64,
-    pub before_to: u64,
-    pub before_from: u64,
     pub from: EntityId,
     pub to: EntityId,
     pub serial: u32,
+    pub place_or_extension: Index48,
+    pub before_to: Index48,
+    pub before_from: Index48,
     pub how: How,
     pub extended: bool,
 }
 
-/// What an extended row keeps apart: the place of its first flow, and the mark of its last one.
+/// What a row keeps apart: the place of its first flow, and the mark of its last one.
 #[derive(Clone, Copy)]
 pub struct Extension {
     pub place: u64,
@@ -148,22 +174,29 @@ pub struct Extension {
 }
 
 impl PackedRow {
-    /// The row whose first and last flow are this one.
-    pub fn new(flow: &Flow, before_to: Option<u64>, before_from: Option<u64>) -> PackedRow
+    /// The row whose first and last flow are this one, with its place or its extension.
+    fn new(
+        flow: &Flow,
+        place_or_extension: u64,
+        before_to: Option<u64>,
+        before_from: Option<u64>,
+    ) -> PackedRow
+        requires index { place_or_extension < 2 ^ 48 }
         requires to { IsLinkable before_to }
         requires from { IsLinkable before_from }
-        ensures row { (extensions : List AnExtension) → row_of_packed extensions result
+        ensures row { row_with result (extension_of_flow flow.now)
             ≡ row_of_flow flow.now before_to before_from }
+        ensures index { index_in result.place_or_extension ≡ place_or_extension }
         ensures single { result.extended ≡ false }
     {
         PackedRow {
             ms: flow.at.ms,
-            place_or_extension: flow.at.place,
-            before_to: link_to(before_to),
-            before_from: link_to(before_from),
             from: flow.from,
             to: flow.to,
             serial: flow.serial,
+            place_or_extension: Index48::new(place_or_extension),
+            before_to: link_to(before_to),
+            before_from: link_to(before_from),
             how: flow.how,
             extended: false,
         }
@@ -198,15 +231,13 @@ impl PackedRow {
         ensures { result ≡ extension_of extensions.now self.now }
     {
         if self.extended {
-            return extensions[self.place_or_extension as usize];
+            return extensions[self.place_or_extension.get() as usize];
         }
+        let place = self.place_or_extension.get();
         Extension {
-            place: self.place_or_extension,
+            place,
             last: Mark {
-                at: Stamp {
-                    ms: self.ms,
-                    place: self.place_or_extension,
-                },
+                at: Stamp { ms: self.ms, place },
                 how: self.how,
                 serial: self.serial,
             },
@@ -215,16 +246,17 @@ impl PackedRow {
 }
 
 /// The link that names a row.
-fn link_to(row: Option<u64>) -> u64
+fn link_to(row: Option<u64>) -> Index48
     requires { IsLinkable row }
-    ensures { row_of_link result ≡ row }
+    ensures { row_of_link (index_in result) ≡ row }
 {
-    row.unwrap_or(NO_ROW)
+    Index48::new(row.unwrap_or(NO_ROW))
 }
 
 /// The row that a link names.
-pub fn row_at(link: u64) -> Option<u64>
-    ensures { result ≡ row_of_link link }
+pub fn row_at(link: Index48) -> Option<u64>
+    ensures { result ≡ row_of_link (index_in link) }
 {
-    if link == NO_ROW { None } else { Some(link) }
+    let row = link.get();
+    if row == NO_ROW { None } else { Some(row) }
 }

@@ -1,12 +1,12 @@
-//! What rows in memory keep of each object, in 40 bytes each.
+//! What rows in memory keep of each object, in 32 bytes each.
 //!
 //!     bytes   what stands there
 //!     8       the time of the object's first flow
 //!     8       its place
-//!     8       the greatest row that enters the object, 2^64 - 1 for none
-//!     8       the greatest row that leaves it, 2^64 - 1 for none
+//!     6       the greatest row that enters the object, 2^48 - 1 for none
+//!     6       the greatest row that leaves it, 2^48 - 1 for none
 //!     1       whether the first flow leaves it
-//!     7       nothing
+//!     3       nothing
 ghost use Rattle.std.specs.Prelude.{◌≡◌, ◌≢◌, suc, ◌-◌, ◌<◌, ◌≤◌, ◌+◌, max, List, ◌∷◌, ◌++◌, [], OnOk, length, slice_index_or, vec_len, vec_capacity};
 ghost use Rattle.flow_base.specs.declared.types.Flow.{Flow as AFlow};
 ghost use Rattle.reach_model.specs.Flows.{source, target};
@@ -14,6 +14,7 @@ ghost use Rattle.reach_rows.specs.Kept.{IsLastOf, Enters, Leaves};
 ghost use Rattle.reach_rows.specs.Objects.{AreObjects, HasLeft};
 ghost use Rattle.reach_rows.specs.Packed.{KnownObjects, NONE, object_of_packed, objects_of_packed};
 
+use crate::index48::Index48;
 use crate::objects::Object;
 use crate::packed::{NO_ROW, row_at};
 use crate::questions::First;
@@ -22,15 +23,15 @@ use std::alloc::Global;
 use std::marker::Model;
 use std::mem::size_of;
 
-const _: () = prove!(size_of::<PackedObject>() == 40);
+const _: () = prove!(size_of::<PackedObject>() == 32);
 
 /// What is known of an object. In this order of its fields no gap is between them.
 #[derive(Clone, Copy)]
 pub struct PackedObject {
     pub ms: u64,
     pub place: u64,
-    pub last_into: u64,
-    pub last_from: u64,
+    pub last_into: Index48,
+    pub last_from: Index48,
     pub out: bool,
 }
 
@@ -137,13 +138,13 @@ impl PackedObjects {
     {
         let id = flow.from.0 as usize;
         if id < self.objects.len() {
-            self.objects[id].last_from = row;
+            self.objects[id].last_from = Index48::new(row);
         } else {
             self.objects.push_reserved(PackedObject {
                 ms: flow.at.ms,
                 place: flow.at.place,
-                last_into: NO_ROW,
-                last_from: row,
+                last_into: Index48::new(NO_ROW),
+                last_from: Index48::new(row),
                 out: true,
             });
         }
@@ -162,13 +163,13 @@ impl PackedObjects {
     {
         let id = flow.to.0 as usize;
         if id < self.objects.len() {
-            self.objects[id].last_into = row;
+            self.objects[id].last_into = Index48::new(row);
         } else {
             self.objects.push_reserved(PackedObject {
                 ms: flow.at.ms,
                 place: flow.at.place,
-                last_into: row,
-                last_from: NO_ROW,
+                last_into: Index48::new(row),
+                last_from: Index48::new(NO_ROW),
                 out: false,
             });
         }

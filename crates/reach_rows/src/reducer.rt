@@ -42,7 +42,8 @@ pub trait Reducer {
 
     /// The verdict on a flow. It is the mode's verdict if the flow's ends differ.
     fn decide(&self, flow: &Flow) -> Verdict
-        ensures verdict { (R : List ARow) → stands_for self.now R → source flow.now ≢ target flow.now → IsVerdictByRows mode R flow.now result }
+        ensures verdict { (R : List ARow) → stands_for self.now R
+            → source flow.now ≢ target flow.now → IsVerdictByRows mode R flow.now result }
         ensures fits { (R : List ARow) → holds self.now R → FitsRows R flow.now result };
 
     /// Makes room for these flows in order.
@@ -54,14 +55,21 @@ pub trait Reducer {
     /// Takes a flow in with the verdict on it.
     fn note(&mut self, flow: &Flow, verdict: Verdict)
         requires { (rest : List AFlow) × covers self.old (flow.now ∷ rest) }
-        ensures rows { (R : List ARow) → stands_for self.old R → IsNext mode R flow.now verdict → stands_for self.new (rows_after R flow.now verdict) }
-        ensures holds { (R : List ARow) → holds self.old R → AreFew R → FitsRows R flow.now verdict → holds self.new (rows_after R flow.now verdict) }
-        ensures rest { (rest : List AFlow) → covers self.old (flow.now ∷ rest) → covers self.new rest };
+        ensures rows { (R : List ARow) → stands_for self.old R → IsNext mode R flow.now verdict
+            → stands_for self.new (rows_after R flow.now verdict) }
+        ensures holds { (R : List ARow) → holds self.old R → AreFew R → FitsRows R flow.now verdict
+            → holds self.new (rows_after R flow.now verdict) }
+        ensures rest { (rest : List AFlow) → covers self.old (flow.now ∷ rest)
+            → covers self.new rest };
 
     /// Takes in a row that was kept before.
     fn recall(&mut self, row: &Row) -> Result<(), NoMemory>
-        ensures rows { OnOk result ((R : List ARow) → stands_for self.old R → IsRecalled R (row_of_kept row.now) → stands_for self.new (R ++ row_of_kept row.now ∷ [])) }
-        ensures holds { OnOk result ((R : List ARow) → holds self.old R → AreFew R → holds self.new (R ++ row_of_kept row.now ∷ [])) }
-        ensures stands_err { OnErr result ((R : List ARow) → stands_for self.old R → stands_for self.new R) }
+        ensures rows { OnOk result ((R : List ARow) → stands_for self.old R
+            → IsRecalled R (row_of_kept row.now)
+            → stands_for self.new (R ++ row_of_kept row.now ∷ [])) }
+        ensures holds { OnOk result ((R : List ARow) → holds self.old R → AreFew R
+            → holds self.new (R ++ row_of_kept row.now ∷ [])) }
+        ensures stands_err { OnErr result ((R : List ARow) → stands_for self.old R
+            → stands_for self.new R) }
         ensures holds_err { OnErr result ((R : List ARow) → holds self.old R → holds self.new R) };
 }

@@ -48,6 +48,17 @@ impl Row {
     }
 }
 
+/// The mark of a flow.
+pub fn mark_of(flow: &Flow) -> Mark
+    ensures { result ≡ record { at = flow.now.at; how = flow.now.how; serial = flow.now.serial } }
+{
+    Mark {
+        at: flow.at,
+        how: flow.how,
+        serial: flow.serial,
+    }
+}
+
 /// Why a row wasn't read: the store failed, or at this place of it stands no row.
 #[derive(Clone, Copy, Debug, PartialEq, Eq)]
 pub enum RowFault {
@@ -106,9 +117,12 @@ pub trait Rows {
     fn row<L: Ledger>(&mut self, index: u64, steps: &mut Steps<L>) -> Result<Row, RowFault>
         requires { index < count self.old }
         ensures exact { IfOk result (λ row. IfSome (rows self.old) (λ R. IsRowAt R index row)) }
-        ensures ends { IfOk result (λ row. (row.from.0 < known self.old) × (row.to.0 < known self.old)) }
-        ensures same { (rows self.new ≡ rows self.old) × (count self.new ≡ count self.old) × (known self.new ≡ known self.old) }
-        ensures cause { IsReading (rows self.old) (faults self.old) (faults self.new) (spent self.old) (spent self.new) result }
+        ensures ends { IfOk result (λ row.
+            (row.from.0 < known self.old) × (row.to.0 < known self.old)) }
+        ensures same { (rows self.new ≡ rows self.old) × (count self.new ≡ count self.old)
+            × (known self.new ≡ known self.old) }
+        ensures cause { IsReading (rows self.old) (faults self.old) (faults self.new)
+            (spent self.old) (spent self.new) result }
         ensures step { steps.new ≡ steps.old + 1 }
         ensures alike { alike self.old self.new };
 
@@ -123,8 +137,11 @@ pub trait Keep: Rows {
     /// Makes room for this many more flows.
     fn reserve(&mut self, flows: usize) -> Result<(), NoMemory>
         ensures room { OnOk result (has_room self.new flows) }
-        ensures same { (Self.rows self.new ≡ Self.rows self.old) × (Self.count self.new ≡ Self.count self.old) × (Self.known self.new ≡ Self.known self.old) }
-        ensures faults { (Self.faults self.new ≡ Self.faults self.old) × (Self.spent self.old ↔ Self.spent self.new) }
+        ensures same { (Self.rows self.new ≡ Self.rows self.old)
+            × (Self.count self.new ≡ Self.count self.old)
+            × (Self.known self.new ≡ Self.known self.old) }
+        ensures faults { (Self.faults self.new ≡ Self.faults self.old)
+            × (Self.spent self.old ↔ Self.spent self.new) }
         ensures alike { Self.alike self.old self.new };
 
     /// Appends a row whose first and last flow are this one.
@@ -132,22 +149,28 @@ pub trait Keep: Rows {
         requires room { (n : ℕ) × has_room self.old (n + 1) }
         requires numbered { GoesOn (Self.known self.old) flow.now }
         requires later { ForSome (Self.rows self.old) (λ R. ComesAfter R flow.now) }
-        ensures rows { Self.rows self.new ≡ option_map (λ R. R ++ row_of flow.now ∷ []) (Self.rows self.old) }
+        ensures rows { Self.rows self.new
+            ≡ option_map (λ R. R ++ row_of flow.now ∷ []) (Self.rows self.old) }
         ensures count { Self.count self.new ≡ Self.count self.old + 1 }
         ensures known { Self.known self.new ≡ max (Self.known self.old) (beyond flow.now) }
         ensures room { (n : ℕ) → has_room self.old (n + 1) → has_room self.new n }
-        ensures faults { (Self.faults self.new ≡ Self.faults self.old) × (Self.spent self.old ↔ Self.spent self.new) }
+        ensures faults { (Self.faults self.new ≡ Self.faults self.old)
+            × (Self.spent self.old ↔ Self.spent self.new) }
         ensures alike { Self.alike self.old self.new };
 
     /// Makes a flow the last one of a row with its two ends.
     fn extend(&mut self, row: u64, flow: &Flow)
         requires room { (n : ℕ) × has_room self.old (n + 1) }
         requires row { row < Self.count self.old }
-        requires pair { ForSome (Self.rows self.old) (λ R. (d : ARow) → SamePair (slice_index_or R row d).last flow.now) }
+        requires pair { ForSome (Self.rows self.old)
+            (λ R. (d : ARow) → SamePair (slice_index_or R row d).last flow.now) }
         requires later { ForSome (Self.rows self.old) (λ R. ComesAfter R flow.now) }
-        ensures rows { Self.rows self.new ≡ option_map (λ R. rows_after R flow.now (Verdict.Extend row)) (Self.rows self.old) }
-        ensures same { (Self.count self.new ≡ Self.count self.old) × (Self.known self.new ≡ Self.known self.old) }
+        ensures rows { Self.rows self.new
+            ≡ option_map (λ R. rows_after R flow.now (Verdict.Extend row)) (Self.rows self.old) }
+        ensures same { (Self.count self.new ≡ Self.count self.old)
+            × (Self.known self.new ≡ Self.known self.old) }
         ensures room { (n : ℕ) → has_room self.old (n + 1) → has_room self.new n }
-        ensures faults { (Self.faults self.new ≡ Self.faults self.old) × (Self.spent self.old ↔ Self.spent self.new) }
+        ensures faults { (Self.faults self.new ≡ Self.faults self.old)
+            × (Self.spent self.old ↔ Self.spent self.new) }
         ensures alike { Self.alike self.old self.new };
 }

@@ -9,7 +9,7 @@ ghost use Rattle.reach_rows.specs.InMemory.{InMemory, HasRoom, AreKept};
 use crate::packed::PackedRows;
 use crate::packed_objects::PackedObjects;
 use crate::questions::First;
-use crate::rows::{Keep, Mark, Row, RowFault, Rows};
+use crate::rows::{Keep, Row, RowFault, Rows, mark_of};
 use crate::steps::Steps;
 use flow_base::{EntityId, Flow, NoMemory};
 use std::alloc::Global;
@@ -110,16 +110,5 @@ impl Keep for VecRows {
 
     fn extend(&mut self, row: u64, flow: &Flow) {
         self.rows.extend(row, mark_of(flow));
-    }
-}
-
-/// The mark of a flow.
-fn mark_of(flow: &Flow) -> Mark
-    ensures { result ≡ record { at = flow.now.at; how = flow.now.how; serial = flow.now.serial } }
-{
-    Mark {
-        at: flow.at,
-        how: flow.how,
-        serial: flow.serial,
     }
 }

@@ -36,18 +36,18 @@ cond_else : {A : Type 0} (b : Bool) (x : A) (o p : Option A) → cond b (Some x)
 cond_else true x o p = refl
 cond_else false x o p = refl
 
-lookup_append : (q : EventKey) (xs ys : List (EventKey × Group)) → lookup (is_key q) (xs ++ ys) ≡ or_else (lookup (is_key q) xs) (lookup (is_key q) ys)
+pub lookup_append : (q : EventKey) (xs ys : List (EventKey × Group)) → lookup (is_key q) (xs ++ ys) ≡ or_else (lookup (is_key q) xs) (lookup (is_key q) ys)
 lookup_append q [] ys = refl
 lookup_append q (x ∷ xs) ys =
     ap (λ (o : Option Group). cond (is_key q x.0) (Some x.1) o) (lookup_append q xs ys)
     ∙ cond_else (is_key q x.0) x.1 (lookup (is_key q) xs) (lookup (is_key q) ys)
 
-else_none : {A : Type 0} (o : Option A) → or_else o None ≡ o
+pub else_none : {A : Type 0} (o : Option A) → or_else o None ≡ o
 else_none None = refl
 else_none (Some x) = refl
 
 -- a look-up where a group of a new key stands last
-lookup_last : (k q : EventKey) (g : Group) (xs : List (EventKey × Group)) → lookup (is_key k) xs ≡ None
+pub lookup_last : (k q : EventKey) (g : Group) (xs : List (EventKey × Group)) → lookup (is_key k) xs ≡ None
     → lookup (is_key q) (xs ++ (k, g) ∷ []) ≡ cond (is_key k q) (Some g) (lookup (is_key q) xs)
 lookup_last k q g xs none = by_test (is_key k q)
     (λ same.
@@ -66,14 +66,14 @@ cond_twice true x y z = refl
 cond_twice false x y z = refl
 
 -- the same after a change of the last group
-lookup_changed : (k q : EventKey) (g h : Group) (xs : List (EventKey × Group)) → lookup (is_key k) xs ≡ None
+pub lookup_changed : (k q : EventKey) (g h : Group) (xs : List (EventKey × Group)) → lookup (is_key k) xs ≡ None
     → lookup (is_key q) (xs ++ (k, h) ∷ []) ≡ cond (is_key k q) (Some h) (lookup (is_key q) (xs ++ (k, g) ∷ []))
 lookup_changed k q g h xs none =
     lookup_last k q h xs none
     ∙ cond_twice (is_key k q) (Some h) (Some g) (lookup (is_key q) xs)
     ∙ ap (λ (o : Option Group). cond (is_key k q) (Some h) o) (sym (lookup_last k q g xs none))
 
-lookup_own : (k : EventKey) (g : Group) (xs : List (EventKey × Group)) → lookup (is_key k) xs ≡ None → lookup (is_key k) (xs ++ (k, g) ∷ []) ≡ Some g
+pub lookup_own : (k : EventKey) (g : Group) (xs : List (EventKey × Group)) → lookup (is_key k) xs ≡ None → lookup (is_key k) (xs ++ (k, g) ∷ []) ≡ Some g
 lookup_own k g xs none = lookup_last k k g xs none ∙ on_true (is_key k k) (Some g) (lookup (is_key k) xs) (key_laws.refl k)
 
 -- ---- an end
@@ -256,7 +256,7 @@ not_in_front (x ∷ xs) k ys s = neither (is_key k x) (list_any (is_key k) xs) (
     neither : (a b : Bool) → a ≡ false → b ≡ false → (a || b) ≡ false
     neither a b e f = cc
 
-keys_append : (xs ys : List (EventKey × Group)) → keys_of (xs ++ ys) ≡ keys_of xs ++ keys_of ys
+pub keys_append : (xs ys : List (EventKey × Group)) → keys_of (xs ++ ys) ≡ keys_of xs ++ keys_of ys
 keys_append [] ys = refl
 keys_append (x ∷ xs) ys = ap (λ ks. x.0 ∷ ks) (keys_append xs ys)
 

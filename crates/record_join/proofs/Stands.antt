@@ -420,11 +420,6 @@ module _ {limits : Limits} {join : Joiner} {s : Joining} (stands : StandsFor lim
   pub nothing_left : join.groups ≡ [] → StandsFor limits join (next_left limits s)
   nothing_left is = subst (λ (t : Joining). StandsFor limits join t) (sym (ap (left_at s) (none_ripe stands is))) stands
 
--- a list that isn't longer than 0 is empty
-pub none_there : {A : Type 0} (es : List A) → (0 < length es → false ≡ true) → es ≡ []
-none_there [] h = refl
-none_there (e ∷ es) h = let l : 0 < length (e ∷ es) = omega arith in absurd (true≢false (sym (h l)))
-
 -- what holds in any case holds where a call failed
 pub on_err : {A E : Type 0} {P : Type 0} (r : Result A E) → P → OnErr r P
 on_err (Ok x) p = tt

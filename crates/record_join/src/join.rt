@@ -1,5 +1,5 @@
 //! The joiner: groups that wait in the order of their keys, and what is released of them.
-ghost use Rattle.std.specs.Prelude.{◌≡◌, ◌↔◌, false, OnOk, OnErr, IfOk, Some, None, option_map, OnSome, IfNone, is_some, length, suc, true};
+ghost use Rattle.std.specs.Prelude.{◌≡◌, ◌↔◌, [], false, OnOk, OnErr, IfOk, Some, None, option_map, OnSome, IfNone, is_some, length, suc, true};
 ghost use Rattle.record_join.specs.Events.{enter, taken_as, settled, ripe_key, next_event, next_left, count_keys};
 ghost use Rattle.record_join.specs.History.{start};
 ghost use Rattle.record_join.specs.Keys.{EndsAt};
@@ -9,18 +9,18 @@ ghost use Rattle.audit_record.specs.declared.types.Record.{Record};
 
 use crate::clock::JoinClock;
 use crate::event::{Event, EventView, Taken};
-use crate::group::{Group, Groups, close, close_all, hold, is_excess, text_without};
+use crate::group::{Group, text_without};
+use crate::group_map::Groups;
 use crate::kinds::ends_event;
 use crate::parts::Parts;
 use crate::spare::Spare;
 use audit_lex::EventKey;
 use audit_record::Record;
-use flow_base::{Limits, NoMemory};
+use flow_base::{Bytes, Limits, NoMemory};
 use std::alloc::Global;
-use std::collections::BTreeMap;
 use std::marker::Model;
 
-/// Joins records into events. Only `take` takes memory.
+/// Joins records into events. Only `take` needs memory.
 #[derive(Drop)]
 pub struct Join {
     alloc: Global,
@@ -37,9 +37,19 @@ impl Model for Join {
 
     ghost Value = { Joiner };
 
-    ghost view = { λ j. record { groups = j.groups.entries; text = j.text; clock = j.clock; limits = j.limits } };
+    ghost view = { λ j. record {
+      groups = j.groups;
+      text = j.text;
+      clock = j.clock;
+      limits = j.limits;
+    } };
 
-    ghost invariant = { λ j. Stands (record { groups = j.groups.entries; text = j.text; clock = j.clock; limits = j.limits }) };
+    ghost invariant = { λ j. Stands (record {
+      groups = j.groups;
+      text = j.text;
+      clock = j.clock;
+      limits = j.limits;
+    }) };
 }
 
 impl Join {
@@ -64,7 +74,7 @@ impl Join {
     {
         Join {
             alloc,
-            groups: BTreeMap::new(alloc),
+            groups: Groups::new(alloc),
             text: 0,
             clock,
             limits: *limits,
@@ -90,11 +100,12 @@ impl Join {
     pub fn parts(&self) -> Parts<'_>
         ensures { result ≡ self.now.groups }
     {
-        Parts::over(self.groups.iter())
+        self.groups.parts()
     }
 
     /// Takes one more record, once all that is ripe is released. If allocation fails, nothing has changed, and the record
     /// is lost: its caller keeps the line. Ends and records in excess need no memory.
+    #[inline(always)]
     pub fn take(&mut self, item: Record) -> Result<Taken, NoMemory>
         requires nothing { NothingRipe self.old }
         ensures ok { IfOk result (λ taken. WhereStands self.old (λ limits s.
@@ -110,13 +121,13 @@ impl Join {
             self.end(key);
             return Ok(Taken::Closed);
         }
-        if is_excess(&self.groups, &self.limits, &item) {
+        if self.groups.is_excess(&self.limits, &item) {
             self.clock.see(key.ms);
             return Ok(Taken::Excess);
         }
         // The sum is exact, so that it never drifts from the lines that wait: they were within the limit.
         let text = self.text + item.line.as_slice().len();
-        hold(self.alloc, &mut self.groups, &mut self.spare, item)?;
+        self.groups.hold(self.alloc, &mut self.spare, item)?;
         self.text = text;
         self.clock.see(key.ms);
         Ok(Taken::Held)
@@ -128,7 +139,7 @@ impl Join {
         ensures { (item : Record) → EndsAt key item
             → WhereStands self.old (λ limits s. StandsFor limits self.new (enter limits s item)) }
     {
-        close(&mut self.groups, &key);
+        self.groups.close(&key);
         self.clock.see(key.ms);
     }
 
@@ -172,7 +183,7 @@ impl Join {
     }
 
     /// Passes over the event that is released next, of which there is one. The room of its list of records is kept for the
-    /// next group.
+    /// next group, and that of their lines for `spare_line`.
     pub fn pass(&mut self)
         requires ripe { WhereStands self.old (λ limits s. is_some (ripe_key limits s) ≡ true) }
         ensures stands { WhereStands self.old (λ limits s.
@@ -205,11 +216,20 @@ impl Join {
         event
     }
 
+    /// A line without text, which has the room of one that was passed over, if there is one.
+    pub fn spare_line(&mut self) -> Bytes
+        ensures empty { result ≡ [] }
+        ensures same { self.new ≡ self.old }
+    {
+        let _ = &self.groups;
+        self.spare.take_line(self.alloc)
+    }
+
     /// Marks every waiting group closed.
     pub fn settle(&mut self)
         ensures { WhereStands self.old (λ limits s. StandsFor limits self.new (settled s)) }
     {
-        close_all(&mut self.groups);
+        self.groups.close_all();
     }
 
     /// The least group, if it is ripe.
@@ -217,7 +237,7 @@ impl Join {
         ensures { option_map (λ p. (p.0.now, p.1.now)) result
             ≡ ripe_first self.now self.now.groups }
     {
-        let (key, group) = self.groups.first_key_value()?;
+        let (key, group) = self.groups.first()?;
         let crowded = self.groups.len() > self.limits.groups || self.text > self.limits.text;
         if group.closed || self.clock.is_past(key.ms) || crowded {
             Some((key, group))

@@ -7,12 +7,13 @@
 //! then be late.
 //!
 //! specs/ says all of this of plain lists, of the records that wait in the order of arrival and of the keys that are
-//! closed; `StandsFor` ties a joiner's ordered map to them.
+//! closed; `StandsFor` ties a joiner's groups to them.
 #![tactic(auto)]
 
 mod clock;
 mod event;
 mod group;
+mod group_map;
 mod join;
 mod kinds;
 mod laws;

@@ -1,15 +1,23 @@
-//! The room of a list of records that was dropped, for the next group.
+//! The room of records that were dropped, for the next ones.
 ghost use Rattle.std.specs.Prelude.{◌≡◌, []};
 
 use audit_record::Record;
-use flow_base::List;
+use flow_base::{Bytes, List};
 use std::alloc::Global;
 use std::marker::Model;
 
-/// A list without records, which has the room of one that was dropped.
+/// How many lines are kept: few events have more.
+const MOST_LINES: usize = 32;
+
+/// The longest line that is kept, in bytes, so that the room of a line that waits is never much more than its text.
+const LONGEST_LINE: usize = 1024;
+
+/// A list without records and lines without text, which have the room of what was dropped.
 #[derive(Drop)]
 pub struct Spare {
     list: List<Record>,
+    /// Their text is taken away once they are used again.
+    lines: List<Bytes>,
 }
 
 impl Model for Spare {
@@ -28,6 +36,7 @@ impl Spare {
     pub fn new(alloc: Global) -> Spare {
         Spare {
             list: List::new(alloc),
+            lines: List::new(alloc),
         }
     }
 
@@ -38,17 +47,45 @@ impl Spare {
         std::mem::replace(&mut self.list, List::new(alloc))
     }
 
-    /// Drops these records, and keeps the room of their list.
+    /// A line without text, which has the room of one that was dropped, if there is one.
+    pub fn take_line(&mut self, alloc: Global) -> Bytes
+        ensures { result ≡ [] }
+    {
+        match self.lines.pop() {
+            Some(line) => cleared(line),
+            None => Bytes::new(alloc),
+        }
+    }
+
+    /// Drops these records, and keeps the room of their list and of their lines.
     pub fn keep(&mut self, records: List<Record>) {
-        self.list = emptied(records);
+        self.list = emptied(records, &mut self.lines);
     }
 }
 
-// A list without its items.
-fn emptied(records: List<Record>) -> List<Record>
+// A line without its text.
+fn cleared(line: Bytes) -> Bytes
+    ensures { result ≡ [] }
+{
+    let mut line = line;
+    line.clear();
+    line
+}
+
+// A list without its records, whose lines are kept.
+fn emptied(records: List<Record>, lines: &mut List<Bytes>) -> List<Record>
     ensures { result ≡ [] }
 {
     let mut left = records;
-    while let Some(_) = left.pop() {}
+    while let Some(item) = left.pop() {
+        keep_line(lines, item.line);
+    }
     left
+}
+
+// Keeps a line, unless it is long or there are enough. Without memory for their list it is dropped.
+fn keep_line(lines: &mut List<Bytes>, line: Bytes) {
+    if lines.as_slice().len() < MOST_LINES && line.as_slice().len() <= LONGEST_LINE {
+        let _ = lines.push(line);
+    }
 }

@@ -42,7 +42,8 @@ impl Continuous {
     /// Makes room for this many more flows.
     fn grow(&mut self, more: usize) -> Result<(), NoMemory>
         ensures room { OnOk result (HasRoom self.new more) }
-        ensures same { (self.new.count ≡ self.old.count) × IsUnchanged self.old.runs self.new.runs × IsUnchanged self.old.into self.new.into × IsUnchanged self.old.out self.new.out }
+        ensures same { (self.new.count ≡ self.old.count) × IsUnchanged self.old.runs self.new.runs
+            × IsUnchanged self.old.into self.new.into × IsUnchanged self.old.out self.new.out }
     {
         self.runs.reserve(more)?;
         self.into.reserve(more)?;
@@ -53,8 +54,10 @@ impl Continuous {
     /// Makes a flow the last of its pair, in a row, and the last at its two ends.
     fn put(&mut self, flow: &Flow, row: u64)
         requires { HasRoom self.old 1 }
-        ensures tables { (R S : List ARow) → HasTables self.old R → ComesAfter R flow.now → Takes R S flow.now row → HasTables self.new S }
-        ensures runs { (R S : List ARow) → HasRuns self.old R → Names R S flow.now row → HasRuns self.new S }
+        ensures tables { (R S : List ARow) → HasTables self.old R → ComesAfter R flow.now
+            → Takes R S flow.now row → HasTables self.new S }
+        ensures runs { (R S : List ARow) → HasRuns self.old R → Names R S flow.now row
+            → HasRuns self.new S }
         ensures count { self.new.count ≡ self.old.count }
         ensures room { (n : ℕ) → HasRoom self.old (n + 1) → HasRoom self.new n }
     {
@@ -67,8 +70,10 @@ impl Continuous {
     /// Takes in a row that was kept before, in the room that was made for it. The ends of such rows come in any order.
     fn put_back(&mut self, row: &Row)
         requires { HasRoom self.old 1 }
-        ensures rows { (R : List ARow) → StandsFor self.old R → AreFew R → StandsFor self.new (R ++ row_of_kept row.now ∷ []) }
-        ensures holds { (R : List ARow) → Holds self.old R → AreFew R → Holds self.new (R ++ row_of_kept row.now ∷ []) }
+        ensures rows { (R : List ARow) → StandsFor self.old R → AreFew R
+            → StandsFor self.new (R ++ row_of_kept row.now ∷ []) }
+        ensures holds { (R : List ARow) → Holds self.old R → AreFew R
+            → Holds self.new (R ++ row_of_kept row.now ∷ []) }
     {
         let (from, to) = (row.from.0, row.to.0);
         let place = row.last.at.place;
@@ -147,7 +152,8 @@ impl Reducer for Continuous {
 fn set_run(runs: &mut IndexMap<(u32, u32), Run, Salt>, pair: (u32, u32), run: Run)
     requires { 1 ≤ spare runs.old }
     ensures here { get pair_eq runs.new pair ≡ Some run }
-    ensures others { (u v : ℕ) → ¬ ((pair.0 ≡ u) × (pair.1 ≡ v)) → get pair_eq runs.new (u, v) ≡ get pair_eq runs.old (u, v) }
+    ensures others { (u v : ℕ) → ¬ ((pair.0 ≡ u) × (pair.1 ≡ v))
+        → get pair_eq runs.new (u, v) ≡ get pair_eq runs.old (u, v) }
     ensures room { spare runs.old ≤ spare runs.new + 1 }
 {
     match runs.insert(pair, run) {

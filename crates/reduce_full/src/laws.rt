@@ -11,5 +11,6 @@ use reach_model::Mode;
 /// pair, which is dropped. Forward from the time of the later one the rows reach nothing. So a start after the object's
 /// first flow is refused.
 pub fn full_mode_loses_later_starts()
-    ensures { (F : List Flow) × (R : List Row) × IsLawful F × Keeps Mode.Full F R × ¬ AnswersAll F R }
+    ensures { (F : List Flow) × (R : List Row) × IsLawful F × Keeps Mode.Full F R
+        × ¬ AnswersAll F R }
 {}

@@ -176,7 +176,8 @@ fn id_and_time(text: &[u8]) -> Option<(EntityId, Option<u64>)>
 
 /// A line asks at most one thing.
 pub fn a_line_asks_one_thing()
-    ensures { (line : List ℕ) (first second : Ask) → IsAsk line first → IsAsk line second → first ≡ second }
+    ensures { (line : List ℕ) (first second : Ask) → IsAsk line first → IsAsk line second
+        → first ≡ second }
 {}
 
 /// What is found in a line is what the line asks.

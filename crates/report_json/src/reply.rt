@@ -113,7 +113,9 @@ fn back_value(alloc: Global, of: EntityId, ids: &[EntityId]) -> Result<Value, Al
 }
 
 fn back_object(alloc: Global, of: EntityId, ids: Value) -> Result<Value, AllocError>
-    ensures { IfOk result (λ value. view value ≡ object (member (codes "back") (id_data of) (member (codes "ids") (view ids) no_members))) }
+    ensures { IfOk result (λ value. view value
+        ≡ object (member (codes "back") (id_data of)
+        (member (codes "ids") (view ids) no_members))) }
 {
     json!(in alloc; {"back": of.0, "ids": ids})
 }
@@ -126,7 +128,9 @@ fn fore_value(alloc: Global, of: EntityId, ids: &[EntityId]) -> Result<Value, Al
 }
 
 fn fore_object(alloc: Global, of: EntityId, ids: Value) -> Result<Value, AllocError>
-    ensures { IfOk result (λ value. view value ≡ object (member (codes "fore") (id_data of) (member (codes "ids") (view ids) no_members))) }
+    ensures { IfOk result (λ value. view value
+        ≡ object (member (codes "fore") (id_data of)
+        (member (codes "ids") (view ids) no_members))) }
 {
     json!(in alloc; {"fore": of.0, "ids": ids})
 }
@@ -139,7 +143,9 @@ fn sources_value(alloc: Global, of: EntityId, ids: &[EntityId]) -> Result<Value,
 }
 
 fn sources_object(alloc: Global, of: EntityId, ids: Value) -> Result<Value, AllocError>
-    ensures { IfOk result (λ value. view value ≡ object (member (codes "back") (id_data of) (member (codes "sources") (view ids) no_members))) }
+    ensures { IfOk result (λ value. view value
+        ≡ object (member (codes "back") (id_data of)
+        (member (codes "sources") (view ids) no_members))) }
 {
     json!(in alloc; {"back": of.0, "sources": ids})
 }

@@ -3,8 +3,8 @@
 //! A function that owns an engine has one way out, since each way out drops all of its tables.
 ghost use Rattle.ingest.specs.Replies.{IsQuestion};
 
-use flow_base::{EntityId, Full, Limit, Limits, NoMemory};
-use ingest::{Ingest, Stop, StopWhy};
+use flow_base::{EntityId, Full, Limit, Limits, NoMemory, Refused};
+use ingest::{Ingest, Stop};
 use reach_rows::{Plain, Question, Reducer, VecRows};
 use reduce_continuous::Continuous;
 use report_json::{Ask, FindText, reply_text};
@@ -110,8 +110,8 @@ fn take_in_pieces<R: Reducer>(engine: &mut Ingest<R, VecRows>, log: &[u8], size:
     engine.settle().is_ok()
 }
 
-fn objects_full(number: u64) -> StopWhy {
-    StopWhy::Full(Full {
+fn objects_full(number: u64) -> Refused {
+    Refused::Full(Full {
         limit: Limit::Entities,
         number,
     })
@@ -260,7 +260,7 @@ fn stops_at_a_byte(engine: &mut Engine) -> bool {
         && stopped
             == Err(Stop {
                 done: 2,
-                why: StopWhy::Full(full),
+                why: Refused::Full(full),
             })
 }
 
@@ -502,7 +502,7 @@ fn a_byte_past_the_limit_stops(rt: HostRuntime) -> Result<(), Fail> {
 }
 
 /// How a run over the log ends within these limits.
-fn stop_of(alloc: Global, limits: &Limits, log: &[u8]) -> Result<(), StopWhy> {
+fn stop_of(alloc: Global, limits: &Limits, log: &[u8]) -> Result<(), Refused> {
     let mut engine = Ingest::new(
         alloc,
         Salt::fixed(),
@@ -513,7 +513,7 @@ fn stop_of(alloc: Global, limits: &Limits, log: &[u8]) -> Result<(), StopWhy> {
     ends(&mut engine, log)
 }
 
-fn ends(engine: &mut Engine, log: &[u8]) -> Result<(), StopWhy> {
+fn ends(engine: &mut Engine, log: &[u8]) -> Result<(), Refused> {
     match engine.feed(log) {
         Ok(()) => engine.settle(),
         Err(stop) => Err(stop.why),
@@ -532,7 +532,7 @@ fn a_limit_stops_the_event_that_would_pass_it(rt: HostRuntime) -> Result<(), Fai
         limit: Limit::Flows,
         number: 2,
     };
-    assert_eq!(rt; stop_of(alloc, &limits, SEEN), Err(StopWhy::Full(flows)));
+    assert_eq!(rt; stop_of(alloc, &limits, SEEN), Err(Refused::Full(flows)));
     // The event's first act passes the limit of flows alone, but objects go first.
     limits.entities = 3;
     limits.flows = 1;

@@ -8,5 +8,6 @@ ghost use Rattle.version_graph.specs.Links.{EndsDiffer, HasLink};
 
 /// Among rows whose first flows ascend, a pair is linked by their order exactly if full mode says that it is.
 pub fn links_are_those_of_full_mode()
-    ensures { (R : List Row) (f : Flow) → AscendsByFirst R → EndsDiffer R → HasLink (firsts R) (source f) (target f) ↔ IsLinked R f }
+    ensures { (R : List Row) (f : Flow) → AscendsByFirst R → EndsDiffer R
+        → HasLink (firsts R) (source f) (target f) ↔ IsLinked R f }
 {}

@@ -29,7 +29,8 @@ pub fn current_of(known: Option<&Version>) -> Version
 
 /// The version after a flow into the object: a new one if a flow has left the current one.
 fn entered(current: Version) -> Version
-    ensures number { current.number < 2 ^ 64 - 1 → result.number ≡ current.number + cond current.sealed 1 0 }
+    ensures number { current.number < 2 ^ 64 - 1
+        → result.number ≡ current.number + cond current.sealed 1 0 }
     ensures seal { result.sealed ≡ false }
 {
     if current.sealed {
@@ -47,7 +48,8 @@ pub fn enter(objects: &mut IndexMap<u32, Version, Salt>, object: u32)
     requires { 1 ≤ spare objects.old }
     ensures numbers { (version_or (get nat_eq objects.old object)).number < 2 ^ 64 - 1
         → (x : ℕ) → (version_or (get nat_eq objects.new x)).number ≡ (version_or (get nat_eq objects.old x)).number + cond ((object == x) && (version_or (get nat_eq objects.old x)).sealed) 1 0 }
-    ensures seals { (x : ℕ) → (version_or (get nat_eq objects.new x)).sealed ≡ cond (object == x) false (version_or (get nat_eq objects.old x)).sealed }
+    ensures seals { (x : ℕ) → (version_or (get nat_eq objects.new x)).sealed
+        ≡ cond (object == x) false (version_or (get nat_eq objects.old x)).sealed }
     ensures room { spare objects.old ≤ spare objects.new + 1 }
 {
     let version = entered(current_of(objects.get(&object)));
@@ -58,8 +60,10 @@ pub fn enter(objects: &mut IndexMap<u32, Version, Salt>, object: u32)
 pub fn leave(objects: &mut IndexMap<u32, Version, Salt>, object: u32) -> u64
     requires { 1 ≤ spare objects.old }
     ensures left { result ≡ (version_or (get nat_eq objects.new object)).number }
-    ensures numbers { (x : ℕ) → (version_or (get nat_eq objects.new x)).number ≡ (version_or (get nat_eq objects.old x)).number }
-    ensures seals { (x : ℕ) → (version_or (get nat_eq objects.new x)).sealed ≡ cond (object == x) true (version_or (get nat_eq objects.old x)).sealed }
+    ensures numbers { (x : ℕ) → (version_or (get nat_eq objects.new x)).number
+        ≡ (version_or (get nat_eq objects.old x)).number }
+    ensures seals { (x : ℕ) → (version_or (get nat_eq objects.new x)).sealed
+        ≡ cond (object == x) true (version_or (get nat_eq objects.old x)).sealed }
     ensures room { spare objects.old ≤ spare objects.new + 1 }
 {
     let current = current_of(objects.get(&object));

@@ -69,7 +69,8 @@ impl Versions {
     /// Takes in the next kept flow, in the room that was made for it.
     pub fn keep(&mut self, flow: &Flow)
         requires room { HasRoom self.old 1 }
-        ensures next { (K : List AFlow) → StandsFor self.old K → AreFew K → StandsFor self.new (K ++ flow.now ∷ []) }
+        ensures next { (K : List AFlow) → StandsFor self.old K → AreFew K
+            → StandsFor self.new (K ++ flow.now ∷ []) }
         ensures room { (n : ℕ) → HasRoom self.old (n + 1) → HasRoom self.new n }
     {
         enter(&mut self.objects, flow.to.0);
@@ -82,7 +83,8 @@ impl Versions {
 fn set_link(links: &mut IndexMap<(u32, u32), u64, Salt>, pair: (u32, u32), left: u64)
     requires { 1 ≤ spare links.old }
     ensures here { get pair_eq links.new pair ≡ Some left }
-    ensures others { (u v : ℕ) → ¬ ((pair.0 ≡ u) × (pair.1 ≡ v)) → get pair_eq links.new (u, v) ≡ get pair_eq links.old (u, v) }
+    ensures others { (u v : ℕ) → ¬ ((pair.0 ≡ u) × (pair.1 ≡ v))
+        → get pair_eq links.new (u, v) ≡ get pair_eq links.old (u, v) }
     ensures room { spare links.old ≤ spare links.new + 1 }
 {
     match links.insert(pair, left) {

@@ -5,7 +5,7 @@ ghost use Rattle.flow_base.specs.declared.types.Key.{Key};
 ghost use Rattle.flow_base.specs.declared.limits.Full.{Full};
 ghost use Rattle.flow_base.specs.contracts.types.KeyPartialEq.TheImpl.{ghosts};
 ghost use Rattle.acts.specs.declared.link.Link.{Link};
-ghost use Rattle.acts.specs.declared.look_back.graph.Refused.TheVariants as refused;
+ghost use Rattle.flow_base.specs.declared.faults.Refused.TheVariants as refused;
 ghost use Rattle.acts.specs.Keys.{put_new};
 ghost use Rattle.acts.specs.Flows.{with_ends, number_in, flow_at, flow_if};
 ghost use Rattle.acts.specs.LookBack.{as_number, full_by, full_with};
@@ -13,33 +13,9 @@ ghost use Rattle.acts.specs.LookBack.{as_number, full_by, full_with};
 use crate::act::Taken;
 use crate::link::Link;
 use crate::look_back::room::put_last;
-use flow_base::{EntityId, Flow, Full, Key, Limit, NoMemory, Stamp, equal_keys_are_one};
-use std::alloc::{AllocError, Global};
+use flow_base::{EntityId, Flow, Full, Key, Limit, NoMemory, Refused, Stamp, equal_keys_are_one};
+use std::alloc::Global;
 use std::marker::Model;
-
-/// Why an act isn't taken.
-#[derive(Clone, Copy, Debug, PartialEq, Eq)]
-pub enum Refused {
-    NoMemory,
-    /// It would pass this limit.
-    Full(Full),
-}
-
-impl From<NoMemory> for Refused {
-    ghost from_gives = { λ _ e. e ≡ refused.NoMemory };
-
-    fn from(_fault: NoMemory) -> Refused {
-        Refused::NoMemory
-    }
-}
-
-impl From<AllocError> for Refused {
-    ghost from_gives = { λ _ e. e ≡ refused.NoMemory };
-
-    fn from(_error: AllocError) -> Refused {
-        Refused::NoMemory
-    }
-}
 
 /// The objects that flows know, by number, and the flows.
 #[derive(Drop)]
@@ -64,7 +40,12 @@ impl Model for Graph {
 impl Graph {
     /// No flows, with these limits on the numbers of objects and flows.
     pub fn new(alloc: Global, most_objects: u32, most_flows: u64) -> Graph
-        ensures { result ≡ record { objects = []; flows = []; most_objects = most_objects; most_flows = most_flows } }
+        ensures { result ≡ record {
+          objects = [];
+          flows = [];
+          most_objects = most_objects;
+          most_flows = most_flows;
+        } }
     {
         Graph {
             objects: Vec::new(alloc),
@@ -98,10 +79,14 @@ impl Graph {
     /// Appends the flow of a link, and those of its ends that are new. If it is refused, nothing has changed.
     pub fn add(&mut self, taken: &Taken, link: Link) -> Result<(), Refused>
         ensures objects { OnOk result (self.new.objects ≡ with_ends self.old.objects (Some link)) }
-        ensures flows { OnOk result (self.new.flows ≡ self.old.flows ++ flow_at self.new.objects taken.now (length self.old.flows) link ∷ []) }
-        ensures limits { (self.new.most_objects ≡ self.old.most_objects) × (self.new.most_flows ≡ self.old.most_flows) }
+        ensures flows { OnOk result (self.new.flows
+            ≡ self.old.flows ++ flow_at self.new.objects taken.now
+            (length self.old.flows) link ∷ []) }
+        ensures limits { (self.new.most_objects ≡ self.old.most_objects)
+            × (self.new.most_flows ≡ self.old.most_flows) }
         ensures fits { OnOk result (full_with self.old link ≡ None) }
-        ensures full { (full : Full) → result ≡ Err (refused.Full full) → full_with self.old link ≡ Some full }
+        ensures full { (full : Full) → result ≡ Err (refused.Full full)
+            → full_with self.old link ≡ Some full }
         ensures err { OnErr result (self.new ≡ self.old) }
     {
         if let Some(full) = self.full_with(&link) {

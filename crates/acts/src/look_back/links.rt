@@ -34,7 +34,8 @@ pub fn link_of(alloc: Global, before: &[Taken], act: &Act) -> Result<Option<Link
 
 /// The link of a see: from its parent, if the see begins a life and the parent is another pid and live.
 fn parent_link(before: &[Taken], pid: u32, ppid: u32) -> Option<Link>
-    ensures { (exe : Option (List ℕ)) → result ≡ link_of (so_far before.now) (act.See pid ppid exe) }
+    ensures { (exe : Option (List ℕ))
+        → result ≡ link_of (so_far before.now) (act.See pid ppid exe) }
 {
     let standing = stands_after(before, pid);
     if standing.live || ppid == pid || !is_live(before, ppid) {

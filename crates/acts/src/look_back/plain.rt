@@ -1,15 +1,15 @@
 //! The acts so far, with their objects and flows.
 ghost use Rattle.std.specs.Prelude.{◌≡◌, ◌∷◌, [], false, None, Some, Err, length, OnOk, OnErr};
 ghost use Rattle.flow_base.specs.declared.limits.Full.{Full};
-ghost use Rattle.acts.specs.declared.look_back.graph.Refused.TheVariants as refused;
+ghost use Rattle.flow_base.specs.declared.faults.Refused.TheVariants as refused;
 ghost use Rattle.acts.specs.Flows.{acts_of, objects, flows};
 ghost use Rattle.acts.specs.LookBack.{opens, full_at};
 
 use crate::act::Taken;
-use crate::look_back::graph::{Graph, Refused};
+use crate::look_back::graph::Graph;
 use crate::look_back::links::link_of;
 use crate::look_back::room::put_last;
-use flow_base::{Flow, Key};
+use flow_base::{Flow, Key, Refused};
 use std::alloc::Global;
 use std::marker::Model;
 
@@ -35,7 +35,11 @@ impl Model for Plain {
 impl Plain {
     /// No acts, with these limits on the numbers of objects and flows.
     pub fn new(alloc: Global, most_objects: u32, most_flows: u64) -> Plain
-        ensures { result ≡ record { taken = []; most_objects = most_objects; most_flows = most_flows } }
+        ensures { result ≡ record {
+          taken = [];
+          most_objects = most_objects;
+          most_flows = most_flows;
+        } }
     {
         Plain {
             taken: Vec::new(alloc),
@@ -68,9 +72,13 @@ impl Plain {
     /// Takes the next act. If it is refused, nothing has changed.
     pub fn act(&mut self, taken: Taken) -> Result<(), Refused>
         requires opens_nothing { opens taken.act ≡ false }
-        ensures taken { OnOk result (self.new ≡ record self.old { taken = taken ∷ self.old.taken }) }
-        ensures fits { OnOk result (full_at self.old.most_objects self.old.most_flows (taken ∷ self.old.taken) ≡ None) }
-        ensures full { (full : Full) → result ≡ Err (refused.Full full) → full_at self.old.most_objects self.old.most_flows (taken ∷ self.old.taken) ≡ Some full }
+        ensures taken { OnOk result (self.new ≡ record
+            self.old { taken = taken ∷ self.old.taken }) }
+        ensures fits { OnOk result (full_at self.old.most_objects self.old.most_flows
+            (taken ∷ self.old.taken) ≡ None) }
+        ensures full { (full : Full) → result ≡ Err (refused.Full full)
+            → full_at self.old.most_objects self.old.most_flows (taken ∷ self.old.taken)
+            ≡ Some full }
         ensures err { OnErr result (self.new ≡ self.old) }
     {
         let alloc = *self.taken.allocator();

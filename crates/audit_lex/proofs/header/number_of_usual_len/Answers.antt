@@ -8,7 +8,7 @@ pub returns-in-Some-clause-read : goal.returns-in-Some-clause-read
 returns-in-Some-clause-read c =
     let text = c.args.text.now in
     let place = c.args.usual in
-    let is = valued (take place text) c.in-Some.value (sym c.in-Some.is ∙ c.short_value.ensures) in
+    let is = valued (take place text) c.in-Some.value (sym c.in-Some.is ∙ c.decimal_value.ensures) in
     let low = not_before c.args.byte text place c.requires.byte (omega arith) (digits_in_front text place (omega arith) is.0) in
     ap (λ v. Some (v, take (length text - (place + 1)) (drop (place + 1) text))) is.1
     ∙ ap (λ t. Some (digits_value 10 (take place text), t)) (take_rest text (place + 1))
@@ -17,6 +17,6 @@ returns-in-Some-clause-read c =
 pub returns-in-Some-clause-below : goal.returns-in-Some-clause-below
 returns-in-Some-clause-below c =
     let text = c.args.text.now in
-    let is = valued (take c.args.usual text) c.in-Some.value (sym c.in-Some.is ∙ c.short_value.ensures) in
+    let is = valued (take c.args.usual text) c.in-Some.value (sym c.in-Some.is ∙ c.decimal_value.ensures) in
     let power = below_power text c.args.usual c.args.most (omega arith) c.requires.usual.1 is.0 in
     omega (arith, power, is.1)

@@ -5,7 +5,7 @@ use Rattle.acts.specs.Flows.{acts_of, objects}
 use Rattle.std.proofs.lemmas.Result.{err_from_is_err_and}
 use Rattle.flow_events.specs.Added.{IsPast}
 use Rattle.flow_events.proofs.Beginning.{drafted_nothing, way_begun}
-use Rattle.flow_events.specs.declared.fault.PrepareFault.TheVariants as fault
+use Rattle.flow_base.specs.declared.faults.Refused.TheVariants as fault
 use Rattle.flow_events.proofs.GoingOn.{none_numbered}
 use Rattle.flow_events.proofs.Past.{error_or}
 use Rattle.flow_events.proofs.work.begin.Goals as goal
@@ -14,8 +14,8 @@ pub returns-clause-way : goal.returns-clause-way
 returns-clause-way c = λ before stands.
     let ground = c.args.ground.now in
     let exe = c.args.exe.now in
-    let acting = c.see_acting-acting.result in
-    let seen = c.see_acting-acting.ensures in
+    let acting = c.see_process-seen.result.acting in
+    let seen = c.see_process-seen.ensures in
     let life = seen.life stands.lives_few (acts_of before) exe stands.lives_are in
     let start = c.in_ok-draft.ensures in
     way_begun ground acting c.see.new.self before c.args.pid c.args.ppid exe stands seen.pid life (seen.held (acts_of before) exe stands.lives_are stands.admitted)
@@ -24,14 +24,14 @@ returns-clause-way c = λ before stands.
     (drafted_nothing ground c.in_ok-draft.draft before stands start.births start.given start.added))
 
 pub returns-clause-see : goal.returns-clause-see
-returns-clause-see c = λ before stands. c.see_change-see.ensures (acts_of before) c.args.exe.now stands.lives_are stands.admitted
+returns-clause-see c = λ before stands. c.see_process-seen.ensures.change (acts_of before) c.args.exe.now stands.lives_are stands.admitted
 
 pub returns-in_err-see-clause-full : goal.returns-in_err-see-clause-full
 returns-in_err-see-clause-full c =
     let p = err_from_is_err_and c.from_residual-in_err-see.result c.from_residual-in_err-see.ensures.1 in
     rw (p.1, p.2) (λ full is before stands.
     let ground = c.args.ground.now in
-    let seen = c.see_acting-acting.ensures in
+    let seen = c.see_process-seen.ensures in
     let start = c.in_ok-draft.ensures in
     subst (λ pid. IsPast ground.most full (objects (See pid c.args.ppid c.args.exe.now ∷ acts_of before))) seen.pid
     (c.in_err-see.ensures.full full (ap Err (ap (error_or (fault.Full full)) is)) stands.lives_few before stands.lives_are (drafted_nothing ground c.in_ok-draft.draft before stands start.births start.given start.added)))

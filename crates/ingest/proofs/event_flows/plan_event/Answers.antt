@@ -1,11 +1,11 @@
 use Rattle.std.proofs.Common.{ap, arith, length, Err}
 use Rattle.name_text.specs.Addresses.{text_of}
-use Rattle.ingest.proofs.Following.{may_come_after, refused_full, same_err}
+use Rattle.ingest.proofs.Following.{may_come_after}
 use Rattle.ingest.proofs.event_flows.plan_event.Goals as goal
 
 pub returns-in-Err-clause-full : goal.returns-in-Err-clause-full
 returns-in-Err-clause-full c = λ full is taken has.
-    c.in-Err.ensures.full full (ap Err (refused_full _ _ full c.why_of.ensures (same_err _ _ is))) _ taken
+    c.in-Err.ensures.full full is _ taken
     (may_come_after _ taken c.args.event.now c.requires.limits has c.requires.few (c.acts_are_few.ensures _ _))
 
 pub returns-in-Ok-clause-same : goal.returns-in-Ok-clause-same

@@ -1,8 +1,7 @@
 use Rattle.std.proofs.Common.{◌≡◌, ◌+◌, ◌-◌, ◌++◌, ◌^◌, ◌∙◌, ap, sym, subst, List, length, ◌∷◌, arith}
 use Rattle.acts.specs.Flows.{acts_of, objects, flows, link_of, with_ends}
-use Rattle.flow_events.specs.Acting.{IsBorn, pair_if}
+use Rattle.flow_events.specs.Acting.{IsBorn}
 use Rattle.flow_events.specs.Added.{flows_if}
-use Rattle.flow_events.specs.Entering.{NameAlike}
 use Rattle.acts.specs.declared.act.Taken.{Taken}
 use Rattle.flow_events.specs.declared.acting.Acting.{Acting}
 use Rattle.flow_events.specs.declared.draft.Draft.{Draft}
@@ -34,8 +33,7 @@ returns-clause-next c = λ before now may.
     let known = c.args.ground.now.entities.now.keys in
     let acts = acts_of now ++ acts_of before in
     let link = c.in_ok-link.ensures.link may.lives_few (acts_of before) (acts_of now) born acting in
-    let name = c.in_ok-name.ensures (acts_of before) (acts_of now) born in
-    let named = subst (λ given. NameAlike c.args.ground.now.entities.now given (pair_if c.if_new-name.result)) name c.if_new-name.ensures in
+    let named = c.in_ok-name.ensures (acts_of before) (acts_of now) born in
     let objects_are : objects (act ∷ acts) ≡ known ++ c.add_link.new.added.keys =
     (λ i. with_ends (so_far.objects_are i) (sym link i)) ∙ sym c.in_ok-add_link.ensures.keys in
     record {

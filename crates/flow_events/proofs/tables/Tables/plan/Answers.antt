@@ -4,7 +4,7 @@ use Rattle.acts.specs.Flows.{acts_of, objects}
 use Rattle.flow_events.specs.Added.{IsPast}
 use Rattle.flow_events.proofs.Drafting.{joined}
 use Rattle.flow_events.proofs.Past.{error_or}
-use Rattle.flow_events.specs.declared.fault.PrepareFault.TheVariants as fault
+use Rattle.flow_base.specs.declared.faults.Refused.TheVariants as fault
 use Rattle.name_text.specs.Addresses.{text_of}
 use Rattle.flow_events.specs.Drafts.{turned}
 use Rattle.flow_events.specs.Standing.{IsPlanOf}

@@ -5,8 +5,8 @@ use Rattle.record_join.specs.Keys.{EndsAt}
 use Rattle.ingest.specs.Entries.{IsEntryOf}
 use Rattle.ingest.specs.GoingOn.{EntersOne, EntersGiven}
 use Rattle.ingest.specs.Parts.{Joined}
-use Rattle.ingest.specs.declared.entry.Entry.{Entry}
-use Rattle.ingest.specs.declared.entry.Entry.TheVariants as entry
+use Rattle.audit_record.specs.declared.types.Entry.{Entry}
+use Rattle.audit_record.specs.declared.types.Entry.TheVariants as entry
 use Rattle.ingest.proofs.Answered.{on_ok_so}
 use Rattle.ingest.proofs.event_flows.EventFlows.enter.Goals as goal
 

@@ -1,16 +1,15 @@
-use Rattle.std.proofs.Common.{◌≡◌, ◌≤◌, ◌+◌, ◌++◌, ◌∙◌, sym, refl, ap, subst, List, [], ℕ, Bool, false, length, length-append, arith, Some, if◌then◌else◌}
+use Rattle.std.proofs.Common.{◌≡◌, ◌≤◌, ◌+◌, ◌++◌, ◌∙◌, sym, ap, subst, List, [], ℕ, Bool, false, length, length-append, arith, None, Some, Option, IsSome, Ok, Err, Result, if◌then◌else◌}
+use Rattle.std.specs.Prelude.{IfOk}
 use Rattle.flow_base.specs.declared.limits.Limits.{Limits}
 use Rattle.audit_lex.specs.History.{History, tail_of}
-use Rattle.audit_lex.specs.LineClass.{Used, class_of}
 use Rattle.audit_lex.specs.LineCut.{Cutter, StandsFor as CutStandsFor}
-use Rattle.audit_lex.specs.declared.fields.Kind.{Kind}
-use Rattle.audit_lex.specs.declared.header.EventKey.{EventKey}
-use Rattle.audit_record.specs.Records.{Spells}
-use Rattle.audit_record.specs.declared.types.Record.{Record}
+use Rattle.audit_record.specs.Reading.{GivesEntry}
+use Rattle.audit_record.specs.declared.types.Entry.{Entry}
+use Rattle.ingest.specs.Entries.{IsGiven}
 use Rattle.ingest.specs.LineRecords.{record_of}
 use Rattle.ingest.specs.Parts.{Reader}
 use Rattle.ingest.specs.StandsFor.{ReaderStandsFor}
-use Rattle.ingest.proofs.Reading.{end_spelled, reads_used}
+use Rattle.ingest.proofs.Reading.{entry_given, empty_given}
 use Rattle.ingest.proofs.KeyTimes.{record_text}
 use Rattle.ingest.proofs.ReaderSteps.{reader_at, two_seen}
 use Rattle.ingest.proofs.line_reader.LineReader.read.Goals as goal
@@ -19,59 +18,45 @@ use Rattle.ingest.proofs.line_reader.LineReader.read.Goals as goal
 held_whole : (cut : Cutter) (h : History) → CutStandsFor cut h → cut.long ≡ false → cut.tail ≡ tail_of h
 held_whole cut h stands short = stands.rest ∙ ap (λ (long : Bool). if long then [] else tail_of h) (sym stands.over ∙ short)
 
-module _ (reader : Reader) (part line used : List ℕ) (key : EventKey) (kind : Kind) (item : Record)
-    (short : reader.cut.long ≡ false) (text : line ≡ reader.cut.tail ++ part) (class : Used key kind ≡ class_of reader.limits.line line)
-    (lent : used ≡ line) (spelled : Spells used item) where
-  -- the line spells this record
-  spelled_so : (limits : Limits) (h : History) → ReaderStandsFor limits reader h → record_of limits.line (tail_of h ++ part) ≡ Some item
-  spelled_so limits h own =
+then_ok : {T E : Type 0} (r : Result T E) (P Q : T → Type 0) → ((t : T) → P t → Q t) → IfOk r P → IfOk r Q
+then_ok (Ok t) P Q more p = more t p
+then_ok (Err e) P Q more p = p
+
+two_given : (limit : ℕ) (line : List ℕ) (read : Option Entry) → GivesEntry limit line read → IsSome read → 2 ≤ length line
+two_given limit line None given some = absurd (cc some)
+two_given limit line (Some entry) given some =
+    let made = entry_given limit line (Some entry) given in record_text limit line made.item made.spelled
+
+module _ (reader : Reader) (part line : List ℕ) (short : reader.cut.long ≡ false) (text : line ≡ reader.cut.tail ++ part) where
+  -- the line that was read is the one that ends
+  same_line : (limits : Limits) (h : History) → ReaderStandsFor limits reader h → record_of reader.limits.line line ≡ record_of limits.line (tail_of h ++ part)
+  same_line limits h own =
       let whole : reader.cut.tail ≡ tail_of h = held_whole reader.cut h own.cut short in
       let here : line ≡ tail_of h ++ part = text ∙ ap (λ (tail : List ℕ). tail ++ part) whole in
-      let seen : Used key kind ≡ class_of reader.limits.line (tail_of h ++ part) = class ∙ ap (class_of reader.limits.line) here in
-      ap (λ (l : Limits). record_of l.line (tail_of h ++ part)) (sym own.limits_are)
-      ∙ reads_used reader.limits.line (tail_of h ++ part) key kind item (sym seen) (subst (λ (l : List ℕ). Spells l item) (lent ∙ here) spelled)
+      ap (record_of reader.limits.line) here ∙ ap (λ (l : Limits). record_of l.line (tail_of h ++ part)) own.limits_are
 
-  two_so : 2 ≤ length reader.cut.tail + length part
-  two_so =
-      let two = record_text reader.limits.line line item (reads_used reader.limits.line line key kind item (sym class) (subst (λ (l : List ℕ). Spells l item) lent spelled)) in
+  reads_so : (read : Option Entry) → GivesEntry reader.limits.line line read → (limits : Limits) (h : History) → ReaderStandsFor limits reader h
+      → IsGiven read (record_of limits.line (tail_of h ++ part))
+  reads_so read given limits h own = subst (IsGiven read) (same_line limits h own) (entry_given reader.limits.line line read given)
+
+  empty_so : line ≡ [] → (limits : Limits) (h : History) → ReaderStandsFor limits reader h → record_of limits.line (tail_of h ++ part) ≡ None
+  empty_so none limits h own = sym (same_line limits h own) ∙ empty_given reader.limits.line line none
+
+  two_so : (read : Option Entry) → GivesEntry reader.limits.line line read → IsSome read → 2 ≤ length reader.cut.tail + length part
+  two_so read given some =
+      let two = two_given reader.limits.line line read given some in
       omega (arith, two, ap length text, length-append reader.cut.tail part)
 
 pub returns-clause-reads : goal.returns-clause-reads
-returns-clause-reads c = λ limits h stands.
-    let used = c.in-Used.used in
+returns-clause-reads c =
     let reader : Reader = record { limits = c.self.inside.limits; cut = c.self.inside.cut; tally = c.self.inside.tally; bytes = c.self.inside.bytes } in
-    record {
-      item = c.in_ok-item.item;
-      spelled = spelled_so reader c.args.part.now c.text_of_line.result.now used.line.now used.key used.kind c.in_ok-item.item (sym c.if-long.ensures) c.text_of_line.ensures
-          c.in-Used.ensures.class c.in-Used.ensures.line c.in_ok-item.ensures limits h (reader_at limits _ _ h c.self.view_is stands);
-      gives = refl;
-    }
+    then_ok c.read_line.result _ _ (λ read given limits h stands.
+    reads_so reader c.args.part.now c.text_of_line-line.result.now (sym c.if-long.ensures) c.text_of_line-line.ensures read given limits h
+    (reader_at limits _ _ h c.self.view_is stands)) c.read_line.ensures
 
 pub returns-clause-two : goal.returns-clause-two
-returns-clause-two c = λ some.
-    let used = c.in-Used.used in
+returns-clause-two c =
     let reader : Reader = record { limits = c.self.inside.limits; cut = c.self.inside.cut; tally = c.self.inside.tally; bytes = c.self.inside.bytes } in
+    then_ok c.read_line.result _ _ (λ read given some.
     two_seen _ _ (length c.args.part.now) c.self.view_is
-    (two_so reader c.args.part.now c.text_of_line.result.now used.line.now used.key used.kind c.in_ok-item.item (sym c.if-long.ensures) c.text_of_line.ensures
-    c.in-Used.ensures.class c.in-Used.ensures.line c.in_ok-item.ensures)
-
-pub returns-then-is_end-clause-reads : goal.returns-then-is_end-clause-reads
-returns-then-is_end-clause-reads c = λ limits h stands.
-    let used = c.in-Used.used in
-    let reader : Reader = record { limits = c.self.inside.limits; cut = c.self.inside.cut; tally = c.self.inside.tally; bytes = c.self.inside.bytes } in
-    let made = end_spelled used.line.now used.key used.kind used.used (sym c.if-is_end.ensures) in
-    record {
-      item = made.0;
-      spelled = spelled_so reader c.args.part.now c.text_of_line.result.now used.line.now used.key used.kind made.0 (sym c.if-long.ensures) c.text_of_line.ensures
-          c.in-Used.ensures.class c.in-Used.ensures.line made.1 limits h (reader_at limits _ _ h c.self.view_is stands);
-      gives = made.2;
-    }
-
-pub returns-then-is_end-clause-two : goal.returns-then-is_end-clause-two
-returns-then-is_end-clause-two c = λ some.
-    let used = c.in-Used.used in
-    let reader : Reader = record { limits = c.self.inside.limits; cut = c.self.inside.cut; tally = c.self.inside.tally; bytes = c.self.inside.bytes } in
-    let made = end_spelled used.line.now used.key used.kind used.used (sym c.if-is_end.ensures) in
-    two_seen _ _ (length c.args.part.now) c.self.view_is
-    (two_so reader c.args.part.now c.text_of_line.result.now used.line.now used.key used.kind made.0 (sym c.if-long.ensures) c.text_of_line.ensures
-    c.in-Used.ensures.class c.in-Used.ensures.line made.1)
+    (two_so reader c.args.part.now c.text_of_line-line.result.now (sym c.if-long.ensures) c.text_of_line-line.ensures read given some)) c.read_line.ensures

@@ -10,7 +10,7 @@ returns-then-id-len-clause-objects c = λ K a e differ.
     let P = c.self.inside.objects.items in
     let f = c.args.flow.now in
     let same = ap (λ (m : KnownObjects). m.objects) c.self.view_is in
-    entered_known K f differ P c.args.row e c.requires.row c.index_mut.result.now (subst (HasLeft K f) (sym same) a)
+    entered_known K f differ P c.args.row e c.requires.row c.new.result c.new.ensures c.index_mut.result.now (subst (HasLeft K f) (sym same) a)
     (omega (arith, c.if-id-len.true, c.len.ensures)) c.index_mut.ensures.value
 
 pub returns-else-id-len-clause-objects : goal.returns-else-id-len-clause-objects
@@ -20,5 +20,5 @@ returns-else-id-len-clause-objects c = λ K a e differ.
     let same = ap (λ (m : KnownObjects). m.objects) c.self.view_is in
     let known = ap (λ (m : KnownObjects). length m.objects) c.self.view_is in
     subst (λ x. AreObjects (K ++ f ∷ []) (objects_of_packed x)) (sym c.push_reserved.ensures.items)
-    (entered_new K f differ P c.args.row e c.requires.row (subst (HasLeft K f) (sym same) a)
+    (entered_new K f differ P c.args.row e c.requires.row c.new-else-id-len.result c.new-else-id-len.ensures c.new-else-id-len-2.result c.new-else-id-len-2.ensures (subst (HasLeft K f) (sym same) a)
     (omega (arith, c.if-id-len.false, c.len.ensures, c.requires.known, known, length-map P object_of_packed)))

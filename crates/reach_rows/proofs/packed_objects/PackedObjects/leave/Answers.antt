@@ -9,7 +9,7 @@ pub returns-then-id-len-clause-left : goal.returns-then-id-len-clause-left
 returns-then-id-len-clause-left c = λ K a e differ.
     let P = c.self.inside.objects.items in
     let same = ap (λ (m : KnownObjects). m.objects) c.self.view_is in
-    left_known K c.args.flow.now differ P c.args.row e c.requires.row c.index_mut.result.now (subst (AreObjects K) (sym same) a)
+    left_known K c.args.flow.now differ P c.args.row e c.requires.row c.new.result c.new.ensures c.index_mut.result.now (subst (AreObjects K) (sym same) a)
     (omega (arith, c.if-id-len.true, c.len.ensures)) c.index_mut.ensures.value
 
 pub returns-else-id-len-clause-left : goal.returns-else-id-len-clause-left
@@ -19,5 +19,5 @@ returns-else-id-len-clause-left c = λ K a e differ.
     let same = ap (λ (m : KnownObjects). m.objects) c.self.view_is in
     let known = ap (λ (m : KnownObjects). length m.objects) c.self.view_is in
     subst (λ x. HasLeft K f (objects_of_packed x)) (sym c.push_reserved.ensures.items)
-    (left_new K f differ P c.args.row e c.requires.row (subst (AreObjects K) (sym same) a)
+    (left_new K f differ P c.args.row e c.requires.row c.new-else-id-len-2.result c.new-else-id-len-2.ensures c.new-else-id-len.result c.new-else-id-len.ensures (subst (AreObjects K) (sym same) a)
     (omega (arith, c.if-id-len.false, c.len.ensures, c.requires.known, known, length-map P object_of_packed)))

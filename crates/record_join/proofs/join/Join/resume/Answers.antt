@@ -7,5 +7,5 @@ pub invariant_of-result : goal.invariant_of-result
 invariant_of-result c = record {
   limits = c.args.limits.now;
   lists = fresh c.args.clock;
-  stands = alike _ _ _ _ _ _ _ c.new.ensures.empty refl refl (fresh_stands c.args.limits.now c.args.clock);
+  stands = alike _ _ _ _ _ _ _ c.new.ensures refl refl (fresh_stands c.args.limits.now c.args.clock);
 }
