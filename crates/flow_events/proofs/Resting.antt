@@ -1,15 +1,15 @@
 -- The acts after the see, as the front and the last one.
 use Rattle.std.proofs.Common.{◌≡◌, ◌≤◌, ◌<◌, ◌+◌, ◌-◌, ◌++◌, ◌∙◌, ap, sym, refl, ℕ, List, [], ◌∷◌, length, map, take, drop, reverse, get_or, Result, Ok, Err, arith}
-use Rattle.std.specs.Prelude.{IfOk}
+use Rattle.std.specs.Prelude.{OnOk}
 use Rattle.std.proofs.lemmas.List.{map-append, reverse-append, take_more, take_all}
 use Rattle.std.proofs.lemmas.Grind.{common_steps}
 use Rattle.acts.specs.declared.act.Act.{Act}
 use Rattle.acts.specs.declared.act.Taken.{Taken}
 use Rattle.flow_events.specs.Drafts.{turned}
 
-pub mapped : {T E : Type 0} {P Q : T → Type 0} (r : Result T E) → ((x : T) → P x → Q x) → IfOk r P → IfOk r Q
-mapped (Ok x) f h = f x h
-mapped (Err e) f h = h
+pub on_ok : {T E P Q : Type 0} (r : Result T E) → (P → Q) → OnOk r P → OnOk r Q
+on_ok (Ok x) f h = f h
+on_ok (Err e) f h = h
 
 pub none_left : (rest : List Act) → length rest < 1 → rest ≡ []
 none_left [] none = refl

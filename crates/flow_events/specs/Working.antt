@@ -1,5 +1,5 @@
 -- What is worked out of a whole event. Every list of acts is ordered newest first.
-use Rattle.std.specs.Prelude.{◌+◌, ◌≡◌, ◌<◌, ◌-◌, ◌++◌, ◌^◌, ℕ, Option, List, [], ◌∷◌, length}
+use Rattle.std.specs.Prelude.{◌+◌, ◌≡◌, ◌<◌, ◌-◌, ◌++◌, ◌^◌, ℕ, Option, None, List, [], ◌∷◌, length}
 use Rattle.flow_base.specs.declared.limits.Full.{Full}
 use Rattle.acts.specs.declared.act.Act.TheVariants.{See}
 use Rattle.acts.specs.declared.act.Taken.{Taken}
@@ -11,10 +11,13 @@ use Rattle.name_text.specs.Addresses.{text_of}
 use Rattle.entity_names.specs.Known.{NamesAs}
 use Rattle.proc_table.specs.Table.{StandsFor as LivesAs}
 use Rattle.fd_table.specs.Table.{HoldsAs, AddressesAs}
+use Rattle.flow_events.specs.declared.draft.Draft.{Draft}
 use Rattle.flow_events.specs.declared.draft.Ground.{Ground}
+use Rattle.flow_events.specs.declared.acting.Acting.{Acting}
+use Rattle.flow_events.specs.declared.change.Change.{Change}
+use Rattle.flow_events.specs.declared.change.Change.TheVariants.{Nothing}
 use Rattle.acts.specs.declared.act.Act.{Act}
 use Rattle.flow_events.specs.declared.work.Worked.{Worked}
-use Rattle.flow_events.specs.declared.work.Begun.{Begun}
 use Rattle.flow_events.specs.Acting.{DoesAs}
 use Rattle.flow_events.specs.Added.{IsPast}
 use Rattle.flow_events.specs.Births.{BornAs}
@@ -46,13 +49,22 @@ pub record IsWorked (ground : Ground) (worked : Worked) (before now : List Taken
   pub held_are : (p n : ℕ) → holds (acts_of now ++ acts_of before) p n ≡ changed worked.last (changed worked.see (holds (acts_of before))) p n
   pub addresses_are : (s : ℕ) → address_of (acts_of now ++ acts_of before) s ≡ readdressed worked.address (address_of (acts_of before)) s
 
+-- nothing of the event is worked out
+pub record IsFresh (worked : Worked) : Type 0 where
+  pub see : worked.see ≡ Nothing
+  pub last : worked.last ≡ Nothing
+  pub address : worked.address ≡ None
+  pub births : BornAs worked.draft.births []
+  pub given : worked.draft.given ≡ []
+  pub added : worked.draft.added ≡ record { keys = []; flows = [] }
+
 -- with these acts of the event the objects are more than there may be, and that is what is said
 pub record IsRefused (ground : Ground) (full : Full) (before now : List Taken) : Type 0 where
   pub past : IsPast ground.most full (objects (acts_of now ++ acts_of before))
 
 -- the event was begun by this act, after this many acts, and this many more are few
-pub record IsBegun (ground : Ground) (begun : Begun) (before : List Taken) (first : Taken) (acts more : ℕ) : Type 0 where
-  pub way : UnderWay ground begun.acting begun.draft before (first ∷ [])
+pub record IsBegun (ground : Ground) (acting : Acting) (draft : Draft) (before : List Taken) (first : Taken) (acts more : ℕ) : Type 0 where
+  pub way : UnderWay ground acting draft before (first ∷ [])
   pub lives_few : LivesBelow ground.procs.now (2 ^ 64 - 1)
   pub acts_are : acts ≡ length before
   pub few : length before + (more + 2) < 2 ^ 63 - 1
@@ -64,14 +76,14 @@ pub record IsFew (ground : Ground) (before : List Taken) (acts more : ℕ) : Typ
   pub few : length before + (more + 2) < 2 ^ 63 - 1
 
 -- with this see the event is under way
-abbrev pub BeginsWay : Ground → ℕ → ℕ → Option (List ℕ) → Begun → Type 0
-BeginsWay ground pid ppid exe begun =
+abbrev pub BeginsWay : Ground → ℕ → ℕ → Option (List ℕ) → Draft → Acting → Type 0
+BeginsWay ground pid ppid exe draft acting =
     (before : List Taken) → Grounded ground before
-    → UnderWay ground begun.acting begun.draft before (see_at ground.ms ground.serial pid ppid exe ∷ [])
+    → UnderWay ground acting draft before (see_at ground.ms ground.serial pid ppid exe ∷ [])
 
 -- the first change of the event is what this see does
-abbrev pub BeginsAs : Ground → ℕ → ℕ → Option (List ℕ) → Begun → Type 0
-BeginsAs ground pid ppid exe begun = (before : List Taken) → Grounded ground before → DoesAs begun.see (acts_of before) (See pid ppid exe)
+abbrev pub BeginsAs : Ground → ℕ → ℕ → Option (List ℕ) → Change → Type 0
+BeginsAs ground pid ppid exe see = (before : List Taken) → Grounded ground before → DoesAs see (acts_of before) (See pid ppid exe)
 
 -- with this see the objects are more than there may be
 abbrev pub SeeIsPast : Ground → ℕ → ℕ → Option (List ℕ) → Full → Type 0
@@ -79,16 +91,16 @@ SeeIsPast ground pid ppid exe full =
     (before : List Taken) → Grounded ground before → IsPast ground.most full (objects (See pid ppid exe ∷ acts_of before))
 
 -- an event that was begun after this many acts does these births and moves, oldest first, and this last act
-abbrev pub GoesOnWith : Ground → Begun → ℕ → List Act → Act → Worked → Type 0
-GoesOnWith ground begun acts front last worked =
-    (before : List Taken) (first : Taken) → Grounded ground before → IsBegun ground begun before first acts (length front)
+abbrev pub GoesOnWith : Ground → Acting → (begun : Worked) → ℕ → List Act → Act → (worked : Worked) → Type 0
+GoesOnWith ground acting begun acts front last worked =
+    (before : List Taken) (first : Taken) → Grounded ground before → IsBegun ground acting begun.draft before first acts (length front)
     → DoesAs begun.see (acts_of before) first.act
     → IsWorked ground worked before (taken_at ground last ∷ (turned ground.ms ground.serial front ++ first ∷ []))
 
 -- with the acts of such an event the objects are more than there may be
-abbrev pub GoesPast : Ground → Begun → ℕ → List Act → Act → Full → Type 0
-GoesPast ground begun acts front last full =
-    (before : List Taken) (first : Taken) → IsBegun ground begun before first acts (length front)
+abbrev pub GoesPast : Ground → Acting → Draft → ℕ → List Act → Act → Full → Type 0
+GoesPast ground acting draft acts front last full =
+    (before : List Taken) (first : Taken) → IsBegun ground acting draft before first acts (length front)
     → IsPast ground.most full (objects (last ∷ (acts_of (turned ground.ms ground.serial front ++ first ∷ []) ++ acts_of before)))
 
 -- after this many acts, the event does this see and then the rest, oldest first

@@ -1,5 +1,5 @@
 //! The objects and flows that an event adds.
-ghost use Rattle.std.specs.Prelude.{◌≡◌, ◌≤◌, ◌<◌, ◌≢◌, [], Some, length, OnOk, IfOk, position, reverse};
+ghost use Rattle.std.specs.Prelude.{◌≡◌, ◌≤◌, ◌<◌, ◌≢◌, [], Some, length, OnOk, IfOk, position};
 ghost use Rattle.flow_base.specs.contracts.types.KeyPartialEq.TheImpl.{ghosts};
 ghost use Rattle.std.specs.List.{position_or_len};
 ghost use Rattle.acts.specs.Keys.{put_new};
@@ -11,13 +11,12 @@ use entity_names::Entities;
 use flow_base::{
     EntityId, Flow, Full, Key, Limit, List, NoMemory, Refused, Stamp, equal_keys_are_one,
 };
-use std::alloc::Global;
 use std::marker::Model;
 
 /// The objects and flows that an event adds.
 #[derive(Drop)]
 pub struct Added {
-    keys: Vec<Key>,
+    keys: List<Key>,
     flows: List<Flow>,
 }
 
@@ -26,18 +25,17 @@ impl Model for Added {
 
     ghost Value = { Additions };
 
-    ghost view = { λ a. record { keys = a.keys.items; flows = a.flows } };
+    ghost view = { λ a. record { keys = a.keys; flows = a.flows } };
 }
 
 impl Added {
-    /// Nothing.
-    pub fn new(alloc: Global) -> Added
+    /// Nothing, with the memory of these lists.
+    pub fn over(keys: List<Key>, flows: List<Flow>) -> Added
+        requires keys { keys ≡ [] }
+        requires flows { flows ≡ [] }
         ensures { result ≡ record { keys = []; flows = [] } }
     {
-        Added {
-            keys: Vec::new(alloc),
-            flows: List::new(alloc),
-        }
+        Added { keys, flows }
     }
 
     #[tactic(auto, using(crate::proofs::Numbering::known_number, crate::proofs::Numbering::new_number, crate::proofs::Numbering::known_stays, crate::proofs::Numbering::new_comes, crate::proofs::Numbering::still_fits, crate::proofs::Numbering::still_new))]
@@ -110,29 +108,27 @@ impl Added {
         Ok(())
     }
 
-    /// The objects, newest first, and the flows.
+    /// The objects and the flows.
     pub fn apart(self) -> (List<Key>, List<Flow>)
-        ensures keys { result.0 ≡ reverse self.keys }
+        ensures keys { result.0 ≡ self.keys }
         ensures flows { result.1 ≡ self.flows }
     {
-        let Added { mut keys, flows } = self;
-        keys.reverse();
-        (List::from_vec(keys), flows)
+        let Added { keys, flows } = self;
+        (keys, flows)
     }
 }
 
 // The place of a key among these, after which it is put if it is new. They are the new keys of one event, so they are few.
-fn put_new(keys: &mut Vec<Key>, key: Key) -> Result<usize, NoMemory>
-    ensures keys { OnOk result (keys.new.items ≡ put_new ghosts.eq keys.old.items key) }
-    ensures place { IfOk result
-        (λ place. place ≡ position_or_len (ghosts.eq key) keys.old.items) }
-    ensures within { IfOk result (λ place. place < length keys.new.items) }
-    ensures few { IfOk result (λ place. place ≤ length keys.old.items) }
+fn put_new(keys: &mut List<Key>, key: Key) -> Result<usize, NoMemory>
+    ensures keys { OnOk result (keys.new ≡ put_new ghosts.eq keys.old key) }
+    ensures place { IfOk result (λ place. place ≡ position_or_len (ghosts.eq key) keys.old) }
+    ensures within { IfOk result (λ place. place < length keys.new) }
+    ensures few { IfOk result (λ place. place ≤ length keys.old) }
 {
     match find(keys.as_slice(), &key) {
         Some(place) => Ok(place),
         None => {
-            let place = keys.len();
+            let place = keys.as_slice().len();
             keys.push(key)?;
             Ok(place)
         }

@@ -139,6 +139,13 @@ impl Model for Fresh {
 }
 
 impl Fresh {
+    /// No file was born yet, and there is room for no birth.
+    pub fn none() -> Fresh
+        ensures { BornAs result [] }
+    {
+        Fresh { table: None }
+    }
+
     /// No file was born yet, and there is room for this many births.
     pub fn new(alloc: Global, salt: Salt, more: usize) -> Result<Fresh, NoMemory>
         ensures births { IfOk result (λ fresh. BornAs fresh []) }

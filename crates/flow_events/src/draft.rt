@@ -86,18 +86,14 @@ pub struct Ground<'a> {
 }
 
 impl Draft {
-    /// Nothing yet, with room for this many births.
-    pub fn start(alloc: Global, salt: Salt, more: usize) -> Result<Draft, NoMemory>
-        ensures births { IfOk result (λ draft. BornAs draft.births []) }
-        ensures room { IfOk result (λ draft. more ≤ draft.births.spare) }
-        ensures given { IfOk result (λ draft. draft.given ≡ []) }
-        ensures added { IfOk result (λ draft. draft.added ≡ record { keys = []; flows = [] }) }
+    /// Makes room for this many births in an event that has none yet.
+    pub fn expect(&mut self, alloc: Global, salt: Salt, more: usize) -> Result<(), NoMemory>
+        ensures births { OnOk result (BornAs self.new.births []) }
+        ensures room { OnOk result (more ≤ self.new.births.spare) }
+        ensures rest { self.new ≡ record self.old { births = self.new.births } }
     {
-        Ok(Draft {
-            births: Fresh::new(alloc, salt, more)?,
-            given: List::new(alloc),
-            added: Added::new(alloc),
-        })
+        self.births = Fresh::new(alloc, salt, more)?;
+        Ok(())
     }
 
     /// Works out the see that comes first, which links this.

@@ -1,5 +1,5 @@
 //! The parts of a plan, put in the order in which they are done.
-ghost use Rattle.std.specs.Prelude.{◌≡◌, List, IfOk, map, reverse};
+ghost use Rattle.std.specs.Prelude.{◌≡◌, [], List, IfOk, map, reverse};
 
 use crate::given::Given;
 use acts::copy_key;
@@ -20,6 +20,15 @@ pub fn newest_first<T: Drop>(alloc: Global, items: List<T>) -> Result<List<T>, N
         turned.push(item)?;
     }
     Ok(turned)
+}
+
+/// A list without items that has the memory of this one, in place of which one without memory stays.
+pub fn emptied<T: Drop>(alloc: Global, items: &mut List<T>) -> List<T>
+    ensures { result ≡ [] }
+{
+    let mut left = std::mem::replace(items, List::new(alloc));
+    while let Some(_) = left.pop() {}
+    left
 }
 
 /// The keys that are named.

@@ -56,15 +56,14 @@ fn give(entities: &mut Entities, given: Given)
     }
 }
 
-/// Gives keys these names, the newest of which stands first.
-pub fn give_all(entities: &mut Entities, given: List<Given>)
-    requires room { Covers entities.old given }
-    ensures next { AddsNames entities.old entities.new (pairs_of given) }
+/// Gives keys these names, the newest of which stands first. None is left.
+pub fn give_all(entities: &mut Entities, given: &mut List<Given>)
+    requires room { Covers entities.old given.old }
+    ensures next { AddsNames entities.old entities.new (pairs_of given.old) }
     ensures saved { SavedAlike entities.old entities.new }
     ensures rest { entities.new ≡ record entities.old { names = entities.new.names } }
 {
     equal_keys_are_one();
-    let mut given = given;
     while let Some(one) = given.pop() {
         give(entities, one);
     }
@@ -84,14 +83,13 @@ pub fn enter(entities: &mut Entities, key: Key)
     }
 }
 
-/// Enters these keys, the newest of which stands first.
-pub fn enter_all(entities: &mut Entities, keys: List<Key>)
-    requires room { length keys ≤ entities.old.spare }
-    requires fits { length (entered entities.old.keys keys) ≤ entities.old.limit }
-    ensures keys { entities.new.keys ≡ entered entities.old.keys keys }
+/// Enters these keys, the newest of which stands first. None is left.
+pub fn enter_all(entities: &mut Entities, keys: &mut List<Key>)
+    requires room { length keys.old ≤ entities.old.spare }
+    requires fits { length (entered entities.old.keys keys.old) ≤ entities.old.limit }
+    ensures keys { entities.new.keys ≡ entered entities.old.keys keys.old }
     ensures rest { ChangesKeys entities.old entities.new }
 {
-    let mut keys = keys;
     while let Some(key) = keys.pop() {
         enter(entities, key);
     }

@@ -1,12 +1,15 @@
 //! What an event will do, with all the memory for it.
-ghost use Rattle.std.specs.Prelude.{◌≡◌, ◌≤◌, ℕ, IfOk, reverse};
+ghost use Rattle.std.specs.Prelude.{◌≡◌, ◌≤◌, ℕ, OnOk, reverse};
 ghost use Rattle.fd_table.specs.Table.{address_at, HoldsTheSame};
 ghost use Rattle.flow_events.specs.Standing.{readdressed, addresses_in};
+ghost use Rattle.flow_events.specs.Working.{IsFresh};
 
+use crate::added::Added;
+use crate::births::Fresh;
 use crate::change::Change;
 use crate::draft::Draft;
 use crate::given::Given;
-use crate::parts::newest_first;
+use crate::parts::{emptied, newest_first};
 use crate::work::Worked;
 use acts::Act;
 use fd_table::Fds;
@@ -20,7 +23,7 @@ pub struct NewAddress {
     pub bytes: Bytes,
 }
 
-/// What an event will do to the tables.
+/// What an event will do to the tables. It is used again for the next event, with the memory of its lists.
 #[derive(Drop)]
 pub struct Plan {
     /// The acts, the oldest first.
@@ -38,47 +41,74 @@ pub struct Plan {
     pub unmapped: bool,
 }
 
-/// The plan of an event with these acts, the oldest first, once it is worked out.
-pub fn plan_of(
-    alloc: Global,
-    acts: List<Act>,
-    worked: Worked,
-    unmapped: bool,
-) -> Result<Plan, NoMemory>
-    ensures acts { IfOk result (λ plan. plan.acts ≡ acts) }
-    ensures changes { IfOk result (λ plan. (plan.see ≡ worked.see) × (plan.last ≡ worked.last)) }
-    ensures address { IfOk result (λ plan. plan.address ≡ worked.address) }
-    ensures given { IfOk result (λ plan. plan.given ≡ reverse worked.draft.given) }
-    ensures keys { IfOk result (λ plan. plan.keys ≡ reverse worked.draft.added.keys) }
-    ensures flows { IfOk result (λ plan. plan.flows ≡ worked.draft.added.flows) }
-    ensures unmapped { IfOk result (λ plan. plan.unmapped ≡ unmapped) }
-{
-    let Worked {
-        see,
-        last,
-        address,
-        draft,
-    } = worked;
-    let Draft {
-        births: _,
-        given,
-        added,
-    } = draft;
-    let given = newest_first(alloc, given)?;
-    let (keys, flows) = added.apart();
-    Ok(Plan {
-        acts,
-        see,
-        last,
-        address,
-        given,
-        keys,
-        flows,
-        unmapped,
-    })
-}
-
 impl Plan {
+    /// Nothing.
+    pub fn new(alloc: Global) -> Plan {
+        Plan {
+            acts: List::new(alloc),
+            see: Change::Nothing,
+            last: Change::Nothing,
+            address: None,
+            given: List::new(alloc),
+            keys: List::new(alloc),
+            flows: List::new(alloc),
+            unmapped: false,
+        }
+    }
+
+    /// Work that has not begun, with the memory of the lists that the last event left here.
+    pub fn take_room(&mut self, alloc: Global) -> Worked
+        ensures fresh { IsFresh result }
+        ensures acts { self.new.acts ≡ self.old.acts }
+        ensures unmapped { self.new.unmapped ≡ self.old.unmapped }
+    {
+        Worked {
+            see: Change::Nothing,
+            last: Change::Nothing,
+            address: None,
+            draft: Draft {
+                births: Fresh::none(),
+                given: emptied(alloc, &mut self.given),
+                added: Added::over(
+                    emptied(alloc, &mut self.keys),
+                    emptied(alloc, &mut self.flows),
+                ),
+            },
+        }
+    }
+
+    /// Puts in what was worked out.
+    pub fn put(&mut self, alloc: Global, worked: Worked) -> Result<(), NoMemory>
+        ensures acts { self.new.acts ≡ self.old.acts }
+        ensures unmapped { self.new.unmapped ≡ self.old.unmapped }
+        ensures see { OnOk result (self.new.see ≡ worked.see) }
+        ensures last { OnOk result (self.new.last ≡ worked.last) }
+        ensures address { OnOk result (self.new.address ≡ worked.address) }
+        ensures given { OnOk result (self.new.given ≡ reverse worked.draft.given) }
+        ensures keys { OnOk result (self.new.keys ≡ reverse worked.draft.added.keys) }
+        ensures flows { OnOk result (self.new.flows ≡ worked.draft.added.flows) }
+    {
+        let Worked {
+            see,
+            last,
+            address,
+            draft,
+        } = worked;
+        let Draft {
+            births: _,
+            given,
+            added,
+        } = draft;
+        let (keys, flows) = added.apart();
+        self.see = see;
+        self.last = last;
+        self.address = address;
+        self.given = newest_first(alloc, given)?;
+        self.keys = newest_first(alloc, keys)?;
+        self.flows = flows;
+        Ok(())
+    }
+
     /// The flows that the event will make, in their order.
     pub fn flows(&self) -> &[Flow]
         ensures { result.now ≡ self.now.flows }

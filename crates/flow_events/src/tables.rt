@@ -19,12 +19,12 @@ ghost use Rattle.flow_events.specs.Standing.{HasGrown, HasLimits, HasRooms, IsRe
 ghost use Rattle.stored.specs.Words.{state_of};
 
 use crate::births::Births;
-use crate::change::{make_change, need};
+use crate::change::{Change, make_change, need};
 use crate::draft::Ground;
 use crate::filled::{Filled, fill_all};
 use crate::parts::named_keys;
 use crate::passes::{bear_through, enter_all, give_all, live_through};
-use crate::plan::{Plan, plan_of, readdress};
+use crate::plan::{Plan, readdress};
 use crate::rows::{TableRows, since_rows};
 use crate::since::{Since, mark_event, note_event, reserve_event};
 use crate::work::work_event;
@@ -32,11 +32,12 @@ use acts::{Act, each_beginning_is_an_act};
 use call_acts::{acts_are_of_one_event, is_unmapped};
 use entity_names::Entities;
 use fd_table::Fds;
-use flow_base::{Flow, Full, Limit, Limits, List, NoMemory, Refused};
+use flow_base::{Full, Limit, Limits, NoMemory, Refused};
 use proc_table::Procs;
 use record_join::EventView;
 use row_codec::StoreRow;
 use std::alloc::Global;
+use std::mem::replace;
 use table_salt::Salt;
 
 // Whether an event with these acts has a call that is not in the table. One that does has its see alone, so the call
@@ -203,15 +204,21 @@ impl Tables {
         self.acts
     }
 
-    /// Works out what an event will do, and takes all the memory for it. The tables stand for the same acts as before.
-    pub fn prepare(&mut self, alloc: Global, event: &EventView<'_>) -> Result<Plan, Refused>
+    /// Works out what an event will do, into `plan`, and takes all the memory for it. The tables stand for the same acts as
+    /// before. Of what the plan was before only its memory matters; if the event is refused, it may be anything.
+    pub fn prepare(
+        &mut self,
+        alloc: Global,
+        event: &EventView<'_>,
+        plan: &mut Plan,
+    ) -> Result<(), Refused>
         requires safe { AreSafe self.old }
         requires few { HasNumbersFor self.old (length (acts_of_event self.old.limits event.now)) }
-        ensures plan { IfOk result (PlansEvent self.old event.now) }
-        ensures acts { IfOk result (λ plan. plan.acts ≡ acts_of_event self.old.limits event.now) }
-        ensures flows { IfOk result (PlanFlows self.old event.now.ms) }
-        ensures unmapped { IfOk result (λ plan. plan.unmapped ≡ is_unmapped event.now.records.now) }
-        ensures ready { IfOk result (λ plan. IsReady self.new plan) }
+        ensures plan { OnOk result (PlansEvent self.old event.now plan.new) }
+        ensures acts { OnOk result (plan.new.acts ≡ acts_of_event self.old.limits event.now) }
+        ensures flows { OnOk result (PlanFlows self.old event.now.ms plan.new) }
+        ensures unmapped { OnOk result (plan.new.unmapped ≡ is_unmapped event.now.records.now) }
+        ensures ready { OnOk result (IsReady self.new plan.new) }
         ensures same { StandsAsBefore self.old self.new }
         ensures safe { AreSafe self.new }
         ensures room { DiffersInRoom self.old self.new }
@@ -222,69 +229,61 @@ impl Tables {
         ensures full { IfFull result (EventPasses self.old event.now) }
     {
         acts_are_of_one_event();
-        let acts = call_acts::acts(alloc, event, &self.limits)?;
-        let unmapped = is_lone_unmapped(event, acts.as_slice());
-        self.prepare_acts(alloc, acts, event.ms, event.key.serial, unmapped)
+        plan.acts = call_acts::acts(alloc, event, &self.limits)?;
+        plan.unmapped = is_lone_unmapped(event, plan.acts.as_slice());
+        self.prepare_acts(alloc, event.ms, event.key.serial, plan)
     }
 
     #[tactic(auto, using(crate::proofs::Rooming::stands_still, crate::proofs::Rooming::since_stays, crate::proofs::Rooming::marks_stay))]
-    /// Works out what these acts of one event, the oldest first, will do, and takes all the memory for it. The tables
-    /// stand for the same acts as before.
+    /// Works out what the acts of the plan, which are of one event, the oldest first, will do, and takes all the memory for
+    /// it. The tables stand for the same acts as before.
     pub fn prepare_acts(
         &mut self,
         alloc: Global,
-        acts: List<Act>,
         ms: u64,
         serial: u32,
-        unmapped: bool,
-    ) -> Result<Plan, Refused>
-        requires event { IsEvent acts }
+        plan: &mut Plan,
+    ) -> Result<(), Refused>
+        requires event { IsEvent plan.old.acts }
         requires safe { AreSafe self.old }
-        requires few { HasNumbersFor self.old (length acts) }
-        ensures plan { IfOk result (PlansActs self.old ms serial acts) }
-        ensures acts { IfOk result (λ plan. plan.acts ≡ acts) }
-        ensures flows { IfOk result (PlanFlows self.old ms) }
-        ensures unmapped { IfOk result (λ plan. plan.unmapped ≡ unmapped) }
-        ensures ready { IfOk result (λ plan. IsReady self.new plan) }
+        requires few { HasNumbersFor self.old (length plan.old.acts) }
+        ensures plan { OnOk result (PlansActs self.old ms serial plan.old.acts plan.new) }
+        ensures acts { plan.new.acts ≡ plan.old.acts }
+        ensures flows { OnOk result (PlanFlows self.old ms plan.new) }
+        ensures unmapped { plan.new.unmapped ≡ plan.old.unmapped }
+        ensures ready { OnOk result (IsReady self.new plan.new) }
         ensures same { StandsAsBefore self.old self.new }
         ensures safe { AreSafe self.new }
         ensures room { DiffersInRoom self.old self.new }
         ensures since { StaysSince self.old self.new }
         ensures marks { StaysMarked self.old self.new }
         ensures limits { (limits : Limits) → HasLimits limits self.old → HasLimits limits self.new }
-        ensures fits { IfOk result (λ plan. ActsFit self.old ms serial acts) }
-        ensures full { IfFull result (ActsPass self.old ms serial acts) }
+        ensures fits { OnOk result (ActsFit self.old ms serial plan.old.acts) }
+        ensures full { IfFull result (ActsPass self.old ms serial plan.old.acts) }
     {
-        let plan = self.plan(alloc, acts, ms, serial, unmapped)?;
+        self.plan(alloc, ms, serial, plan)?;
         if self.limits.flows < self.flows + plan.flows.as_slice().len() as u64 {
             return Err(Refused::Full(Full {
                 limit: Limit::Flows,
                 number: self.limits.flows,
             }));
         }
-        self.make_room(alloc, &plan)?;
-        Ok(plan)
+        self.make_room(alloc, plan)?;
+        Ok(())
     }
 
-    // Works out what these acts will do.
-    fn plan(
-        &self,
-        alloc: Global,
-        acts: List<Act>,
-        ms: u64,
-        serial: u32,
-        unmapped: bool,
-    ) -> Result<Plan, Refused>
-        requires event { IsEvent acts }
+    // Works out what the acts of the plan will do.
+    fn plan(&self, alloc: Global, ms: u64, serial: u32, plan: &mut Plan) -> Result<(), Refused>
+        requires event { IsEvent plan.old.acts }
         requires safe { AreSafe self.now }
-        requires few { HasNumbersFor self.now (length acts) }
-        ensures plan { IfOk result (PlansActs self.now ms serial acts) }
-        ensures acts { IfOk result (λ plan. plan.acts ≡ acts) }
-        ensures unmapped { IfOk result (λ plan. plan.unmapped ≡ unmapped) }
-        ensures fits { IfOk result (PlanFits self.now) }
-        ensures flows { IfOk result (PlanFlows self.now ms) }
-        ensures more { IfOk result (λ plan. length plan.flows ≤ length acts) }
-        ensures full { IfFull result (ActsPassObjects self.now ms serial acts) }
+        requires few { HasNumbersFor self.now (length plan.old.acts) }
+        ensures plan { OnOk result (PlansActs self.now ms serial plan.old.acts plan.new) }
+        ensures acts { plan.new.acts ≡ plan.old.acts }
+        ensures unmapped { plan.new.unmapped ≡ plan.old.unmapped }
+        ensures fits { OnOk result (PlanFits self.now plan.new) }
+        ensures flows { OnOk result (PlanFlows self.now ms plan.new) }
+        ensures more { OnOk result (length plan.new.flows ≤ length plan.old.acts) }
+        ensures full { IfFull result (ActsPassObjects self.now ms serial plan.old.acts) }
     {
         each_beginning_is_an_act();
         let ground = Ground {
@@ -298,8 +297,10 @@ impl Tables {
             ms,
             serial,
         };
-        let worked = work_event(&ground, self.acts, acts.as_slice())?;
-        Ok(plan_of(alloc, acts, worked, unmapped)?)
+        let mut worked = plan.take_room(alloc);
+        work_event(&ground, self.acts, plan.acts.as_slice(), &mut worked)?;
+        plan.put(alloc, worked)?;
+        Ok(())
     }
 
     /// Makes room for what was planned, and changes nothing else.
@@ -319,45 +320,34 @@ impl Tables {
         Ok(())
     }
 
-    /// Does what was planned, and returns its flows. It takes no memory.
-    pub fn apply(&mut self, plan: Plan) -> List<Flow>
-        requires ready { IsReady self.old plan }
+    /// Does what was planned. It takes no memory, and the plan keeps its flows.
+    pub fn apply(&mut self, plan: &mut Plan)
+        requires ready { IsReady self.old plan.old }
         requires safe { AreSafe self.old }
-        ensures next { GoesOnStanding self.old self.new plan }
-        ensures flows { AddsFlows plan result }
+        ensures next { GoesOnStanding self.old self.new plan.old }
+        ensures flows { AddsFlows plan.old plan.new.flows }
         ensures limits { (limits : Limits) → HasLimits limits self.old → HasLimits limits self.new }
-        ensures since { GoesOnSince self.old self.new plan }
-        ensures marks { GoesOnMarked self.old self.new plan }
+        ensures since { GoesOnSince self.old self.new plan.old }
+        ensures marks { GoesOnMarked self.old self.new plan.old }
         ensures safe { AreSafe self.new }
-        ensures grown { HasGrown self.old self.new plan }
-        ensures same { result ≡ plan.flows }
+        ensures grown { HasGrown self.old self.new plan.old }
+        ensures same { plan.new.flows ≡ plan.old.flows }
     {
-        let Plan {
-            acts,
-            see,
-            last,
-            address,
-            given,
-            keys,
-            flows,
-            unmapped: _,
-        } = plan;
         note_event(
             &mut self.since,
             &self.procs,
             &self.fds,
-            acts.as_slice(),
-            &address,
+            plan.acts.as_slice(),
+            &plan.address,
         );
-        live_through(&mut self.procs, acts.as_slice());
-        bear_through(&mut self.births, acts.as_slice());
-        make_change(&mut self.fds, see);
-        make_change(&mut self.fds, last);
-        readdress(&mut self.fds, address);
-        give_all(&mut self.entities, given);
-        enter_all(&mut self.entities, keys);
-        self.flows += flows.as_slice().len() as u64;
-        self.acts += acts.as_slice().len() as u64;
-        flows
+        live_through(&mut self.procs, plan.acts.as_slice());
+        bear_through(&mut self.births, plan.acts.as_slice());
+        make_change(&mut self.fds, replace(&mut plan.see, Change::Nothing));
+        make_change(&mut self.fds, replace(&mut plan.last, Change::Nothing));
+        readdress(&mut self.fds, plan.address.take());
+        give_all(&mut self.entities, &mut plan.given);
+        enter_all(&mut self.entities, &mut plan.keys);
+        self.flows += plan.flows.as_slice().len() as u64;
+        self.acts += plan.acts.as_slice().len() as u64;
     }
 }

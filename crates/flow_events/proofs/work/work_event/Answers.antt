@@ -1,7 +1,9 @@
-use Rattle.std.proofs.Common.{rules, ◌≡◌, ◌-◌, ◌++◌, [], ◌∷◌, length, List, take, drop, None, refl, subst, sym, arith}
+use Rattle.std.proofs.Common.{rules, ◌≡◌, ◌-◌, ◌++◌, [], ◌∷◌, ◌∙◌, ap, length, List, take, drop, subst, sym, arith}
 use Rattle.std.proofs.lemmas.Result.{IfErr-weaker}
-use Rattle.flow_events.specs.declared.change.Change.TheVariants.{Nothing}
-use Rattle.flow_events.specs.declared.work.Worked.{Worked}
+use Rattle.acts.specs.Flows.{acts_of}
+use Rattle.acts.specs.Holding.{holds, address_of}
+use Rattle.flow_events.specs.Changes.{changed}
+use Rattle.flow_events.specs.Standing.{readdressed}
 use Rattle.flow_events.specs.Drafts.{turned}
 use Rattle.flow_events.specs.Working.{IsRefused, IsWorked, see_at}
 use Rattle.acts.specs.declared.act.Taken.{Taken}
@@ -10,16 +12,16 @@ use Rattle.flow_events.proofs.Beginning.{drafted_nothing}
 use Rattle.flow_events.proofs.Resting.{none_left, rest_shorter}
 use Rattle.flow_events.proofs.work.work_event.Goals as goal
 
-pub returns-in_ok-start-in-empty-clause-worked : goal.returns-in_ok-start-in-empty-clause-worked
-returns-in_ok-start-in-empty-clause-worked c = λ before enough.
+pub returns-in-empty-clause-worked : goal.returns-in-empty-clause-worked
+returns-in-empty-clause-worked c = λ before enough.
     let ground = c.args.ground.now in
-    let start = c.in_ok-start-in-empty.ensures in
-    let draft = c.in_ok-start-in-empty.field-0 in
-    let worked : Worked = record { see = Nothing; last = Nothing; address = None; draft = draft } in
+    let fresh = c.requires.fresh in
+    let worked = c.args.worked.now in
     subst (λ acts. IsWorked ground worked before (turned ground.ms ground.serial acts)) (sym (none_left c.args.acts.now c.in-empty.len_below)) (record {
-      drafted = drafted_nothing ground draft before enough.grounded start.births start.given start.added;
-      held_are = λ p n. refl;
-      addresses_are = λ s. refl;
+      drafted = drafted_nothing ground worked.draft before enough.grounded fresh.births fresh.given fresh.added;
+      held_are = λ p n. ap (λ change. changed change (holds (acts_of before)) p n) (sym fresh.see)
+          ∙ ap (λ change. changed change (changed worked.see (holds (acts_of before))) p n) (sym fresh.last);
+      addresses_are = λ s. ap (λ new. readdressed new (address_of (acts_of before)) s) (sym fresh.address);
     })
 
 pub returns-in-See-clause-full : goal.returns-in-See-clause-full

@@ -13,9 +13,9 @@ returns-clause-flows c =
     let same = c.equal_keys_are_one.ensures.same in
     let known = c.args.entities.now.keys in
     let after = ap (λ v. known ++ v.keys) c.self.view_is ∙ c.in_ok-to.ensures.keys in
-    let from = from_number same (known ++ c.args.self.now.keys) (known ++ c.number.new.self.keys) (known ++ c.self.inside.keys.items) c.args.link.from c.args.link.to c.in_ok-from.from.0
+    let from = from_number same (known ++ c.args.self.now.keys) (known ++ c.number.new.self.keys) (known ++ c.self.inside.keys) c.args.link.from c.args.link.to c.in_ok-from.from.0
     c.in_ok-from.ensures.keys after c.in_ok-from.ensures.id in
-    let to = to_number same (known ++ c.number.new.self.keys) (known ++ c.self.inside.keys.items) c.args.link.to c.in_ok-to.to.0 after c.in_ok-to.ensures.id in
+    let to = to_number same (known ++ c.number.new.self.keys) (known ++ c.self.inside.keys) c.args.link.to c.in_ok-to.to.0 after c.in_ok-to.ensures.id in
     let flows = ap (λ v. v.flows) c.self.view_is ∙ c.in_ok-to.ensures.flows ∙ c.in_ok-from.ensures.flows in
     c.in_ok-push.ensures.ok ∙ (λ i. flows i ++ record {
       from = record { 0 = from i };
@@ -29,7 +29,7 @@ pub returns-clause-numbered : goal.returns-clause-numbered
 returns-clause-numbered c = λ place is so_far.
     let one : AreOne = record { exact = c.equal_keys_are_one.ensures.exact; same = c.equal_keys_are_one.ensures.same } in
     let known = c.args.entities.now.keys in
-    let all = known ++ c.self.inside.keys.items in
+    let all = known ++ c.self.inside.keys in
     let keys = ap (λ v. known ++ v.keys) c.self.view_is ∙ c.in_ok-to.ensures.keys ∙ ap (λ seen. put_new ghosts.eq seen c.args.link.to) c.in_ok-from.ensures.keys in
     let fits : length all ≤ c.args.most = subst (λ (ks : List Key). length ks ≤ c.args.most) (ap (λ v. known ++ v.keys) (sym c.self.view_is)) c.in_ok-to.ensures.fits in
     let flows = returns-clause-flows c ∙ ap (λ (p : ℕ). c.args.self.now.flows ++ flow_of all c.args.at.ms c.args.serial p c.args.link ∷ []) is in

@@ -20,24 +20,25 @@ pub work_event-requires : goal.work_event-requires
 work_event-requires c =
     let few = c.requires.few in
     let flows = c.requires.safe.flows_few in
-    let slice = ap length c.as_slice.ensures in
+    let slice = ap length (c.as_slice.ensures ∙ c.take_room-worked.ensures.acts) in
     record {
       few = omega (arith, few, slice);
       limit = c.requires.safe.limit_is;
       fits = rw c.requires.safe.limit_is c.requires.safe.objects_fit;
-      event = subst IsEvent (sym c.as_slice.ensures) c.requires.event;
+      event = subst IsEvent (sym (c.as_slice.ensures ∙ c.take_room-worked.ensures.acts)) c.requires.event;
       flows = omega (arith, few, flows, slice);
+      fresh = c.take_room-worked.ensures.fresh;
     }
 
 pub returns-clause-plan : goal.returns-clause-plan
 returns-clause-plan c = λ before may.
     let stands = may.stands in
-    let slice = c.as_slice.ensures in
-    let plan = c.in_ok-plan_of.field-0 in
-    let is = c.in_ok-plan_of.ensures in
-    let work = c.in_ok-worked.ensures in
+    let slice = c.as_slice.ensures ∙ c.take_room-worked.ensures.acts in
+    let plan = c.put.new.self in
+    let is = c.in_ok-put.ensures in
+    let work = c.in_ok-work_event.ensures in
     subst (λ acts. IsPlanOf text_of plan before (turned c.args.ms c.args.serial acts)) slice
-    (planned _ c.in_ok-worked.worked plan before c.as_slice.result.now
+    (planned _ c.work_event.new.worked plan before c.as_slice.result.now
     (work.worked before (record {
       grounded = record {
         lives_are = stands.lives_are;
@@ -49,24 +50,24 @@ returns-clause-plan c = λ before may.
         flows_are = stands.flows_are;
         admitted = may.admitted;
         few = (let few = may.few in omega (arith, few));
-        lives_few = few_lives c.args.self.now.procs before (length c.args.acts) c.each_beginning_is_an_act.ensures stands.lives_are may.few;
+        lives_few = few_lives c.args.self.now.procs before (length c.args.plan.now.acts) c.each_beginning_is_an_act.ensures stands.lives_are may.few;
       };
       acts_are = stands.acts_are;
       few = (let few = may.few in let same = ap length slice in omega (arith, few, same));
     }))
-    work.new stands.objects_are (is.acts ∙ sym slice) is.changes.0 is.changes.1 is.address is.given is.keys is.flows)
+    work.new stands.objects_are (c.put.ensures.acts ∙ c.take_room-worked.ensures.acts ∙ sym slice) is.see is.last is.address is.given is.keys is.flows)
 
 pub returns-clause-more : goal.returns-clause-more
 returns-clause-more c =
-    let fewer = c.in_ok-worked.ensures.more in
-    let slice = ap length c.as_slice.ensures in
-    let same = ap length c.in_ok-plan_of.ensures.flows in
+    let fewer = c.in_ok-work_event.ensures.more in
+    let slice = ap length (c.as_slice.ensures ∙ c.take_room-worked.ensures.acts) in
+    let same = ap length c.in_ok-put.ensures.flows in
     omega (arith, fewer, slice, same)
 
 pub returns-clause-flows : goal.returns-clause-flows
 returns-clause-flows c =
-    let is = c.in_ok-plan_of.ensures in
-    let work = c.in_ok-worked.ensures in
+    let is = c.in_ok-put.ensures in
+    let work = c.in_ok-work_event.ensures in
     let known = c.args.self.now.entities.keys in
     record {
       go_on = subst (GoOn (length known)) (sym is.flows) work.numbered.go_on;
@@ -74,16 +75,16 @@ returns-clause-flows c =
       stand = subst (StandFrom c.args.ms c.args.self.now.flows) (sym is.flows) work.numbered.stand;
     }
 
-pub returns-in_err-worked-clause-full : goal.returns-in_err-worked-clause-full
-returns-in_err-worked-clause-full c =
+pub returns-in_err-work_event-clause-full : goal.returns-in_err-work_event-clause-full
+returns-in_err-work_event-clause-full c =
     let p = err_from_is_err_and c.from_residual.result c.from_residual.ensures.1 in
     rw (p.1, p.2) (λ full is before may.
     let stands = may.stands in
-    let slice = c.as_slice.ensures in
+    let slice = c.as_slice.ensures ∙ c.take_room-worked.ensures.acts in
     let now = turned c.args.ms c.args.serial c.as_slice.result.now in
     subst (λ acts. IsPast c.args.self.now.limits.entities full (objects (acts_of (turned c.args.ms c.args.serial acts ++ before)))) slice
     (subst (λ all. IsPast c.args.self.now.limits.entities full (objects all)) (sym (joined now before))
-    ((c.in_err-worked.ensures.full full (ap (error_or (fault.Full full)) is) before (record {
+    ((c.in_err-work_event.ensures.full full (ap (error_or (fault.Full full)) is) before (record {
       grounded = record {
         lives_are = stands.lives_are;
         held_are = stands.held_are;
@@ -94,7 +95,7 @@ returns-in_err-worked-clause-full c =
         flows_are = stands.flows_are;
         admitted = may.admitted;
         few = (let few = may.few in omega (arith, few));
-        lives_few = few_lives c.args.self.now.procs before (length c.args.acts) c.each_beginning_is_an_act.ensures stands.lives_are may.few;
+        lives_few = few_lives c.args.self.now.procs before (length c.args.plan.now.acts) c.each_beginning_is_an_act.ensures stands.lives_are may.few;
       };
       acts_are = stands.acts_are;
       few = (let few = may.few in let same = ap length slice in omega (arith, few, same));
