@@ -67,6 +67,8 @@ pub struct EventFlows<R: Reducer, K: Keep> {
     alloc: Global,
     join: Join,
     tables: Tables,
+    /// What the event that is released will do. Between events only its memory matters.
+    plan: Plan,
     kept: KeptFlows<R, K>,
     counts: EventCounts,
     /// The records that were dropped.
@@ -110,6 +112,7 @@ impl<R: Reducer, K: Keep> EventFlows<R, K> {
             alloc,
             join: Join::new(alloc, limits),
             tables: Tables::new(alloc, salt, limits),
+            plan: Plan::new(alloc),
             kept: KeptFlows::new(reducer, keep),
             counts: EventCounts::new(),
             excess: 0,
@@ -155,6 +158,7 @@ impl<R: Reducer, K: Keep> EventFlows<R, K> {
                 alloc,
                 join,
                 tables,
+                plan: Plan::new(alloc),
                 kept,
                 counts: EventCounts::restore(state),
                 excess: state.excess,
@@ -433,12 +437,19 @@ impl<R: Reducer, K: Keep> EventFlows<R, K> {
         let Some(event) = self.join.peek() else {
             unreachable!()
         };
-        let plan = match take_event(self.alloc, &mut self.tables, &mut self.kept, &event) {
-            Ok(plan) => plan,
+        let taken = take_event(
+            self.alloc,
+            &mut self.tables,
+            &mut self.kept,
+            &event,
+            &mut self.plan,
+        );
+        match taken {
+            Ok(()) => {}
             Err(cause) => return Err(cause),
-        };
-        self.counts.count(event.late, plan.unmapped());
-        let _ = self.tables.apply(plan);
+        }
+        self.counts.count(event.late, self.plan.unmapped());
+        self.tables.apply(&mut self.plan);
         let _ = self.join.pass();
         Ok(())
     }
@@ -483,14 +494,15 @@ impl<R: Reducer, D: Disk> EventFlows<R, Store<D>> {
     }
 }
 
-// Works out what an event does, with all the memory for it, and takes its flows in. If it is refused, nothing has changed,
-// and the tables say the same as before in any case.
+// Works out what an event does, into `plan`, with all the memory for it, and takes its flows in. If it is refused, nothing
+// has changed, and the tables say the same as before in any case.
 fn take_event<R: Reducer, K: Keep>(
     alloc: Global,
     tables: &mut Tables,
     kept: &mut KeptFlows<R, K>,
     event: &EventView<'_>,
-) -> Result<Plan, Refused>
+    plan: &mut Plan,
+) -> Result<(), Refused>
     requires together { GoTogether event.now.ms tables.old kept.old.kept }
     requires limits { HasLimits tables.old.limits tables.old }
     requires few { tables.old.acts + (2 * length event.now.records.now + 4 + 2) < 2 ^ 63 - 1 }
@@ -498,34 +510,39 @@ fn take_event<R: Reducer, K: Keep>(
     ensures room { DiffersInRoom tables.old tables.new }
     ensures safe { AreSafe tables.new }
     ensures limits { HasLimits tables.old.limits tables.new }
-    ensures acts { IfOk result (λ plan.
-        length plan.acts ≤ 4 + 2 * length event.now.records.now) }
-    ensures kept { IfOk result (λ plan.
-        KeptWith tables.old (event_seen event.now) kept.old.kept kept.new.kept) }
+    ensures acts { OnOk result
+        (length plan.new.acts ≤ 4 + 2 * length event.now.records.now) }
+    ensures kept { OnOk result
+        (KeptWith tables.old (event_seen event.now) kept.old.kept kept.new.kept) }
     ensures refused { OnErr result (kept.new.kept ≡ kept.old.kept) }
     ensures alike { K.alike kept.old.keep kept.new.keep }
-    ensures goes_on { IfOk result (λ plan.
-        GoWithPlan event.now.ms tables.old plan kept.new.kept) }
-    ensures ready { IfOk result (λ plan. IsReady tables.new plan) }
-    ensures unmapped { IfOk result (λ plan. plan.unmapped ≡ is_unmapped (event_seen event.now)) }
-    ensures plan { IfOk result (IsPlanFor tables.old (event_seen event.now)) }
-    ensures fits { IfOk result (λ plan. IsFullWith tables.old (event_seen event.now) None) }
+    ensures goes_on { OnOk result
+        (GoWithPlan event.now.ms tables.old plan.new kept.new.kept) }
+    ensures ready { OnOk result (IsReady tables.new plan.new) }
+    ensures unmapped { OnOk result (plan.new.unmapped ≡ is_unmapped (event_seen event.now)) }
+    ensures plan { OnOk result (IsPlanFor tables.old (event_seen event.now) plan.new) }
+    ensures fits { OnOk result (IsFullWith tables.old (event_seen event.now) None) }
     ensures full { (full : Full) → result ≡ Err (why.Full full)
         → IsFullWith tables.old (event_seen event.now) (Some full) }
 {
     flows_of_acts_are_lawful();
-    let plan = match plan_event(alloc, tables, event) {
-        Ok(plan) => plan,
+    match plan_event(alloc, tables, event, plan) {
+        Ok(()) => {}
         Err(refused) => return Err(refused),
-    };
+    }
     match kept.take(plan.flows()) {
-        Ok(()) => Ok(plan),
+        Ok(()) => Ok(()),
         Err(NoMemory) => Err(Refused::NoMemory),
     }
 }
 
-// Works out what an event does, with all the memory for it. The tables say the same as before.
-fn plan_event(alloc: Global, tables: &mut Tables, event: &EventView<'_>) -> Result<Plan, Refused>
+// Works out what an event does, into `plan`, with all the memory for it. The tables say the same as before.
+fn plan_event(
+    alloc: Global,
+    tables: &mut Tables,
+    event: &EventView<'_>,
+    plan: &mut Plan,
+) -> Result<(), Refused>
     requires safe { AreSafe tables.old }
     requires limits { HasLimits tables.old.limits tables.old }
     requires few { tables.old.acts + (2 * length event.now.records.now + 4 + 2) < 2 ^ 63 - 1 }
@@ -533,19 +550,19 @@ fn plan_event(alloc: Global, tables: &mut Tables, event: &EventView<'_>) -> Resu
     ensures room { DiffersInRoom tables.old tables.new }
     ensures safe { AreSafe tables.new }
     ensures limits { HasLimits tables.old.limits tables.new }
-    ensures acts { IfOk result (λ plan.
-        length plan.acts ≤ 4 + 2 * length event.now.records.now) }
-    ensures flows { IfOk result (PlanFlows tables.old event.now.ms) }
-    ensures ready { IfOk result (λ plan. IsReady tables.new plan) }
-    ensures unmapped { IfOk result (λ plan. plan.unmapped ≡ is_unmapped (event_seen event.now)) }
-    ensures plan { IfOk result (IsPlanFor tables.old (event_seen event.now)) }
-    ensures fits { IfOk result (λ plan. IsFullWith tables.old (event_seen event.now) None) }
+    ensures acts { OnOk result
+        (length plan.new.acts ≤ 4 + 2 * length event.now.records.now) }
+    ensures flows { OnOk result (PlanFlows tables.old event.now.ms plan.new) }
+    ensures ready { OnOk result (IsReady tables.new plan.new) }
+    ensures unmapped { OnOk result (plan.new.unmapped ≡ is_unmapped (event_seen event.now)) }
+    ensures plan { OnOk result (IsPlanFor tables.old (event_seen event.now) plan.new) }
+    ensures fits { OnOk result (IsFullWith tables.old (event_seen event.now) None) }
     ensures full { (full : Full) → result ≡ Err (why.Full full)
         → IsFullWith tables.old (event_seen event.now) (Some full) }
 {
     acts_are_few();
-    match tables.prepare(alloc, event) {
-        Ok(plan) => Ok(plan),
+    match tables.prepare(alloc, event, plan) {
+        Ok(()) => Ok(()),
         Err(refused) => Err(refused),
     }
 }

@@ -44,7 +44,7 @@ invariant_of-self-2 g c =
     let next = c.in-Some.ensures _ w.s w.join_is in
     let bounds = c.apply.ensures.limits _ c.in-Ok.ensures.limits in
     in_time_by _ _ _ _ _ bounds.limits_are
-    (in_time_followed _ _ _ _ _ _ _ _ event c.in-Ok.plan w next (c.pass.ensures.stands _ w.s w.join_is) c.in-Ok.ensures.room c.apply.ensures.grown c.apply.ensures.safe bounds c.in-Ok.ensures.goes_on)
+    (in_time_followed _ _ _ _ _ _ _ _ event c.take_event.new.plan w next (c.pass.ensures.stands _ w.s w.join_is) c.in-Ok.ensures.room c.apply.ensures.grown c.apply.ensures.safe bounds c.in-Ok.ensures.goes_on)
 
 pub returns-clause-next : goal.returns-clause-next
 returns-clause-next g c = λ limits s released event stands few next.
