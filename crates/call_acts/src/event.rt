@@ -1,5 +1,5 @@
 //! The acts of an event.
-ghost use Rattle.std.specs.Prelude.{◌≡◌, ◌++◌, OnOk, IfOk};
+ghost use Rattle.std.specs.Prelude.{◌≡◌, [], ◌++◌, OnOk, IfOk};
 ghost use Rattle.call_acts.specs.Acts.{kind_acts, acts_by, row_of, event_acts, event_call, is_unmapped};
 
 use crate::answers::fd;
@@ -14,20 +14,46 @@ use crate::records::call;
 use crate::transfers::{map, pass, read, receive, send, write};
 use acts::Act;
 use audit_record::{Record, Syscall};
-use flow_base::{Limits, List, NoMemory};
+use flow_base::{Bytes, Limits, List, NoMemory};
 use record_join::EventView;
 use std::alloc::Global;
 
-/// The acts of an event, in order. Each call shows its caller first, also where it was refused or isn't in the table.
-pub fn acts(alloc: Global, event: &EventView<'_>, limits: &Limits) -> Result<List<Act>, NoMemory>
-    ensures { IfOk result (λ made. made ≡ event_acts limits.now.path event.now.records.now) }
+/// Makes the list the acts of an event, in order. Each call shows its caller first, also where it was refused or isn't in
+/// the table. The acts that the list had before are dropped, and their memory is used again. If allocation fails, the
+/// list may have any acts.
+pub fn acts(
+    alloc: Global,
+    event: &EventView<'_>,
+    limits: &Limits,
+    done: &mut List<Act>,
+) -> Result<(), NoMemory>
+    ensures { OnOk result (done.new ≡ event_acts limits.now.path event.now.records.now) }
 {
-    let mut done = List::new(alloc);
+    let room = empty(done);
     if let Some(call) = call(event.records) {
-        done.push(see(call)?)?;
-        act(alloc, limits.path, event.records, call, &mut done)?;
+        done.push(see(call, room)?)?;
+        act(alloc, limits.path, event.records, call, done)?;
     }
-    Ok(done)
+    Ok(())
+}
+
+// Takes all acts out of the list. The program of a see among them is returned, since its memory serves the next see.
+fn empty(done: &mut List<Act>) -> Option<Bytes>
+    ensures { done.new ≡ [] }
+{
+    let mut room = None;
+    while let Some(act) = done.pop() {
+        room = program_of(act).or(room);
+    }
+    room
+}
+
+// The program of a see.
+fn program_of(act: Act) -> Option<Bytes> {
+    match act {
+        Act::See { exe, .. } => exe,
+        _ => None,
+    }
 }
 
 /// The kind of call of an event's call.
@@ -54,12 +80,12 @@ fn row_of(call: &Syscall) -> Option<Row>
     row_at(call.arch, call.number)
 }
 
-// The call shows its caller.
-fn see(call: &Syscall) -> Result<Act, NoMemory>
+// The call shows its caller, whose program is put into the memory of an earlier one.
+fn see(call: &Syscall, room: Option<Bytes>) -> Result<Act, NoMemory>
     ensures { IfOk result (λ act. act ≡ Act.See call.now.pid call.now.ppid call.now.exe) }
 {
     let exe = match &call.exe {
-        Some(exe) => Some(exe.copy()?),
+        Some(exe) => Some(copy_into(room, exe)?),
         None => None,
     };
     Ok(Act::See {
@@ -67,6 +93,20 @@ fn see(call: &Syscall) -> Result<Act, NoMemory>
         ppid: call.ppid,
         exe,
     })
+}
+
+// A copy of a text, in the memory of an earlier text if there is one.
+fn copy_into(room: Option<Bytes>, text: &Bytes) -> Result<Bytes, NoMemory>
+    ensures { IfOk result (λ made. made ≡ text.now) }
+{
+    match room {
+        Some(mut made) => {
+            made.clear();
+            made.append(text.as_slice())?;
+            Ok(made)
+        }
+        None => text.copy(),
+    }
 }
 
 fn act(

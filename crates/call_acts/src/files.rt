@@ -144,18 +144,18 @@ fn make_each(
     for record in records {
         if let Some(item) = path_of(record, NameKind::Create) {
             let file = file_in(alloc, limit, cwd, item)?;
-            bear(call, &file, done)?;
+            bear(call, file, done)?;
         }
     }
     Ok(())
 }
 
 /// A file is born, and made by the caller.
-pub fn bear(call: &Syscall, file: &FileRef, done: &mut List<Act>) -> Result<(), NoMemory>
-    ensures { OnOk result (done.new ≡ done.old ++ bears call.now file.now) }
+pub fn bear(call: &Syscall, file: FileRef, done: &mut List<Act>) -> Result<(), NoMemory>
+    ensures { OnOk result (done.new ≡ done.old ++ bears call.now file) }
 {
     done.push(Act::Birth {
-        file: copy_file(file)?,
+        file: copy_file(&file)?,
     })?;
-    done.push(outward(call, How::Make, Thing::File(copy_file(file)?)))
+    done.push(outward(call, How::Make, Thing::File(file)))
 }

@@ -67,7 +67,7 @@ fn open_file(
     ensures { OnOk result (done.new ≡ done.old ++ opens_file call.now flags fd created file) }
 {
     if created {
-        bear(call, &file, done)?;
+        bear(call, copy_file(&file)?, done)?;
     } else if has(flags, TRUNCATE) {
         done.push(outward(call, How::Alter, Thing::File(copy_file(&file)?)))?;
     }

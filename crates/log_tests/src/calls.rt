@@ -14,7 +14,7 @@ use cases::Said::Path;
 use cases::{Case, X86_64, call, one_record, path, records, view};
 use descriptors::DESCRIPTORS;
 use files::FILES;
-use flow_base::Limits;
+use flow_base::{Limits, List};
 use opens::OPENS;
 use processes::PROCESSES;
 use std::test::Fail;
@@ -38,6 +38,7 @@ static OTHERS: [Case; 3] = [
 fn each_call_does_what_its_row_says(rt: HostRuntime) -> Result<(), Fail> {
     let alloc = rt.alloc();
     let limits = Limits::standard();
+    let mut done = List::new(alloc);
     let tables: [&[Case]; 6] = [
         &TRANSFERS,
         &OPENS,
@@ -50,7 +51,7 @@ fn each_call_does_what_its_row_says(rt: HostRuntime) -> Result<(), Fail> {
         for case in table {
             for first in [false, true] {
                 let records = records(alloc, case, first)?;
-                let done = acts(alloc, &view(records.as_slice()), &limits)?;
+                acts(alloc, &view(records.as_slice()), &limits, &mut done)?;
                 let told = told(alloc, done.as_slice())?;
                 let (number, wanted) = (case.0, case.4);
                 let wanted = format!(in alloc; "see 100 1 /p; {wanted}")?;
@@ -65,18 +66,19 @@ fn each_call_does_what_its_row_says(rt: HostRuntime) -> Result<(), Fail> {
 fn events_without_a_row_show_their_caller_at_most(rt: HostRuntime) -> Result<(), Fail> {
     let alloc = rt.alloc();
     let limits = Limits::standard();
+    let mut done = List::new(alloc);
     // The same number at another architecture is another call.
     let records = one_record(alloc, call(alloc, 0x4000_0003, 3, Done(0), [3, 0, 0, 0])?)?;
     let event = view(records.as_slice());
     assert!(rt; is_unmapped(&event));
     assert_eq!(rt; event_call(&event), None);
-    let done = acts(alloc, &event, &limits)?;
+    acts(alloc, &event, &limits, &mut done)?;
     assert_eq!(rt; told(alloc, done.as_slice())?.as_str(), "see 100 1 /p; ");
     // Paths without a call.
     let records = one_record(alloc, path(alloc, NameKind::Create, Some(7), Some("/f"))?)?;
     let event = view(records.as_slice());
     assert!(rt; !is_unmapped(&event));
-    let done = acts(alloc, &event, &limits)?;
+    acts(alloc, &event, &limits, &mut done)?;
     assert!(rt; done.as_slice().is_empty());
     Ok(())
 }

@@ -645,7 +645,9 @@ fn take_plainly_by(
 ) -> Result<bool, NoMemory> {
     let records = records(alloc, step)?;
     let event = view(records.as_slice(), number);
-    let done = newest_first(alloc, acts(alloc, &event, &Limits::standard())?)?;
+    let mut done = List::new(alloc);
+    acts(alloc, &event, &Limits::standard(), &mut done)?;
+    let done = newest_first(alloc, done)?;
     Ok(take_plainly(plain, done, number).is_ok())
 }
 
