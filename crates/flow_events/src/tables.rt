@@ -229,7 +229,7 @@ impl Tables {
         ensures full { IfFull result (EventPasses self.old event.now) }
     {
         acts_are_of_one_event();
-        plan.acts = call_acts::acts(alloc, event, &self.limits)?;
+        call_acts::acts(alloc, event, &self.limits, &mut plan.acts)?;
         plan.unmapped = is_lone_unmapped(event, plan.acts.as_slice());
         self.prepare_acts(alloc, event.ms, event.key.serial, plan)
     }

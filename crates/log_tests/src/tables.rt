@@ -15,7 +15,7 @@ use flow_base::{
     Bytes, Device, EntityId, FileId, Flow, Full, How, Key, Limit, Limits, List, NoMemory, Refused,
     Stamp,
 };
-use flow_events::Tables;
+use flow_events::{Plan, Tables};
 use proc_table::Life;
 use record_join::EventView;
 use row_codec::{StateRow, StoreRow};
@@ -250,10 +250,11 @@ fn view(records: &[Record], number: u32) -> EventView<'_> {
     }
 }
 
-// The tables after the events so far, with the limits that they were made with.
+// The tables after the events so far, with the limits that they were made with, and the plan that each event uses again.
 #[derive(Drop)]
 struct Course {
     tables: Tables,
+    plan: Plan,
     limits: Limits,
 }
 
@@ -268,10 +269,16 @@ impl Model for Course {
     ghost invariant = { λ a. IsCourse a.limits a.tables };
 }
 
+// A list of these flows.
+fn copied(alloc: Global, flows: &[Flow]) -> Result<List<Flow>, NoMemory> {
+    Ok(List::from_vec(Vec::from_slice(alloc, flows)?))
+}
+
 impl Course {
     fn new(alloc: Global, limits: Limits) -> Course {
         Course {
             tables: Tables::new(alloc, Salt::fixed(), &limits),
+            plan: Plan::new(alloc),
             limits,
         }
     }
@@ -283,8 +290,10 @@ impl Course {
         if self.tables.acts() > 1_000_000 || event.records.len() > 1_000_000 {
             return Err(Refused::NoMemory);
         }
-        let plan = self.tables.prepare(alloc, event)?;
-        Ok(self.tables.apply(plan))
+        self.tables.prepare(alloc, event, &mut self.plan)?;
+        let flows = copied(alloc, self.plan.flows())?;
+        self.tables.apply(&mut self.plan);
+        Ok(flows)
     }
 
     // Prepares an event and leaves it at that: the flows of its plan, and whether its call isn't known.
@@ -297,12 +306,9 @@ impl Course {
             return Err(Refused::NoMemory);
         }
         acts_are_few();
-        let plan = self.tables.prepare(alloc, event)?;
-        let mut flows = List::new(alloc);
-        for flow in plan.flows() {
-            flows.push(*flow)?;
-        }
-        Ok((flows, plan.unmapped()))
+        self.tables.prepare(alloc, event, &mut self.plan)?;
+        let flows = copied(alloc, self.plan.flows())?;
+        Ok((flows, self.plan.unmapped()))
     }
 
     fn step(&mut self, alloc: Global, step: &Step, number: u32) -> Result<List<Flow>, Refused> {

@@ -35,8 +35,8 @@ invariant_of-self-2 c =
     joined now before ∙ ap (λ all. all ++ acts_of before) (turned_acts event.ms event.key.serial acts) in
     record {
       before = now ++ before;
-      stands = c.apply.ensures.next text_of before now (c.in_ok-plan.ensures.same text_of before kept.stands) (c.in_ok-plan.ensures.plan limits before come);
+      stands = c.apply.ensures.next text_of before now (c.prepare.ensures.same text_of before kept.stands) (c.in_ok-prepare.ensures.plan limits before come);
       admitted = subst Admitted (sym order) (c.event_acts_are_admitted.ensures limits.path event.records.now (acts_of before) kept.admitted);
-      limited = c.apply.ensures.limits limits (c.in_ok-plan.ensures.limits limits kept.limited);
+      limited = c.apply.ensures.limits limits (c.prepare.ensures.limits limits kept.limited);
       safe = c.apply.ensures.safe;
     }
