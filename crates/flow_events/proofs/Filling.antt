@@ -1,8 +1,8 @@
 -- What is filled has one more row, and stands for the acts of a moment once it has all.
-use Rattle.std.proofs.Common.{◌≡◌, ◌∙◌, ◌≤◌, ◌+◌, ◌<◌, refl, sym, ap, subst, ℕ, Bool, true, false, List, [], ◌∷◌, ◌++◌, map, take, length, Option, Some, None, arith, drop, length-append, get_or}
-use Rattle.std.specs.Prelude.{◌==◌, ◌&&◌, not, fold, if◌then◌else◌, unwrap_or, nat_eq}
+use Rattle.std.proofs.Common.{◌≡◌, ◌∙◌, ◌≤◌, ◌+◌, ◌<◌, refl, sym, ap, subst, ℕ, Bool, true, false, List, [], ◌∷◌, ◌++◌, take, length, Option, Some, None, arith, drop, length-append, get_or}
+use Rattle.std.specs.Prelude.{◌==◌, ◌&&◌, not, fold, if◌then◌else◌, nat_eq}
 use Rattle.std.specs.Map.{lookup}
-use Rattle.std.specs.List.{list_any, flat_map}
+use Rattle.std.specs.List.{list_any}
 use Rattle.std.proofs.lemmas.Grind.{common_steps, fold-append, flat_map-append}
 use Rattle.std.proofs.lemmas.List.{append-nil, take_more, take-append-drop}
 use Rattle.flow_base.specs.declared.limits.Limits.{Limits}
@@ -11,7 +11,6 @@ use Rattle.flow_base.specs.declared.types.Key.{Key}
 use Rattle.flow_base.specs.contracts.types.KeyPartialEq.TheImpl.{ghosts}
 use Rattle.flow_base.specs.contracts.types.FileIdPartialEq.TheImpl.{ghosts as files}
 use Rattle.acts.specs.declared.act.Act.{Act}
-use Rattle.acts.specs.declared.act.Taken.{Taken}
 use Rattle.acts.specs.declared.held.Held.{Held as AHeld}
 use Rattle.acts.specs.declared.link.Link.{Link}
 use Rattle.acts.specs.declared.look_back.lives.Standing.{Standing}

@@ -1,13 +1,12 @@
 -- Descriptors are noted one after the other.
-use Rattle.std.proofs.Common.{◌≡◌, ◌∙◌, ◌<◌, ◌≤◌, ◌-◌, refl, sym, ap, subst, ℕ, Bool, true, false, List, [], ◌∷◌, ◌++◌, length, take, get_or, Option, Some, None, arith}
-use Rattle.std.specs.Prelude.{◌==◌, ◌||◌, ◌&&◌, ◌+◌, not, if◌then◌else◌, is_some, nat_eq, Result, Ok, Err, OnOk, OnErr}
+use Rattle.std.proofs.Common.{◌≡◌, ◌∙◌, ◌<◌, refl, sym, ap, subst, ℕ, Bool, true, false, List, [], ◌∷◌, ◌++◌, length, take, get_or, Option, Some, None, arith}
+use Rattle.std.specs.Prelude.{◌==◌, ◌||◌, ◌&&◌, ◌+◌, is_some, nat_eq, Result, Ok, Err, OnOk, OnErr}
 use Rattle.std.specs.List.{list_any}
 use Rattle.std.proofs.lemmas.Bool.Decides.{nat_tests}
 use Rattle.std.proofs.lemmas.Grind.{common_steps}
 use Rattle.std.proofs.lemmas.List.{take_more}
 use Rattle.acts.specs.declared.act.Act.{Act}
 use Rattle.acts.specs.declared.held.Held.{Held}
-use Rattle.acts.specs.declared.held.Object.{Object}
 use Rattle.acts.specs.Holding.{is_at}
 use Rattle.fd_table.specs.Table.{Table as Fds, held_at, is_marked, object_in}
 use Rattle.flow_events.specs.Since.{AddsHeld, HasEach, HasThose, StillHas, any_may_put, any_touches, has_slot, may_put, touches}

@@ -1,8 +1,7 @@
 -- The rows that say what is remembered are those of a commit. Every list of acts has the newest first.
-use Rattle.std.proofs.Common.{◌≡◌, ◌∙◌, ◌≤◌, refl, sym, ap, subst, inr, ℕ, Bool, true, false, List, [], ◌∷◌, ◌++◌, length, drop, Option, Some, None, is_some, arith}
+use Rattle.std.proofs.Common.{◌≡◌, ◌∙◌, refl, sym, ap, subst, inr, ℕ, Bool, true, false, List, [], ◌∷◌, ◌++◌, length, drop, Option, Some, None, is_some, arith}
 use Rattle.std.specs.Prelude.{◌==◌, ◌&&◌, ◌||◌, ◌+◌, not, if◌then◌else◌, unwrap_or}
 use Rattle.std.specs.Option.{option_map}
-use Rattle.std.specs.List.{Contains}
 use Rattle.std.proofs.lemmas.Bool.Decides.{nat_tests}
 use Rattle.std.proofs.lemmas.List.{map-append}
 use Rattle.flow_base.specs.declared.types.FileId.{FileId}
@@ -14,19 +13,19 @@ use Rattle.acts.specs.declared.look_back.lives.Standing.{Standing}
 use Rattle.acts.specs.Admitted.{Admitted}
 use Rattle.acts.specs.Births.{born, is_birth_of}
 use Rattle.acts.specs.Flows.{acts_of, objects}
-use Rattle.acts.specs.Holding.{holds, is_at, address_of, marked, unless_marked, socket_or}
-use Rattle.acts.specs.Lives.{live, beginnings, begins, begins_by_see, awaits, is_child}
+use Rattle.acts.specs.Holding.{holds, is_at, address_of}
+use Rattle.acts.specs.Lives.{live, beginnings, begins, begins_by_see, is_child}
 use Rattle.acts.specs.Standing.{standing}
 use Rattle.acts.proofs.Holdings.{only_live}
 use Rattle.proc_table.specs.declared.life.Life.{Life}
 use Rattle.proc_table.specs.Table.{Table as Procs, StandsFor as LivesAs, at, standing_of}
 use Rattle.fd_table.specs.Table.{Table as Fds, HoldsAs, AddressesAs, held_at, address_at}
 use Rattle.entity_names.specs.Known.{Known, names_at as known_at}
-use Rattle.stored.specs.Batch.{AreTablesOf, Tells, IsCalledFor, HeldAs, WasHeld, left_held, names_at, names_pid, names_socket, since_names, said, stays}
+use Rattle.stored.specs.Batch.{AreTablesOf, Tells, HeldAs, WasHeld, left_held, names_at, names_pid, said}
 use Rattle.flow_events.specs.Births.{Table as Births, BornAs, born_at}
-use Rattle.flow_events.specs.Since.{Memory, ArePids, AreFiles, AreSockets, AreSlots, ArePuts, IsSince, LivesOn, Remembers, file_named, has_file, has_slot, has_socket, is_since, is_touched, pid_in, pid_named}
+use Rattle.flow_events.specs.Since.{Memory, ArePids, AreFiles, AreSockets, AreSlots, ArePuts, IsSince, LivesOn, Remembers, file_named, has_file, has_slot, has_socket, is_since, pid_in, pid_named}
 use Rattle.flow_events.specs.Remembering.{StandsSince}
-use Rattle.flow_events.specs.Rows.{AreTableRows, Parts, SayRemembered, TellRemembered, address_word, batch_of, births_word, goes_on, held_word, is_live, is_written, life_word, slot_word, word_in}
+use Rattle.flow_events.specs.Rows.{AreTableRows, Parts, SayRemembered, TellRemembered, batch_of, held_word, is_live, is_written, life_word, slot_word, word_in}
 use Rattle.flow_events.specs.declared.rows.TableRows.{TableRows}
 use Rattle.flow_events.specs.declared.tables.Tables.{Tables}
 use Rattle.flow_events.proofs.SinceLaws.{unnamed_stands}

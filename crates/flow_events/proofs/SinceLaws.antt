@@ -22,7 +22,7 @@ use Rattle.proc_table.specs.Table.{Table as Procs, StandsFor as LivesAs, at, sta
 use Rattle.fd_table.specs.Table.{Table as Fds, HoldsAs, AddressesAs, address_at}
 use Rattle.stored.specs.Batch.{names_pid, names_socket, since_names}
 use Rattle.flow_events.proofs.SlotLaws.{puts_next, slots_next, slots_noted}
-use Rattle.flow_events.specs.Since.{Memory, AddsHeld, ArePids, AreFiles, AreSockets, AreSlots, ArePuts, DiffersInNamed, DiffersInSlots, DiffersInSockets, HasEach, HasThose, IsSameMemory, StillHas, any_may_put, any_touches, IsSince, NotesPid, NotesFile, NotesSocket, pid_in, has_file, has_socket, pid_named, file_named, is_address, changes_address}
+use Rattle.flow_events.specs.Since.{Memory, AddsHeld, ArePids, AreFiles, AreSockets, AreSlots, ArePuts, DiffersInNamed, DiffersInSlots, DiffersInSockets, HasEach, HasThose, IsSameMemory, StillHas, any_may_put, any_touches, IsSince, NotesPid, NotesFile, NotesSocket, pid_in, has_file, has_socket, pid_named, is_address, changes_address}
 use Rattle.flow_events.specs.declared.plan.NewAddress.{NewAddress}
 use Rattle.flow_events.specs.Standing.{readdressed}
 

@@ -1,5 +1,5 @@
 -- What is remembered of descriptors goes on with each act. Every list of acts has the newest first.
-use Rattle.std.proofs.Common.{◌≡◌, ◌∙◌, ◌≤◌, ◌⊎◌, inl, inr, refl, sym, ap, subst, ℕ, suc, Bool, true, false, List, [], ◌∷◌, ◌++◌, length, reverse, drop, append_assoc, length-append, Option, Some, None, arith}
+use Rattle.std.proofs.Common.{◌≡◌, ◌∙◌, ◌≤◌, ◌⊎◌, inl, inr, refl, sym, ap, subst, ℕ, suc, Bool, true, false, List, [], ◌∷◌, ◌++◌, reverse, Option, Some, None, arith}
 use Rattle.std.specs.Prelude.{◌==◌, ◌||◌, ◌&&◌, ◌+◌, not, if◌then◌else◌, is_some}
 use Rattle.std.specs.List.{list_any}
 use Rattle.std.proofs.lemmas.Bool.Decides.{nat_tests}
@@ -7,9 +7,9 @@ use Rattle.std.proofs.lemmas.List.{reverse-append}
 use Rattle.acts.specs.declared.act.Act.{Act}
 use Rattle.acts.specs.declared.act.Act.TheVariants.{See, Fork, End, Exec, Set, SetBoth, Copy, Close, Mark, Address, Birth, Move}
 use Rattle.acts.specs.declared.held.Held.{Held}
-use Rattle.acts.specs.Holding.{holds, is_at, marked, unless_marked, socket_or}
-use Rattle.acts.specs.Lives.{live, awaited, awaits, beginnings, begins, begins_by_see, is_child}
-use Rattle.fd_table.specs.Table.{Table as Fds, HoldsAs, held_at, is_marked}
+use Rattle.acts.specs.Holding.{holds, is_at, unless_marked}
+use Rattle.acts.specs.Lives.{live, beginnings, begins, begins_by_see, is_child}
+use Rattle.fd_table.specs.Table.{Table as Fds, HoldsAs, held_at}
 use Rattle.stored.specs.Batch.{WasHeld}
 use Rattle.flow_events.specs.Since.{Memory, AddsHeld, ArePids, AreFiles, ArePuts, AreSockets, AreSlots, DiffersInSlots, HasEach, HasThose, IsSince, LivesOn, StillHas, any_may_put, any_touches, has_slot, may_put, touches}
 

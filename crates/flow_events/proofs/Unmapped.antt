@@ -1,5 +1,5 @@
 -- Events whose call is not in the table.
-use Rattle.std.proofs.Common.{◌≡◌, ◌<◌, ◌≤◌, ◌∷◌, ℕ, Bool, true, false, sym, ap, refl, List, Option, None, Some, length, arith}
+use Rattle.std.proofs.Common.{◌≡◌, ◌<◌, ◌∷◌, ℕ, false, ap, refl, List, Option, None, Some, length, arith}
 use Rattle.audit_record.specs.declared.types.Record.{Record}
 use Rattle.audit_record.specs.declared.types.Syscall.{Syscall}
 use Rattle.acts.specs.declared.act.Act.{Act}

@@ -1,5 +1,5 @@
 -- The table rows of a commit: what changed since the mark. Every list of acts is ordered newest first.
-use Rattle.std.specs.Prelude.{◌≡◌, ◌==◌, ◌<◌, ◌++◌, ℕ, Bool, false, List, map, drop, length, Option, Some, None, is_some, not, ◌&&◌, ◌||◌, if◌then◌else◌}
+use Rattle.std.specs.Prelude.{◌≡◌, ◌==◌, ◌<◌, ◌++◌, ℕ, Bool, false, List, map, drop, length, Option, Some, None, is_some, not, ◌||◌, if◌then◌else◌}
 use Rattle.std.specs.List.{Contains}
 use Rattle.std.specs.List.Sorted.{IsStrictlySortedBy}
 use Rattle.std.specs.Map.{lookup, keys_of}

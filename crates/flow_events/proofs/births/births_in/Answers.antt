@@ -1,5 +1,4 @@
-use Rattle.std.proofs.Common.{◌≡◌, ◌+◌, ◌∙◌, ap, arith, take}
-use Rattle.flow_events.specs.Births.{births_in}
+use Rattle.std.proofs.Common.{◌∙◌, arith}
 use Rattle.flow_events.proofs.CountedBirths.{births_more, births_done}
 use Rattle.flow_events.proofs.births.births_in.Goals as goal
 

@@ -1,4 +1,4 @@
-use Rattle.std.proofs.Common.{◌<◌, ◌≤◌, sym, subst, List, length, fold, ℕ, arith}
+use Rattle.std.proofs.Common.{◌<◌, ◌≤◌, sym, subst, length, fold, ℕ, arith}
 use Rattle.flow_base.specs.contracts.types.KeyPartialEq.TheImpl.{ghosts}
 use Rattle.acts.specs.Keys.{put_new}
 use Rattle.store_check.specs.Store.{key_in}

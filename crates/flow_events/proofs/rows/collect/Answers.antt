@@ -1,11 +1,9 @@
-use Rattle.std.proofs.Common.{◌≡◌, ◌∙◌, ℕ, List, Option, None, ap, drop}
+use Rattle.std.proofs.Common.{◌∙◌, ℕ, Option, None, ap, drop}
 use Rattle.std.specs.Prelude.{if◌then◌else◌}
 use Rattle.std.specs.Ordering.{nat_cmp}
 use Rattle.acts.specs.Holding.{is_at}
 use Rattle.proc_table.specs.declared.life.Life.{Life}
-use Rattle.fd_table.specs.Table.{held_at}
 use Rattle.stored.specs.Batch.{IsSlotBefore}
-use Rattle.flow_events.specs.Since.{has_slot}
 use Rattle.flow_events.specs.Rows.{found, held_word, is_live, live_in, word_in}
 use Rattle.flow_events.proofs.Holding.{say_alike}
 use Rattle.flow_events.proofs.rows.collect.Goals as goal

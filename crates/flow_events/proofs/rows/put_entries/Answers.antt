@@ -1,7 +1,7 @@
 use Rattle.std.proofs.Common.{rules, ◌≡◌, ◌==◌, ◌∙◌, sym, ap, [], None}
-use Rattle.std.specs.Prelude.{◌||◌, if◌then◌else◌, ℕ, Bool}
+use Rattle.std.specs.Prelude.{◌||◌, if◌then◌else◌}
 use Rattle.store_check.specs.Store.{newer}
-use Rattle.flow_events.specs.Rows.{found, only_if, slot_cmp, touched_word}
+use Rattle.flow_events.specs.Rows.{found, only_if, slot_cmp}
 use Rattle.flow_events.specs.Since.{is_touched}
 use Rattle.flow_events.proofs.Holding.{entry_put, entry_word, entries_word, none_left}
 use Rattle.flow_events.proofs.rows.put_entries.Goals as goal

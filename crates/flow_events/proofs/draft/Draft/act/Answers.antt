@@ -1,4 +1,4 @@
-use Rattle.std.proofs.Common.{◌≡◌, ◌+◌, ◌-◌, ◌++◌, ◌^◌, ◌∙◌, ap, sym, subst, List, length, ◌∷◌, arith}
+use Rattle.std.proofs.Common.{◌≡◌, ◌+◌, ◌-◌, ◌++◌, ◌^◌, ◌∙◌, ap, sym, List, length, ◌∷◌, arith}
 use Rattle.acts.specs.Flows.{acts_of, objects, flows, link_of, with_ends}
 use Rattle.flow_events.specs.Acting.{IsBorn}
 use Rattle.flow_events.specs.Added.{flows_if}

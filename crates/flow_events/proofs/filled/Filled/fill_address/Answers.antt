@@ -1,4 +1,4 @@
-use Rattle.std.proofs.Common.{◌∙◌, ap, refl, Option, Some, List, ℕ, ◌==◌, if◌then◌else◌, nat_eq}
+use Rattle.std.proofs.Common.{◌∙◌, ap, refl, Some, List, ℕ, ◌==◌, if◌then◌else◌, nat_eq}
 use Rattle.std.specs.Map.{lookup}
 use Rattle.flow_events.proofs.Filling.{address_filled}
 use Rattle.flow_events.proofs.filled.Filled.fill_address.Goals as goal

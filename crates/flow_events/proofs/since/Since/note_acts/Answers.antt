@@ -1,4 +1,4 @@
-use Rattle.std.proofs.Common.{◌≡◌, ◌∙◌, ◌<◌, ◌≤◌, ◌+◌, ◌-◌, sym, subst, ap, List, length, take, reverse, ◌++◌, ℕ, arith}
+use Rattle.std.proofs.Common.{◌≡◌, ◌<◌, ◌≤◌, ◌+◌, ◌-◌, subst, List, length, reverse, ◌++◌, arith}
 use Rattle.std.proofs.lemmas.List.{take_all}
 use Rattle.acts.specs.declared.act.Act.{Act}
 use Rattle.flow_events.specs.Since.{ArePids, HasRoom}

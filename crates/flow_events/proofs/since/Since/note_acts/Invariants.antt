@@ -1,4 +1,4 @@
-use Rattle.std.proofs.Common.{◌≡◌, ◌-◌, ◌++◌, List, length, reverse, take}
+use Rattle.std.proofs.Common.{◌-◌, ◌++◌, List, length, reverse, take}
 use Rattle.acts.specs.declared.act.Act.{Act}
 use Rattle.proc_table.specs.Table.{StandsFor as LivesAs}
 use Rattle.flow_events.specs.Since.{ArePids, AreFiles, DiffersInNamed, HasRoom}

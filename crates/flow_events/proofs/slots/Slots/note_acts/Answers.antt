@@ -1,4 +1,4 @@
-use Rattle.std.proofs.Common.{◌≡◌, ◌≤◌, ◌<◌, ◌+◌, sym, subst, List, length, take, arith}
+use Rattle.std.proofs.Common.{◌≤◌, ◌<◌, subst, List, length, arith}
 use Rattle.std.proofs.lemmas.List.{take_all}
 use Rattle.acts.specs.declared.act.Act.{Act}
 use Rattle.flow_events.specs.Since.{HasThose, any_touches}

@@ -1,6 +1,4 @@
-use Rattle.std.proofs.Common.{◌≡◌, ◌++◌, ◌∙◌, ap, sym, subst, refl, ℕ, List, length, Option, None, Some}
-use Rattle.std.specs.Option.{option_map}
-use Rattle.acts.specs.declared.act.Taken.{Taken}
+use Rattle.std.proofs.Common.{◌++◌, ap, refl}
 use Rattle.acts.specs.Flows.{acts_of}
 use Rattle.entity_names.specs.Known.{Known}
 use Rattle.flow_events.proofs.Rooming.{all_saved, known_marked, marked_again, stands_marked}

@@ -1,4 +1,4 @@
-use Rattle.std.proofs.Common.{◌++◌, ap, refl, Some, length}
+use Rattle.std.proofs.Common.{ap, refl, Some}
 use Rattle.acts.specs.Flows.{acts_of}
 use Rattle.entity_names.specs.Known.{Known}
 use Rattle.flow_events.proofs.Rooming.{all_saved, known_marked, marked_now, stands_marked}
