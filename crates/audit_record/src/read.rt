@@ -22,8 +22,8 @@ use flow_base::{Bytes, Device, FileId, NoMemory};
 use std::alloc::Global;
 
 /// What a line that may have this many bytes gives, if it is a used one. The line and a text between quotes are copied
-/// once, into the memory that `room` has, which the record takes. Of the other fields only those spelled by hex digits
-/// take memory.
+/// once, into the memory that `room` has, which the record takes. Texts and bytes in hex digits take new memory, and the
+/// other fields none.
 pub fn read_line(
     alloc: Global,
     line: &[u8],
