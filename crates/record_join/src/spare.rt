@@ -6,11 +6,11 @@ use flow_base::{Bytes, List};
 use std::alloc::Global;
 use std::marker::Model;
 
-/// Of how many records the memory is kept: few events have more.
+/// How many records' memory is kept: few events have more.
 const MOST_ROOMS: usize = 32;
 
-/// The longest line and the longest text that are kept, in bytes, so that the room of a record that waits is never much
-/// more than its text.
+/// The longest line and the longest text that are kept, in bytes. So a record that waits has at most a few kilobytes of
+/// memory that it doesn't need.
 const LONGEST: usize = 1024;
 
 /// A list without records and rooms, which have the memory of what was dropped.
