@@ -8,9 +8,11 @@
 mod fields;
 mod laws;
 mod read;
+mod room;
 mod texts;
 mod types;
 
 pub use laws::one_record_a_line;
 pub use read::{read_line, read_record};
+pub use room::Room;
 pub use types::{Body, Entry, NameKind, PathItem, Record, Syscall};

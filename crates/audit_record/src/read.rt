@@ -14,19 +14,21 @@ use crate::fields::{
     needed_dec32, needed_handle, needed_hex32, needed_hex64, offered_dec64, offered_device,
     offered_signed, offered_yesno,
 };
+use crate::room::{Room, copied};
 use crate::texts::{needed_bytes, needed_text, offered_text};
 use crate::types::{Body, Entry, NameKind, PathItem, Record, Syscall};
 use audit_lex::{Field, Kind, Scanned, Slots, UsedLine, scan};
 use flow_base::{Bytes, Device, FileId, NoMemory};
 use std::alloc::Global;
 
-/// What a line that may have this many bytes gives, if it is a used one. Its text is copied once, into the memory that
-/// `room` has, which the record takes; of its fields only texts and bytes take memory.
+/// What a line that may have this many bytes gives, if it is a used one. The line and a text between quotes are copied
+/// once, into the memory that `room` has, which the record takes. Texts and bytes in hex digits take new memory, and the
+/// other fields none.
 pub fn read_line(
     alloc: Global,
     line: &[u8],
     limit: usize,
-    room: &mut Bytes,
+    room: &mut Room,
 ) -> Result<Option<Entry>, NoMemory>
     ensures { IfOk result (λ read. GivesEntry limit line.now read) }
 {
@@ -48,7 +50,7 @@ pub fn read_record(alloc: Global, used: &UsedLine<'_>) -> Result<Record, NoMemor
     let Some(scanned) = scan(used.line, used.line.len(), &mut slots) else {
         unreachable!();
     };
-    let mut room = Bytes::new(alloc);
+    let mut room = Room::new(alloc);
     let Some(item) = read_scanned(alloc, used.line, scanned, &slots, &mut room)? else {
         unreachable!();
     };
@@ -79,21 +81,19 @@ fn read_scanned(
     line: &[u8],
     scanned: Scanned<'_>,
     slots: &Slots<'_>,
-    room: &mut Bytes,
+    room: &mut Room,
 ) -> Result<Option<Entry>, NoMemory>
     ensures { IfOk result (λ made. made ≡ option_map (entry_with scanned.entry.key line.now)
         (body_of scanned.entry.kind
         (scanned_value (held slots.now.values) scanned.entry.raw.now))) }
 {
-    let Some(body) = read_body(alloc, scanned, slots)? else {
+    let Some(body) = read_body(alloc, scanned, slots, &mut room.text)? else {
         return Ok(None);
     };
-    let mut text = room.take();
-    text.clear();
-    text.append(line)?;
+    let line = copied(&mut room.line, line)?;
     Ok(Some(Entry::Record(Record {
         key: scanned.key,
-        line: text,
+        line,
         body,
     })))
 }
@@ -102,14 +102,15 @@ fn read_body(
     alloc: Global,
     scanned: Scanned<'_>,
     slots: &Slots<'_>,
+    room: &mut Bytes,
 ) -> Result<Option<Body>, NoMemory>
     ensures { IfOk result (λ said. said ≡ body_of scanned.entry.kind
         (scanned_value (held slots.now.values) scanned.entry.raw.now)) }
 {
     match scanned.kind {
-        Kind::Syscall => call_body(alloc, slots),
-        Kind::Path => path_body(alloc, scanned, slots),
-        Kind::Cwd => cwd_body(alloc, slots),
+        Kind::Syscall => call_body(alloc, slots, room),
+        Kind::Path => path_body(alloc, scanned, slots, room),
+        Kind::Cwd => cwd_body(alloc, slots, room),
         Kind::Sockaddr => sockaddr_body(alloc, slots),
         Kind::FdPair => Ok(pair_body(slots)),
         Kind::Mmap => Ok(mmap_body(slots)),
@@ -118,13 +119,13 @@ fn read_body(
     }
 }
 
-fn call_body(alloc: Global, slots: &Slots<'_>) -> Result<Option<Body>, NoMemory>
+fn call_body(alloc: Global, slots: &Slots<'_>, room: &mut Bytes) -> Result<Option<Body>, NoMemory>
     ensures { IfOk result (λ said. said ≡ body_of kind.Syscall (held_for (held slots.now.values))) }
 {
     let Some(mut call) = numbers_of_call(slots) else {
         return Ok(None);
     };
-    let Some(exe) = offered_text(alloc, slots.field(Field::Exe))? else {
+    let Some(exe) = offered_text(alloc, slots.field(Field::Exe), room)? else {
         return Ok(None);
     };
     call.exe = exe;
@@ -154,6 +155,7 @@ fn path_body(
     alloc: Global,
     scanned: Scanned<'_>,
     slots: &Slots<'_>,
+    room: &mut Bytes,
 ) -> Result<Option<Body>, NoMemory>
     ensures { IfOk result (λ said. said ≡ body_of kind.Path
         (scanned_value (held slots.now.values) scanned.entry.raw.now)) }
@@ -161,7 +163,7 @@ fn path_body(
     let Some((item, file)) = item_and_file(slots) else {
         return Ok(None);
     };
-    let Some(name) = needed_text(alloc, slots.field(Field::Name))? else {
+    let Some(name) = needed_text(alloc, slots.field(Field::Name), room)? else {
         return Ok(None);
     };
     Ok(Some(Body::Path(PathItem {
@@ -182,10 +184,10 @@ fn item_and_file(slots: &Slots<'_>) -> Option<(u32, Option<FileId>)>
     Some((item, file_of(inode, device)))
 }
 
-fn cwd_body(alloc: Global, slots: &Slots<'_>) -> Result<Option<Body>, NoMemory>
+fn cwd_body(alloc: Global, slots: &Slots<'_>, room: &mut Bytes) -> Result<Option<Body>, NoMemory>
     ensures { IfOk result (λ said. said ≡ body_of kind.Cwd (held_for (held slots.now.values))) }
 {
-    let Some(text) = needed_text(alloc, slots.field(Field::Cwd))? else {
+    let Some(text) = needed_text(alloc, slots.field(Field::Cwd), room)? else {
         return Ok(None);
     };
     Ok(Some(Body::Cwd(text)))

@@ -51,9 +51,10 @@ use crate::stop::Stop;
 use crate::store_laws::{
     histories_may_be_committed, stores_follow_histories, stores_say_what_was_left,
 };
+use audit_record::Room;
 use batch_log::{CommitFault, a_disk_reads_in_one_way};
 use call_acts::acts_of_events_are_admitted;
-use flow_base::{Bytes, Full, Limit, Limits, NoMemory, Refused};
+use flow_base::{Full, Limit, Limits, NoMemory, Refused};
 use memchr::memchr;
 use outside::Disk;
 use query_walk::WalkFault;
@@ -79,8 +80,8 @@ pub struct Ingest<R: Reducer, K: Keep> {
     joined: EventFlows<R, K>,
     /// The bytes that were taken in this part of the log.
     part: u64,
-    /// The memory for the text of the next record: that of an earlier one, if there is any.
-    room: Bytes,
+    /// The memory for the next record: that of an earlier one, if there is any.
+    room: Room,
 }
 
 impl<R: Reducer, K: Keep> Model for Ingest<R, K> {
@@ -113,7 +114,7 @@ impl<R: Reducer, K: Keep> Ingest<R, K> {
             reader: LineReader::new(alloc, limits),
             joined: EventFlows::new(alloc, salt, limits, reducer, keep),
             part: 0,
-            room: Bytes::new(alloc),
+            room: Room::new(alloc),
         }
     }
 
@@ -565,7 +566,7 @@ impl<R: Reducer, D: Disk> Ingest<R, Store<D>> {
                     reader,
                     joined,
                     part: state.part,
-                    room: Bytes::new(alloc),
+                    room: Room::new(alloc),
                 })
             }
             Err(back) => Err(Unrestored {

@@ -44,7 +44,7 @@ use crate::commit::rows_around;
 use crate::event_counts::EventCounts;
 use acts::flows_of_acts_are_lawful;
 use audit_lex::EventKey;
-use audit_record::{Entry, Record};
+use audit_record::{Entry, Record, Room};
 use batch_log::CommitFault;
 use call_acts::{acts_are_few, acts_of_events_are_admitted};
 use flow_base::{Bytes, EntityId, Key, Limits, List, NoMemory, Refused};
@@ -177,8 +177,8 @@ impl<R: Reducer, K: Keep> EventFlows<R, K> {
     }
 
     /// Gives the joiner what a line gave. If allocation fails nothing has changed. If it was a record, `room` gets the
-    /// memory of the text of an earlier one, if there is any.
-    pub fn enter(&mut self, given: Entry, room: &mut Bytes) -> Result<(), NoMemory>
+    /// memory of an earlier one, if there is any.
+    pub fn enter(&mut self, given: Entry, room: &mut Room) -> Result<(), NoMemory>
         requires quiet { NothingRipe self.old.join }
         ensures ok { OnOk result (EntersGiven given self.old self.new) }
         ensures few { OnOk result (OneMore self.old self.new) }
@@ -206,7 +206,7 @@ impl<R: Reducer, K: Keep> EventFlows<R, K> {
     }
 
     // Gives the joiner a record. If allocation fails nothing has changed.
-    fn take(&mut self, item: Record, room: &mut Bytes) -> Result<(), NoMemory>
+    fn take(&mut self, item: Record, room: &mut Room) -> Result<(), NoMemory>
         requires quiet { NothingRipe self.old.join }
         ensures ok { OnOk result (EntersOne item self.old self.new) }
         ensures few { OnOk result (OneMore self.old self.new) }
@@ -215,7 +215,7 @@ impl<R: Reducer, K: Keep> EventFlows<R, K> {
         ensures marked { self.new.tables.marked ≡ self.old.tables.marked }
     {
         let taken = self.join.take(item)?;
-        *room = self.join.spare_line();
+        *room = self.join.spare_room();
         if taken == Entered::Excess {
             self.excess = self.excess.saturating_add(1);
         }

@@ -23,7 +23,7 @@ ghost use Rattle.store_check.specs.Conditions.{HasCounts, HasListed, HasTail};
 ghost use Rattle.stored.specs.Moment.{state_at};
 
 use audit_lex::{Lexed, LineCut, LineFault, Tally, lex, lines_are_counted};
-use audit_record::{Entry, read_line};
+use audit_record::{Entry, Room, read_line};
 use flow_base::{Bad, Bytes, Limits, List, NoMemory};
 use row_codec::StateRow;
 use std::alloc::Global;
@@ -183,8 +183,8 @@ impl LineReader {
     }
 
     /// What the line that ends with these bytes gives the joiner, if it is a used one. A line that has begun was held
-    /// whole. A record takes the memory that `room` has for its text.
-    pub fn read(&self, part: &[u8], room: &mut Bytes) -> Result<Option<Entry>, NoMemory>
+    /// whole. A record takes the memory that `room` has.
+    pub fn read(&self, part: &[u8], room: &mut Room) -> Result<Option<Entry>, NoMemory>
         requires no_feed { position_or_len (is_byte 10) part.now ≡ length part.now }
         requires whole { HasNoTail self.now ⊎ (part.now ≡ []) }
         ensures reads { IfOk result (λ r. (limits : Limits) (h : History)

@@ -302,3 +302,41 @@ fn a_list_of_records_is_joined(rt: HostRuntime) -> Result<(), Fail> {
     assert_eq!(rt; told(found.pop()), None);
     Ok(())
 }
+
+/// Whether the joiner's spare room has no bytes.
+fn is_spare_room_empty(join: &mut Join) -> bool {
+    let room = join.spare_room();
+    room.line.as_slice().is_empty() && room.text.as_slice().is_empty()
+}
+
+#[test]
+fn a_spare_room_has_no_bytes(rt: HostRuntime) -> Result<(), Fail> {
+    let alloc = rt.alloc();
+    let mut join = Join::new(alloc, &limits());
+    assert!(rt; is_spare_room_empty(&mut join));
+    let texts = [
+        Body::Cwd(Some(Bytes::from_slice(alloc, b"/a".as_slice())?)),
+        Body::Sockaddr(Bytes::from_slice(alloc, [0; 1025].as_slice())?),
+    ];
+    for body in texts {
+        let item = Record {
+            key: EventKey {
+                ms: 5000,
+                serial: 1,
+            },
+            line: Bytes::from_slice(alloc, b"line".as_slice())?,
+            body,
+        };
+        give(&mut join, item)?;
+    }
+    join.settle();
+    if join.ripe() {
+        join.pass();
+    }
+    assert_eq!(rt; join.waiting(), 0);
+    // The rooms of two records, and a new one.
+    for _ in 0..3 {
+        assert!(rt; is_spare_room_empty(&mut join));
+    }
+    Ok(())
+}

@@ -1,7 +1,7 @@
 //! Lines of each class and with each fault. What is expected was worked out by hand from the format.
 use audit_lex::{
-    Field, Lexed, LineCut, LineFault, Tally, UsedLine, dec32, dec64, device, handle, hex32, hex64,
-    lex, quoted, signed, yesno,
+    Field, Kind, Lexed, LineCut, LineFault, Slots, Tally, UsedLine, dec32, dec64, device, handle,
+    hex32, hex64, lex, quoted, scan, signed, yesno,
 };
 use flow_base::{Bad, Bytes, NoMemory};
 use std::alloc::Global;
@@ -572,5 +572,46 @@ fn the_first_token_of_a_name_counts(rt: HostRuntime) {
         ),
     ] {
         assert_eq!(rt; pid(line), want);
+    }
+}
+
+#[test]
+fn a_scan_finds_the_fields_and_leaves_their_faults(rt: HostRuntime) {
+    let line =
+        b"type=PATH msg=audit(12.345:67): item=x name=\"/a b\" inode=2 objtype=PARENT name=\"c\"";
+    let mut slots = Slots::new();
+    match scan(line.as_slice(), 200, &mut slots) {
+        Some(scanned) => {
+            assert_eq!(rt; scanned.kind, Kind::Path);
+            assert_eq!(rt; scanned.key.ms, 12_345);
+            assert_eq!(rt; scanned.key.serial, 67);
+            // `objtype` has no slot, and is searched for.
+            assert_eq!(rt; scanned.search(Field::Objtype), Some(b"PARENT".as_slice()));
+        }
+        None => assert!(rt; false),
+    }
+    for (name, want) in [
+        (Field::Item, Some(b"x".as_slice())),
+        (Field::Name, Some(b"\"/a b\"".as_slice())),
+        (Field::Inode, Some(b"2".as_slice())),
+        (Field::Dev, None),
+        (Field::Nametype, None),
+    ] {
+        assert_eq!(rt; slots.field(name), want);
+    }
+}
+
+#[test]
+fn a_scan_finds_nothing_in_lines_that_are_not_used_by_their_headers(rt: HostRuntime) {
+    for line in [
+        b"".as_slice(),
+        b" \t".as_slice(),
+        b"type=EXECVE msg=audit(12.345:67): argc=1".as_slice(),
+        b"type=CWD msg=audit(12.34:67): cwd=\"/a\"".as_slice(),
+        // One byte more than may be.
+        b"type=CWD msg=audit(12.345:67): cwd=\"/longer\"".as_slice(),
+    ] {
+        let mut slots = Slots::new();
+        assert!(rt; scan(line, 43, &mut slots).is_none());
     }
 }

@@ -1,7 +1,9 @@
 //! Lines in, records out. The wanted records are worked out by hand from the format of audit records.
 
 use audit_lex::{EventKey, Lexed, lex};
-use audit_record::{Body, NameKind, PathItem, Record, Syscall, read_record};
+use audit_record::{
+    Body, Entry, NameKind, PathItem, Record, Room, Syscall, read_line, read_record,
+};
 use flow_base::{Bytes, Device, FileId, NoMemory};
 use std::alloc::Global;
 use std::test::Fail;
@@ -17,18 +19,48 @@ fn record_of(alloc: Global, line: &[u8]) -> Result<Option<Record>, NoMemory> {
     }
 }
 
-/// Whether the line spells this body, with the key of all lines here and its own text.
-fn spells(alloc: Global, line: &[u8], body: Body) -> Result<bool, NoMemory> {
-    let wanted = Record {
-        key: EventKey {
-            ms: 1_364_481_363_243,
-            serial: 24_287,
-        },
+/// The key of all lines here.
+fn key() -> EventKey {
+    EventKey {
+        ms: 1_364_481_363_243,
+        serial: 24_287,
+    }
+}
+
+/// A record of this body, with the text of its line.
+fn wanted(alloc: Global, line: &[u8], body: Body) -> Result<Record, NoMemory> {
+    Ok(Record {
+        key: key(),
         line: Bytes::from_slice(alloc, line)?,
         body,
-    };
+    })
+}
+
+/// Whether the line spells this body.
+fn spells(alloc: Global, line: &[u8], body: Body) -> Result<bool, NoMemory> {
     let record = record_of(alloc, line)?;
+    let wanted = wanted(alloc, line, body)?;
     Ok(record == Some(wanted))
+}
+
+/// What a line of at most 200 bytes gives, if an earlier record had texts of its own.
+fn given(alloc: Global, line: &[u8]) -> Result<Option<Entry>, NoMemory> {
+    let mut room = Room {
+        line: Bytes::from_slice(alloc, b"an earlier line".as_slice())?,
+        text: Bytes::from_slice(alloc, b"/earlier".as_slice())?,
+    };
+    read_line(alloc, line, 200, &mut room)
+}
+
+/// Whether a line gives a record of this body.
+fn gives(alloc: Global, line: &[u8], body: Body) -> Result<bool, NoMemory> {
+    match given(alloc, line)? {
+        Some(Entry::Record(record)) => {
+            let wanted = wanted(alloc, line, body)?;
+            Ok(record == wanted)
+        }
+        _ => Ok(false),
+    }
 }
 
 fn text(alloc: Global, bytes: &[u8]) -> Result<Option<Bytes>, NoMemory> {
@@ -204,6 +236,82 @@ fn other_kinds_are_read(rt: HostRuntime) -> Result<(), Fail> {
         b"type=CWD msg=audit(1364481363.243:24287): cwd=2F2".as_slice(),
     ] {
         assert!(rt; record_of(alloc, line)?.is_none());
+    }
+    Ok(())
+}
+
+#[test]
+fn a_line_is_read_into_the_memory_of_an_earlier_one(rt: HostRuntime) -> Result<(), Fail> {
+    let alloc = rt.alloc();
+    let call = Syscall {
+        arch: 0xc000_003e,
+        number: 59,
+        success: Some(true),
+        exit: Some(0),
+        a0: 1,
+        a1: 2,
+        a2: 3,
+        a3: 4,
+        ppid: 1,
+        pid: 100,
+        exe: text(alloc, b"/bin/a".as_slice())?,
+    };
+    let path = PathItem {
+        item: 0,
+        name: text(alloc, b"/a/longer/name".as_slice())?,
+        file: None,
+        kind: NameKind::Normal,
+    };
+    let table = [
+        (
+            b"type=SYSCALL msg=audit(1364481363.243:24287): arch=c000003e syscall=59 success=yes exit=0 a0=1 a1=2 a2=3 a3=4 ppid=1 pid=100 exe=\"/bin/a\"".as_slice(),
+            Body::Syscall(call),
+        ),
+        (
+            b"type=PATH msg=audit(1364481363.243:24287): item=0 name=\"/a/longer/name\"".as_slice(),
+            Body::Path(path),
+        ),
+        (
+            b"type=CWD msg=audit(1364481363.243:24287): cwd=2F61".as_slice(),
+            Body::Cwd(text(alloc, b"/a".as_slice())?),
+        ),
+        (
+            b"type=CWD msg=audit(1364481363.243:24287): cwd=\"\"".as_slice(),
+            Body::Cwd(text(alloc, b"".as_slice())?),
+        ),
+        (
+            b"type=MMAP msg=audit(1364481363.243:24287): fd=5 flags=0x2".as_slice(),
+            Body::Mmap { fd: 5 },
+        ),
+    ];
+    for (line, body) in table {
+        assert!(rt; gives(alloc, line, body)?);
+    }
+    Ok(())
+}
+
+#[test]
+fn an_end_gives_its_key_and_an_unused_line_nothing(rt: HostRuntime) -> Result<(), Fail> {
+    let alloc = rt.alloc();
+    for line in [
+        b"type=EOE msg=audit(1364481363.243:24287):".as_slice(),
+        b"type=PROCTITLE msg=audit(1364481363.243:24287): proctitle=7368".as_slice(),
+    ] {
+        match given(alloc, line)? {
+            Some(Entry::End(ended)) => assert_eq!(rt; ended, key()),
+            _ => assert!(rt; false),
+        }
+    }
+    for line in [
+        b"".as_slice(),
+        b"type=EXECVE msg=audit(1364481363.243:24287): argc=1 a0=\"sh\"".as_slice(),
+        // A faulty text, a text without its end, a path without a name.
+        b"type=CWD msg=audit(1364481363.243:24287): cwd=2F2".as_slice(),
+        b"type=CWD msg=audit(1364481363.243:24287): cwd=\"/a".as_slice(),
+        b"type=PATH msg=audit(1364481363.243:24287): item=0".as_slice(),
+        [b'a'; 201].as_slice(),
+    ] {
+        assert!(rt; given(alloc, line)?.is_none());
     }
     Ok(())
 }

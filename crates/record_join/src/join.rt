@@ -15,8 +15,8 @@ use crate::kinds::ends_event;
 use crate::parts::Parts;
 use crate::spare::Spare;
 use audit_lex::EventKey;
-use audit_record::Record;
-use flow_base::{Bytes, Limits, NoMemory};
+use audit_record::{Record, Room};
+use flow_base::{Limits, NoMemory};
 use std::alloc::Global;
 use std::marker::Model;
 
@@ -183,7 +183,7 @@ impl Join {
     }
 
     /// Passes over the event that is released next, of which there is one. The room of its list of records is kept for the
-    /// next group, and that of their lines for `spare_line`.
+    /// next group, and that of each record for `spare_room`.
     pub fn pass(&mut self)
         requires ripe { WhereStands self.old (λ limits s. is_some (ripe_key limits s) ≡ true) }
         ensures stands { WhereStands self.old (λ limits s.
@@ -191,7 +191,7 @@ impl Join {
         ensures less { length self.old.groups ≡ suc (length self.new.groups) }
     {
         let event = self.release();
-        self.spare.keep(event.records);
+        self.spare.keep(self.alloc, event.records);
     }
 
     // Releases the least group, which is ripe.
@@ -216,13 +216,13 @@ impl Join {
         event
     }
 
-    /// A line without text, which has the room of one that was passed over, if there is one.
-    pub fn spare_line(&mut self) -> Bytes
-        ensures empty { result ≡ [] }
+    /// A room without bytes, which has the memory of a record that was passed over, if there is one.
+    pub fn spare_room(&mut self) -> Room
+        ensures empty { result ≡ record { line = []; text = [] } }
         ensures same { self.new ≡ self.old }
     {
         let _ = &self.groups;
-        self.spare.take_line(self.alloc)
+        self.spare.take_room(self.alloc)
     }
 
     /// Marks every waiting group closed.

@@ -1,23 +1,24 @@
 //! The room of records that were dropped, for the next ones.
 ghost use Rattle.std.specs.Prelude.{◌≡◌, []};
 
-use audit_record::Record;
+use audit_record::{Body, Record, Room};
 use flow_base::{Bytes, List};
 use std::alloc::Global;
 use std::marker::Model;
 
-/// How many lines are kept: few events have more.
-const MOST_LINES: usize = 32;
+/// How many records' memory is kept: few events have more.
+const MOST_ROOMS: usize = 32;
 
-/// The longest line that is kept, in bytes, so that the room of a line that waits is never much more than its text.
-const LONGEST_LINE: usize = 1024;
+/// The longest line and the longest text that are kept, in bytes. So a record that waits has at most a few kilobytes of
+/// memory that it doesn't need.
+const LONGEST: usize = 1024;
 
-/// A list without records and lines without text, which have the room of what was dropped.
+/// A list without records and rooms, which have the memory of what was dropped.
 #[derive(Drop)]
 pub struct Spare {
     list: List<Record>,
-    /// Their text is taken away once they are used again.
-    lines: List<Bytes>,
+    /// Their bytes are taken away once they are used again.
+    rooms: List<Room>,
 }
 
 impl Model for Spare {
@@ -36,7 +37,7 @@ impl Spare {
     pub fn new(alloc: Global) -> Spare {
         Spare {
             list: List::new(alloc),
-            lines: List::new(alloc),
+            rooms: List::new(alloc),
         }
     }
 
@@ -47,45 +48,73 @@ impl Spare {
         std::mem::replace(&mut self.list, List::new(alloc))
     }
 
-    /// A line without text, which has the room of one that was dropped, if there is one.
-    pub fn take_line(&mut self, alloc: Global) -> Bytes
-        ensures { result ≡ [] }
+    /// A room without bytes, which has the memory of a record that was dropped, if there is one.
+    pub fn take_room(&mut self, alloc: Global) -> Room
+        ensures { result ≡ record { line = []; text = [] } }
     {
-        match self.lines.pop() {
-            Some(line) => cleared(line),
-            None => Bytes::new(alloc),
+        match self.rooms.pop() {
+            Some(room) => cleared(room),
+            None => Room::new(alloc),
         }
     }
 
-    /// Drops these records, and keeps the room of their list and of their lines.
-    pub fn keep(&mut self, records: List<Record>) {
-        self.list = emptied(records, &mut self.lines);
+    /// Drops these records, and keeps the room of their list, and that of each.
+    pub fn keep(&mut self, alloc: Global, records: List<Record>) {
+        self.list = emptied(alloc, records, &mut self.rooms);
     }
 }
 
-// A line without its text.
-fn cleared(line: Bytes) -> Bytes
-    ensures { result ≡ [] }
+// A room without its bytes.
+fn cleared(room: Room) -> Room
+    ensures { result ≡ record { line = []; text = [] } }
 {
-    let mut line = line;
-    line.clear();
-    line
+    let mut room = room;
+    room.line.clear();
+    room.text.clear();
+    room
 }
 
-// A list without its records, whose lines are kept.
-fn emptied(records: List<Record>, lines: &mut List<Bytes>) -> List<Record>
+// A list without its records, whose rooms are kept.
+fn emptied(alloc: Global, records: List<Record>, rooms: &mut List<Room>) -> List<Record>
     ensures { result ≡ [] }
 {
     let mut left = records;
     while let Some(item) = left.pop() {
-        keep_line(lines, item.line);
+        keep_room(alloc, rooms, item);
     }
     left
 }
 
-// Keeps a line, unless it is long or there are enough. Without memory for their list it is dropped.
-fn keep_line(lines: &mut List<Bytes>, line: Bytes) {
-    if lines.as_slice().len() < MOST_LINES && line.as_slice().len() <= LONGEST_LINE {
-        let _ = lines.push(line);
+// Keeps the room of a record, unless there are enough. Without memory for their list it is dropped.
+fn keep_room(alloc: Global, rooms: &mut List<Room>, item: Record) {
+    if rooms.as_slice().len() < MOST_ROOMS {
+        let _ = rooms.push(Room {
+            line: short_or_none(alloc, item.line),
+            text: short_or_none(alloc, text_of(alloc, item.body)),
+        });
+    }
+}
+
+// The bytes, or none in place of many.
+fn short_or_none(alloc: Global, bytes: Bytes) -> Bytes {
+    if bytes.as_slice().len() <= LONGEST {
+        bytes
+    } else {
+        Bytes::new(alloc)
+    }
+}
+
+// The text or the bytes that a body has; no bytes if it has none.
+fn text_of(alloc: Global, body: Body) -> Bytes {
+    let text = match body {
+        Body::Syscall(call) => call.exe,
+        Body::Path(path) => path.name,
+        Body::Cwd(text) => text,
+        Body::Sockaddr(bytes) => Some(bytes),
+        Body::FdPair { .. } | Body::Mmap { .. } | Body::Proctitle | Body::Eoe => None,
+    };
+    match text {
+        Some(text) => text,
+        None => Bytes::new(alloc),
     }
 }
