@@ -437,14 +437,13 @@ impl<R: Reducer, K: Keep> EventFlows<R, K> {
         let Some(event) = self.join.peek() else {
             unreachable!()
         };
-        let taken = take_event(
+        match take_event(
             self.alloc,
             &mut self.tables,
             &mut self.kept,
             &event,
             &mut self.plan,
-        );
-        match taken {
+        ) {
             Ok(()) => {}
             Err(cause) => return Err(cause),
         }

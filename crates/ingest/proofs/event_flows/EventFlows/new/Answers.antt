@@ -14,7 +14,7 @@ invariant_of-result g c =
       bounds = c.new-2.ensures.limits;
       together = record {
         safe = c.new-2.ensures.safe;
-        kept_of = none_kept _ _ _ _ _ _ _ _ c.new-3.ensures.kept c.requires.none c.requires.count c.requires.known
+        kept_of = none_kept _ _ _ _ _ _ _ _ c.new-4.ensures.kept c.requires.none c.requires.count c.requires.known
             (ap length (c.new-2.ensures.stands text_of).objects_are);
       };
     })
@@ -25,10 +25,10 @@ returns-clause-stands g c = λ told. record {
   join = c.new.ensures.stands;
   released_last = record { key = refl; time = refl };
   excess = refl;
-  counts = c.new-4.ensures;
+  counts = c.new-5.ensures;
   tables = c.new-2.ensures.stands text_of;
   marked = never_marked _ [] c.new-2.ensures.unmarked;
-  kept_are = c.new-3.ensures.none told;
+  kept_are = c.new-4.ensures.none told;
   in_time = record { rise = tt; later = omega arith };
   fits = full_none c.args.limits.now.entities c.args.limits.now.flows 0 0 (omega arith) (omega arith);
 }
