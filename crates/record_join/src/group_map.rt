@@ -220,7 +220,7 @@ fn hold_first(
         ((lesser.new.entries ≡ lesser.old.entries) × (last.new ≡ last.old)) }
 {
     let key = item.key;
-    let mut records = spare.take(alloc);
+    let mut records = spare.take(alloc)?;
     records.push(item)?;
     if last.is_some() {
         set_aside(lesser, last)?;
@@ -277,7 +277,7 @@ fn hold_lesser(
             Err(fault) => Err(fault),
         },
         None => {
-            let mut records = spare.take(alloc);
+            let mut records = spare.take(alloc)?;
             records.push(item)?;
             let group = Group {
                 closed: false,

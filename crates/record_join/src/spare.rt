@@ -1,8 +1,8 @@
 //! The room of records that were dropped, for the next ones.
-ghost use Rattle.std.specs.Prelude.{◌≡◌, []};
+ghost use Rattle.std.specs.Prelude.{◌≡◌, [], IfOk};
 
 use audit_record::{Body, Record, Room};
-use flow_base::{Bytes, List};
+use flow_base::{Bytes, List, NoMemory};
 use std::alloc::Global;
 use std::marker::Model;
 
@@ -18,7 +18,7 @@ const LONGEST: usize = 1024;
 pub struct Spare {
     list: List<Record>,
     /// Their bytes are taken away once they are used again.
-    rooms: List<Room>,
+    rooms: Vec<Room>,
 }
 
 impl Model for Spare {
@@ -37,15 +37,18 @@ impl Spare {
     pub fn new(alloc: Global) -> Spare {
         Spare {
             list: List::new(alloc),
-            rooms: List::new(alloc),
+            rooms: Vec::new(alloc),
         }
     }
 
-    /// The list, in place of which one without room stays.
-    pub fn take(&mut self, alloc: Global) -> List<Record>
-        ensures { result ≡ [] }
+    /// The list, in place of which one without room stays. Memory for the rooms of its records is taken first, so that
+    /// `keep` needs none.
+    pub fn take(&mut self, alloc: Global) -> Result<List<Record>, NoMemory>
+        ensures { IfOk result (λ list. list ≡ []) }
     {
-        std::mem::replace(&mut self.list, List::new(alloc))
+        let more = MOST_ROOMS.saturating_sub(self.rooms.len());
+        self.rooms.reserve_exact(more)?;
+        Ok(std::mem::replace(&mut self.list, List::new(alloc)))
     }
 
     /// A room without bytes, which has the memory of a record that was dropped, if there is one.
@@ -75,7 +78,7 @@ fn cleared(room: Room) -> Room
 }
 
 // A list without its records, whose rooms are kept.
-fn emptied(alloc: Global, records: List<Record>, rooms: &mut List<Room>) -> List<Record>
+fn emptied(alloc: Global, records: List<Record>, rooms: &mut Vec<Room>) -> List<Record>
     ensures { result ≡ [] }
 {
     let mut left = records;
@@ -85,10 +88,10 @@ fn emptied(alloc: Global, records: List<Record>, rooms: &mut List<Room>) -> List
     left
 }
 
-// Keeps the room of a record, unless there are enough. Without memory for their list it is dropped.
-fn keep_room(alloc: Global, rooms: &mut List<Room>, item: Record) {
-    if rooms.as_slice().len() < MOST_ROOMS {
-        let _ = rooms.push(Room {
+// Keeps the room of a record, unless there are enough.
+fn keep_room(alloc: Global, rooms: &mut Vec<Room>, item: Record) {
+    if rooms.len() < rooms.capacity() {
+        rooms.push_reserved(Room {
             line: short_or_none(alloc, item.line),
             text: short_or_none(alloc, text_of(alloc, item.body)),
         });

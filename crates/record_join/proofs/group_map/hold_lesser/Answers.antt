@@ -16,4 +16,4 @@ returns-in-Err-clause-err c =
 pub returns-in_ok-insert-in-None-clause-each : goal.returns-in_ok-insert-in-None-clause-each
 returns-in_ok-insert-in-None-clause-each c = λ q.
     held_first c.args.item.key q c.args.item _ _ _ _ (c.in_ok-insert-in-None.ensures.updates.0 q) (ap (λ m. m.entries) c.get_mut.follows.holds-at-none)
-    (c.in_ok-push-in-None.ensures.ok ∙ ap (λ (rs : List Record). rs ++ c.args.item ∷ []) c.take-records.ensures) (sym c.in-None.ensures.value)
+    (c.in_ok-push-in-None.ensures.ok ∙ ap (λ (rs : List Record). rs ++ c.args.item ∷ []) c.in_ok-records-in-None.ensures) (sym c.in-None.ensures.value)
