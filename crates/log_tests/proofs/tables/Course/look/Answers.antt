@@ -15,8 +15,8 @@ prepare-requires c =
     record { safe = kept.safe; few = subst (λ (l : Limits). c.self.inside.tables.acts + (length (event_acts l.path event.records.now) + 2) < 2 ^ 63 - 1) (sym kept.limited.limits_are) few }
 
 -- the tables stand for the same as before
-pub invariant_of-self-in_err-copied : goal.invariant_of-self-in_err-copied
-invariant_of-self-in_err-copied c =
+pub invariant_of-self-in_err-flows : goal.invariant_of-self-in_err-flows
+invariant_of-self-in_err-flows c =
     let kept = c.self.invariant in
     record {
       before = kept.before;
