@@ -135,6 +135,17 @@ impl LineCut {
         Some(self.cut())
     }
 
+    /// Ends a line that was read where it stood: it is counted, and nothing of it is held.
+    pub fn end_line(&mut self)
+        requires { self.old.lines < 2 ^ 61 }
+        ensures { self.new
+            ≡ record self.old { lines = self.old.lines + 1; tail = []; long = false } }
+    {
+        self.lines += 1;
+        self.tail.clear();
+        self.long = false;
+    }
+
     // Appends bytes without a line feed to the tail.
     fn extend(&mut self, part: &[u8]) -> Result<(), NoMemory>
         requires { position_or_len (is_byte 10) part.now ≡ length part.now }

@@ -143,6 +143,10 @@ within_line limits cut after tally more bytes all w paid room is one listed = rw
 pub room_fed : (limits : Limits) (cut : Cutter) (tally : Tally) (bytes : ℕ) (part : List ℕ) → IsWithin limits cut tally bytes → bytes + (length part + 1) ≤ limits.input → HasRoom cut tally
 room_fed limits cut tally bytes part w room = room_for limits cut tally bytes w (omega (arith, w.paid, room))
 
+-- a cutter that ended a line where it stood is the one after that line
+pub next_so : (limits : Limits) (cut after : Cutter) → cut.limit ≡ limits.line → after ≡ record cut { lines = cut.lines + 1; tail = []; long = false } → after ≡ next_cut limits.line cut.lines
+next_so limits cut after line is = is ∙ ap (λ l. next_cut l cut.lines) line
+
 pub within_fed : (limits : Limits) (cut after : Cutter) (tally more : Tally) (bytes : ℕ) (part : List ℕ) → IsWithin limits cut tally bytes → bytes + (length part + 1) ≤ limits.input
     → after ≡ next_cut limits.line cut.lines → total more ≡ total tally + 1 → length more.bad ≤ limits.shown
     → IsWithin limits after more (bytes + (length part + 1))

@@ -16,8 +16,8 @@ use Rattle.audit_record.proofs.SpellingLaws.{one_record, used_spells, spelled_is
 use Rattle.record_join.specs.Keys.{EndsAt}
 use Rattle.audit_record.specs.Reading.{is_end, GivesEntry}
 use Rattle.ingest.specs.Entries.{IsEntered, IsGiven}
-use Rattle.audit_record.specs.declared.types.Entry.{Entry}
-use Rattle.audit_record.specs.declared.types.Entry.TheVariants as entry
+use Rattle.audit_record.specs.declared.types.Read.{Read}
+use Rattle.audit_record.specs.declared.types.Read.TheVariants as read
 use Rattle.ingest.specs.LineRecords.{record_by, record_of}
 
 not_used : (line : List ℕ) (class : Class) (made : Record) → text_class line ≡ class → ((key : EventKey) (kind : Kind) → class ≡ Used key kind → ⊥) → Spells line made → ⊥
@@ -79,13 +79,20 @@ end_spelled line key kind.Sockaddr is end = absurd (cc end)
 end_spelled line key kind.FdPair is end = absurd (cc end)
 end_spelled line key kind.Mmap is end = absurd (cc end)
 
--- of a line that gives the joiner something
-pub given_some : (read : Option Entry) (given : Entry) (said : Option Record) → read ≡ Some given → IsGiven read said → IsEntered given said
-given_some read given said is so = subst (λ (o : Option Entry). IsGiven o said) is so
+record_entered : (item : Record) (said : Option Record) → IsEntered read.Record item said → said ≡ Some item
+record_entered item said came = came.spelled ∙ ap Some (sym came.gives)
 
--- of a line that gives it nothing
-pub given_none : (read : Option Entry) (said : Option Record) → read ≡ None → IsGiven read said → said ≡ None
-given_none read said is so = subst (λ (o : Option Entry). IsGiven o said) is so
+-- of a line of which a record was read
+pub record_given : (given : Read) (item : Record) (said : Option Record) → given ≡ read.Record → IsGiven given item said → said ≡ Some item
+record_given given item said is so = record_entered item said (subst (λ (r : Read). IsGiven r item said) is so)
+
+-- of a line of which an end was read
+pub end_given : (given : Read) (key : EventKey) (item : Record) (said : Option Record) → given ≡ read.End key → IsGiven given item said → IsEntered (read.End key) item said
+end_given given key item said is so = subst (λ (r : Read). IsGiven r item said) is so
+
+-- of a line of which nothing was read
+pub none_given : (given : Read) (item : Record) (said : Option Record) → given ≡ read.Unused → IsGiven given item said → said ≡ None
+none_given given item said is so = subst (λ (r : Read). IsGiven r item said) is so
 
 short_so : (limit : ℕ) (line : List ℕ) → is_long limit line ≡ false → length line ≤ limit
 short_so limit line e = grind (arith, common_steps, e)
@@ -120,15 +127,15 @@ none_made limit line (Some made) is unused =
     let used = used_class limit line made is in absurd (unused made.key used.0 used.1)
 
 -- what was read of a line is what it gives the joiner
-pub entry_given : (limit : ℕ) (line : List ℕ) (read : Option Entry) → GivesEntry limit line read → IsGiven read (record_of limit line)
-entry_given limit line None unused = none_made limit line (record_of limit line) refl unused
-entry_given limit line (Some (entry.Record item)) given =
-    record { item = item; spelled = reads_used limit line given.key given.kind item given.used given.gives.1; gives = refl }
-entry_given limit line (Some (entry.End ended)) given =
+pub entry_given : (limit : ℕ) (line : List ℕ) (given : Read) (item : Record) → GivesEntry limit line given item → IsGiven given item (record_of limit line)
+entry_given limit line read.Unused item unused = none_made limit line (record_of limit line) refl unused
+entry_given limit line read.Record item given =
+    record { made = item; spelled = reads_used limit line given.key given.kind item given.used given.gives.1; gives = refl }
+entry_given limit line (read.End ended) item given =
     let text = used_within limit line given.key given.kind given.used in
     let made = end_spelled line given.key given.kind text given.gives.0 in
     record {
-      item = made.0;
+      made = made.0;
       spelled = reads_used limit line given.key given.kind made.0 given.used made.1;
       gives = subst (λ (key : EventKey). EndsAt key made.0) (sym given.gives.1) made.2;
     }

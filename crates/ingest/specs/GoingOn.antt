@@ -5,11 +5,9 @@ use Rattle.audit_record.specs.declared.types.Record.{Record}
 use Rattle.record_join.specs.Events.{Joining, enter, settled, next_event, next_left}
 use Rattle.record_join.specs.History.{released_after, left_after}
 use Rattle.record_join.specs.declared.event.Event.{Event}
-use Rattle.ingest.specs.Entries.{IsEntryOf}
 use Rattle.ingest.specs.Owing.{IsOwed}
 use Rattle.ingest.specs.Parts.{Joined}
 use Rattle.ingest.specs.StandsFor.{JoinedStandsFor}
-use Rattle.audit_record.specs.declared.types.Entry.{Entry}
 use Rattle.flow_base.specs.declared.faults.Refused.{Refused}
 
 -- one more record has entered
@@ -17,10 +15,6 @@ abbrev pub EntersOne : {K : Type 0} → Record → (old new : Joined K) → Type
 EntersOne item old new = (limits : Limits) (s : Joining) (released : List Event)
     → JoinedStandsFor limits old s released → s.excess < 2 ^ 61
     → JoinedStandsFor limits new (enter limits s item) released
-
--- what a line gave has entered: the record, or an end whose record this is
-abbrev pub EntersGiven : {K : Type 0} → Entry → (old new : Joined K) → Type 0
-EntersGiven given old new = (item : Record) → IsEntryOf given item → EntersOne item old new
 
 -- all that waits is closed
 abbrev pub ClosesAll : {K : Type 0} → (old new : Joined K) → Type 0

@@ -51,7 +51,8 @@ use crate::stop::Stop;
 use crate::store_laws::{
     histories_may_be_committed, stores_follow_histories, stores_say_what_was_left,
 };
-use audit_record::Room;
+use audit_lex::LastStamp;
+use audit_record::{Read, Record};
 use batch_log::{CommitFault, a_disk_reads_in_one_way};
 use call_acts::acts_of_events_are_admitted;
 use flow_base::{Full, Limit, Limits, NoMemory, Refused};
@@ -80,8 +81,10 @@ pub struct Ingest<R: Reducer, K: Keep> {
     joined: EventFlows<R, K>,
     /// The bytes that were taken in this part of the log.
     part: u64,
-    /// The memory for the next record: that of an earlier one, if there is any.
-    room: Room,
+    /// The stamp of the line that was read last, which mostly is that of the next one.
+    last: LastStamp,
+    /// The memory for the next record, mostly that of an earlier one. What it says is of no account.
+    item: Record,
 }
 
 impl<R: Reducer, K: Keep> Model for Ingest<R, K> {
@@ -114,7 +117,8 @@ impl<R: Reducer, K: Keep> Ingest<R, K> {
             reader: LineReader::new(alloc, limits),
             joined: EventFlows::new(alloc, salt, limits, reducer, keep),
             part: 0,
-            room: Room::new(alloc),
+            last: LastStamp::none(),
+            item: Record::blank(alloc),
         }
     }
 
@@ -414,13 +418,18 @@ impl<R: Reducer, K: Keep> Ingest<R, K> {
         ensures alike { K.alike self.old.joined.keep self.new.joined.keep }
         ensures marked { self.new.joined.tables.marked ≡ self.old.joined.tables.marked }
     {
-        match self.reader.read(part, &mut self.room)? {
-            Some(given) => {
-                self.joined.enter(given, &mut self.room)?;
+        match self.reader.read(part, &mut self.last, &mut self.item)? {
+            Read::Unused => self.reader.end_other(part),
+            Read::Record => {
+                self.joined.take(&mut self.item)?;
                 self.reader.end_used(part);
                 Ok(())
             }
-            None => self.reader.end_other(part),
+            Read::End(key) => {
+                self.joined.end(key);
+                self.reader.end_used(part);
+                Ok(())
+            }
         }
     }
 
@@ -436,13 +445,18 @@ impl<R: Reducer, K: Keep> Ingest<R, K> {
         ensures alike { K.alike self.old.joined.keep self.new.joined.keep }
         ensures marked { self.new.joined.tables.marked ≡ self.old.joined.tables.marked }
     {
-        match self.reader.read(&[], &mut self.room)? {
-            Some(given) => {
-                self.joined.enter(given, &mut self.room)?;
+        match self.reader.read(&[], &mut self.last, &mut self.item)? {
+            Read::Unused => self.reader.settle_other(),
+            Read::Record => {
+                self.joined.take(&mut self.item)?;
                 self.reader.settle_used();
                 Ok(())
             }
-            None => self.reader.settle_other(),
+            Read::End(key) => {
+                self.joined.end(key);
+                self.reader.settle_used();
+                Ok(())
+            }
         }
     }
 }
@@ -566,7 +580,8 @@ impl<R: Reducer, D: Disk> Ingest<R, Store<D>> {
                     reader,
                     joined,
                     part: state.part,
-                    room: Room::new(alloc),
+                    last: LastStamp::none(),
+                    item: Record::blank(alloc),
                 })
             }
             Err(back) => Err(Unrestored {

@@ -29,7 +29,7 @@ ghost use Rattle.ingest.specs.EventActs.{is_unmapped};
 ghost use Rattle.ingest.specs.Events.{flows_in, objects_in, taken_in};
 ghost use Rattle.ingest.specs.Following.{KeepTaken, KeptWith};
 ghost use Rattle.ingest.specs.Following.{IsPlanFor, IsFullWith};
-ghost use Rattle.ingest.specs.GoingOn.{EntersOne, EntersGiven, ClosesAll, ReleasesAll};
+ghost use Rattle.ingest.specs.GoingOn.{EntersOne, ClosesAll, ReleasesAll};
 ghost use Rattle.ingest.specs.GoingOn.{ReleasesNext};
 ghost use Rattle.ingest.specs.GoingOn.{OwesRest, StaysJoined};
 ghost use Rattle.ingest.specs.Naming.{named_in, names_in};
@@ -44,7 +44,7 @@ use crate::commit::rows_around;
 use crate::event_counts::EventCounts;
 use acts::flows_of_acts_are_lawful;
 use audit_lex::EventKey;
-use audit_record::{Entry, Record, Room};
+use audit_record::Record;
 use batch_log::CommitFault;
 use call_acts::{acts_are_few, acts_of_events_are_admitted};
 use flow_base::{Bytes, EntityId, Key, Limits, List, NoMemory, Refused};
@@ -176,27 +176,8 @@ impl<R: Reducer, K: Keep> EventFlows<R, K> {
         self.kept.into_rows()
     }
 
-    /// Gives the joiner what a line gave. If allocation fails nothing has changed. If it was a record, `room` gets the
-    /// memory of an earlier one, if there is any.
-    pub fn enter(&mut self, given: Entry, room: &mut Room) -> Result<(), NoMemory>
-        requires quiet { NothingRipe self.old.join }
-        ensures ok { OnOk result (EntersGiven given self.old self.new) }
-        ensures few { OnOk result (OneMore self.old self.new) }
-        ensures err { OnErr result (self.new ≡ self.old) }
-        ensures alike { K.alike self.old.keep self.new.keep }
-        ensures marked { self.new.tables.marked ≡ self.old.tables.marked }
-    {
-        match given {
-            Entry::Record(item) => self.take(item, room),
-            Entry::End(key) => {
-                self.end(key);
-                Ok(())
-            }
-        }
-    }
-
-    // Gives the joiner the end of an event.
-    fn end(&mut self, key: EventKey)
+    /// Gives the joiner the end of an event.
+    pub fn end(&mut self, key: EventKey)
         ensures ends { (item : Record) → EndsAt key item → EntersOne item self.old self.new }
         ensures few { OneMore self.old self.new }
         ensures alike { K.alike self.old.keep self.new.keep }
@@ -205,18 +186,17 @@ impl<R: Reducer, K: Keep> EventFlows<R, K> {
         self.join.end(key);
     }
 
-    // Gives the joiner a record. If allocation fails nothing has changed.
-    fn take(&mut self, item: Record, room: &mut Room) -> Result<(), NoMemory>
+    /// Gives the joiner a record, in place of which any record stays, for its memory. If allocation fails nothing has changed.
+    #[inline(always)]
+    pub fn take(&mut self, item: &mut Record) -> Result<(), NoMemory>
         requires quiet { NothingRipe self.old.join }
-        ensures ok { OnOk result (EntersOne item self.old self.new) }
+        ensures ok { OnOk result (EntersOne item.old self.old self.new) }
         ensures few { OnOk result (OneMore self.old self.new) }
         ensures err { OnErr result (self.new ≡ self.old) }
         ensures alike { K.alike self.old.keep self.new.keep }
         ensures marked { self.new.tables.marked ≡ self.old.tables.marked }
     {
-        let taken = self.join.take(item)?;
-        *room = self.join.spare_room();
-        if taken == Entered::Excess {
+        if self.join.exchange(item)? == Entered::Excess {
             self.excess = self.excess.saturating_add(1);
         }
         Ok(())
@@ -244,7 +224,8 @@ impl<R: Reducer, K: Keep> EventFlows<R, K> {
     }
 
     /// Releases all that is ripe. It stops at an event that would pass a limit, or for which allocation fails: this event
-    /// and those after it are owed.
+    /// and those after it are owed. It is asked after each line, so it is inlined, and what an event does isn't.
+    #[inline(always)]
     pub fn release(&mut self) -> Result<(), Refused>
         requires few { IsBounded self.old }
         ensures quiet { OnOk result (NothingRipe self.new.join) }
@@ -418,6 +399,7 @@ impl<R: Reducer, K: Keep> EventFlows<R, K> {
     }
 
     // Follows the event that is released next. If it is refused, nothing has changed.
+    #[inline(never)]
     fn follow(&mut self) -> Result<(), Refused>
         requires few { IsBounded self.old }
         requires ripe { WhereStands self.old.join (λ limits s.
@@ -536,6 +518,7 @@ fn take_event<R: Reducer, K: Keep>(
 }
 
 // Works out what an event does, into `plan`, with all the memory for it. The tables say the same as before.
+#[inline(always)]
 fn plan_event(
     alloc: Global,
     tables: &mut Tables,

@@ -1,8 +1,8 @@
 //! The lines of a log: cut, counted and read.
 //!
 //! A line that came whole is read where it stands. Only a line that began in an earlier piece is held.
-ghost use Rattle.std.specs.Prelude.{◌≡◌, ◌≤◌, ◌<◌, ◌+◌, ◌⊎◌, ◌^◌, ◌++◌, [], None, Ok, true, false};
-ghost use Rattle.std.specs.Prelude.{ℕ, length, IfOk, IsSome, OnOk, OnErr};
+ghost use Rattle.std.specs.Prelude.{◌≡◌, ◌≢◌, ◌≤◌, ◌<◌, ◌+◌, ◌⊎◌, ◌^◌, ◌++◌, [], Ok, true, false};
+ghost use Rattle.std.specs.Prelude.{ℕ, length, IfOk, OnOk, OnErr};
 ghost use Rattle.std.specs.List.{position_or_len};
 ghost use Rattle.memchr.specs.Find.{is_byte};
 ghost use Rattle.flow_base.specs.declared.limits.Limits.{Limits};
@@ -12,6 +12,7 @@ ghost use Rattle.audit_lex.specs.LineClass.{class_of};
 ghost use Rattle.audit_lex.specs.LineCut.{StandsFor as CutStandsFor};
 ghost use Rattle.ingest.specs.Bounds.{EndsLine, KeepsLines};
 ghost use Rattle.ingest.specs.Counting.{total};
+ghost use Rattle.audit_record.specs.declared.types.Read.TheVariants as read;
 ghost use Rattle.ingest.specs.Entries.{IsGiven};
 ghost use Rattle.ingest.specs.LineRecords.{record_of};
 ghost use Rattle.ingest.specs.LineSteps.{HoldsMore, EndsUsed, EndsOther, SettlesUsed, SettlesOther};
@@ -22,8 +23,8 @@ ghost use Rattle.ingest.specs.Storing.{moment_of};
 ghost use Rattle.store_check.specs.Conditions.{HasCounts, HasListed, HasTail};
 ghost use Rattle.stored.specs.Moment.{state_at};
 
-use audit_lex::{Lexed, LineCut, LineFault, Tally, lex, lines_are_counted};
-use audit_record::{Entry, Room, read_line};
+use audit_lex::{LastStamp, Lexed, LineCut, LineFault, Tally, lex, lines_are_counted};
+use audit_record::{Read, Record, read_line};
 use flow_base::{Bad, Bytes, Limits, List, NoMemory};
 use row_codec::StateRow;
 use std::alloc::Global;
@@ -183,26 +184,32 @@ impl LineReader {
     }
 
     /// What the line that ends with these bytes gives the joiner, if it is a used one. A line that has begun was held
-    /// whole. A record takes the memory that `room` has.
-    pub fn read(&self, part: &[u8], room: &mut Room) -> Result<Option<Entry>, NoMemory>
+    /// whole. A record is read into `item`, whose memory it takes; the answer doesn't depend on what `last` holds.
+    #[inline(always)]
+    pub fn read(
+        &self,
+        part: &[u8],
+        last: &mut LastStamp,
+        item: &mut Record,
+    ) -> Result<Read, NoMemory>
         requires no_feed { position_or_len (is_byte 10) part.now ≡ length part.now }
         requires whole { HasNoTail self.now ⊎ (part.now ≡ []) }
         ensures reads { IfOk result (λ r. (limits : Limits) (h : History)
             → ReaderStandsFor limits self.now h
-            → IsGiven r (record_of limits.line (tail_of h ++ part.now))) }
-        ensures nothing { HasNoTail self.now → part.now ≡ [] → result ≡ Ok None }
-        ensures two { IfOk result (λ r. IsSome r
+            → IsGiven r item.new (record_of limits.line (tail_of h ++ part.now))) }
+        ensures nothing { HasNoTail self.now → part.now ≡ [] → result ≡ Ok read.Unused }
+        ensures two { IfOk result (λ r. r ≢ read.Unused
             → 2 ≤ length self.now.cut.tail + length part.now) }
     {
         if self.cut.long() {
-            return Ok(None);
+            return Ok(Read::Unused);
         }
         let line = text_of_line(&self.cut, part);
         // An empty line gives nothing, even if there is no memory.
         if line.is_empty() {
-            return Ok(None);
+            return Ok(Read::Unused);
         }
-        read_line(self.alloc, line, self.limits.line, room)
+        read_line(self.alloc, line, self.limits.line, last, item)
     }
 
     /// Ends a used line with these bytes and a line feed.
@@ -218,7 +225,7 @@ impl LineReader {
     {
         self.tally.used += 1;
         self.bytes += part.len() as u64 + 1;
-        self.cut = after_line(self.alloc, &self.cut, self.limits.line);
+        self.cut.end_line();
     }
 
     /// Ends a line that isn't used with these bytes and a line feed. If allocation fails, nothing has changed.
@@ -234,7 +241,7 @@ impl LineReader {
     {
         count_line(&self.limits, &self.cut, part, &mut self.tally)?;
         self.bytes += part.len() as u64 + 1;
-        self.cut = after_line(self.alloc, &self.cut, self.limits.line);
+        self.cut.end_line();
         Ok(())
     }
 
@@ -247,7 +254,7 @@ impl LineReader {
         ensures stands { SettlesUsed self.old self.new }
     {
         self.tally.used += 1;
-        self.cut = after_line(self.alloc, &self.cut, self.limits.line);
+        self.cut.end_line();
     }
 
     /// Ends another last line, if it has a byte. If allocation fails, nothing has changed.
@@ -263,7 +270,7 @@ impl LineReader {
             return Ok(());
         }
         count_line(&self.limits, &self.cut, &[], &mut self.tally)?;
-        self.cut = after_line(self.alloc, &self.cut, self.limits.line);
+        self.cut.end_line();
         Ok(())
     }
 }
@@ -274,15 +281,6 @@ pub fn copy_bad(alloc: Global, bad: &[Bad]) -> Result<List<Bad>, NoMemory>
 {
     let made = Vec::from_slice(alloc, bad)?;
     Ok(List::from_vec(made))
-}
-
-// A cutter that has given one more line, and holds nothing.
-fn after_line(alloc: Global, cut: &LineCut, limit: usize) -> LineCut
-    requires { cut.now.lines < 2 ^ 61 }
-    ensures { result
-        ≡ record { limit = limit; lines = cut.now.lines + 1; tail = []; long = false } }
-{
-    LineCut::resume(limit, cut.lines() + 1, Bytes::new(alloc), false)
 }
 
 // Counts the line that ends with these bytes. If allocation fails, nothing has changed.
