@@ -13,6 +13,8 @@ pub mod HeaderLemmas
 pub mod HeaderNumbers
 pub mod StampLemmas
 pub mod HeaderLaws
+pub mod SameStamps
+pub mod AlikeLemmas
 pub mod PieceLaws
 pub mod WrittenPieces
 pub mod ReadableLemmas

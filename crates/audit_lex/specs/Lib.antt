@@ -3,6 +3,7 @@ pub mod LineCut
 pub mod Tokens
 pub mod Values
 pub mod Header
+pub mod HeldStamps
 pub mod FieldTable
 pub mod FieldNames
 pub mod TablePlaces

@@ -11,6 +11,7 @@ mod field_values;
 mod fields;
 mod fronts;
 mod header;
+mod last_stamp;
 mod laws;
 mod lexer;
 mod line_cut;
@@ -30,6 +31,7 @@ mod values;
 pub use faults::LineFault;
 pub use fields::{Field, Kind, Rule, ValueKind, field_name, rules};
 pub use header::EventKey;
+pub use last_stamp::LastStamp;
 pub use laws::{
     headers_are_written, line_feeds_end_lines, lines_are_counted, lines_have_one_class, lines_stay,
     pieces_are_joined, settles_end_tails, tokens_are_written, used_lines_are_readable,

@@ -1,5 +1,5 @@
-//! Where a byte stands among the next sixteen.
-ghost use Rattle.std.specs.Prelude.{◌≡◌, ◌==◌, ◌<◌, ◌≤◌, ℕ, true, false, length, slice_index};
+//! What is known of the next sixteen or 32 bytes by comparing them together.
+ghost use Rattle.std.specs.Prelude.{◌≡◌, ◌==◌, ◌<◌, ◌≤◌, ℕ, true, false, length, take, slice_index};
 
 use std::simd::prelude::*;
 
@@ -17,4 +17,16 @@ pub(crate) fn place_in_sixteen(byte: u8, text: &[u8]) -> usize
         return 16;
     }
     marks.trailing_zeros() as usize
+}
+
+/// Whether a text begins with the first `len` of these bytes. All of them are compared together.
+pub(crate) fn begins_alike(bytes: &[u8; 32], len: usize, text: &[u8]) -> bool
+    requires text { 32 ≤ length text.now }
+    requires len { len ≤ 32 }
+    ensures { result ≡ true → take len text.now ≡ take len bytes.now }
+{
+    let others = u8x32::from_slice(text)
+        .simd_ne(u8x32::from_array(*bytes))
+        .to_bitmask();
+    others.trailing_zeros() as usize >= len
 }

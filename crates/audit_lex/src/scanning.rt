@@ -10,7 +10,8 @@ ghost use Rattle.audit_lex.specs.Tokens.{field_of};
 
 use crate::field_values::{fill_slots, value_of_one};
 use crate::fields::{Field, Kind};
-use crate::header::{EventKey, read_header};
+use crate::header::{EventKey, read_next_header};
+use crate::last_stamp::LastStamp;
 use crate::lexer::is_blank;
 use crate::slots::Slots;
 
@@ -33,8 +34,14 @@ impl<'a> Scanned<'a> {
 }
 
 /// Fills empty slots with the values of the line's fields. The line is used if each field of its kind can be read. The
-/// answer is `None` if the header already shows that it isn't used.
-pub fn scan<'a>(line: &'a [u8], limit: usize, slots: &mut Slots<'a>) -> Option<Scanned<'a>>
+/// answer is `None` if the header already shows that it isn't used. The answer is the same whatever stands in `last`, which
+/// then holds this line's stamp or the one that it held.
+pub fn scan<'a>(
+    line: &'a [u8],
+    limit: usize,
+    last: &mut LastStamp,
+    slots: &mut Slots<'a>,
+) -> Option<Scanned<'a>>
     requires { AreEmpty (held slots.old.values) }
     ensures { MatchOption result (IsUnused limit line.now)
         (λ s. IsScanned limit line.now s.key s.kind s.raw.now (held slots.new.values)) }
@@ -42,7 +49,7 @@ pub fn scan<'a>(line: &'a [u8], limit: usize, slots: &mut Slots<'a>) -> Option<S
     if line.len() > limit || is_blank(line) {
         return None;
     }
-    let header = read_header(line)?;
+    let header = read_next_header(line, last)?;
     let kind = header.kind?;
     fill_slots(header.raw, kind, slots);
     Some(Scanned {

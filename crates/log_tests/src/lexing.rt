@@ -1,7 +1,7 @@
 //! Lines of each class and with each fault. What is expected was worked out by hand from the format.
 use audit_lex::{
-    Field, Kind, Lexed, LineCut, LineFault, Slots, Tally, UsedLine, dec32, dec64, device, handle,
-    hex32, hex64, lex, quoted, scan, signed, yesno,
+    Field, Kind, LastStamp, Lexed, LineCut, LineFault, Slots, Tally, UsedLine, dec32, dec64,
+    device, handle, hex32, hex64, lex, quoted, scan, signed, yesno,
 };
 use flow_base::{Bad, Bytes, NoMemory};
 use std::alloc::Global;
@@ -580,7 +580,7 @@ fn a_scan_finds_the_fields_and_leaves_their_faults(rt: HostRuntime) {
     let line =
         b"type=PATH msg=audit(12.345:67): item=x name=\"/a b\" inode=2 objtype=PARENT name=\"c\"";
     let mut slots = Slots::new();
-    match scan(line.as_slice(), 200, &mut slots) {
+    match scan(line.as_slice(), 200, &mut LastStamp::none(), &mut slots) {
         Some(scanned) => {
             assert_eq!(rt; scanned.kind, Kind::Path);
             assert_eq!(rt; scanned.key.ms, 12_345);
@@ -612,6 +612,6 @@ fn a_scan_finds_nothing_in_lines_that_are_not_used_by_their_headers(rt: HostRunt
         b"type=CWD msg=audit(12.345:67): cwd=\"/longer\"".as_slice(),
     ] {
         let mut slots = Slots::new();
-        assert!(rt; scan(line, 43, &mut slots).is_none());
+        assert!(rt; scan(line, 43, &mut LastStamp::none(), &mut slots).is_none());
     }
 }

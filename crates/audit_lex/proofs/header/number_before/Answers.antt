@@ -13,7 +13,7 @@ use Rattle.audit_lex.proofs.header.number_before.Goals as goal
 pub returns-then-text-place-clause-read : goal.returns-then-text-place-clause-read
 returns-then-text-place-clause-read c =
     let low = not_before c.args.byte c.args.text.now c.loop-place.place c.requires.byte (omega (arith, c.loop-place-test.true)) c.loop-place.invariant.digits in
-    let fails : is_digit (get_or c.args.text.now c.loop-place.place 0) 10 ≡ false = le-ltb _ _ (omega (arith, c.if-digit-ge10.true, c.digit-digit.ensures)) in
+    let fails : is_digit (get_or c.args.text.now c.loop-place.place 0) 10 ≡ false = le-ltb _ _ (c.decimal_digit-digit.ensures.other c.if-digit-ge10.true) in
     sym (stopped c.args.byte c.args.least c.args.most c.args.text.now c.loop-place.place (omega (arith, c.loop-place-test.true)) low fails c.then-text-place.either)
 
 pub returns-then-digit-ge10-clause-read : goal.returns-then-digit-ge10-clause-read
@@ -28,22 +28,23 @@ returns-then-digit-ge10-clause-read c =
 
 pub overflow_mul-value : goal.overflow_mul-value
 overflow_mul-value c =
-    let step = digit_fits 10 c.loop-place.value c.digit-digit.result c.loop-place.place c.loop-place.invariant.small (omega arith) (omega arith) (omega arith) in
+    let step = digit_fits 10 c.loop-place.value c.decimal_digit-digit.result c.loop-place.place c.loop-place.invariant.small (omega arith) (omega arith) (omega arith) in
     omega (arith, step.fits)
 
 pub overflow_add-value : goal.overflow_add-value
 overflow_add-value c =
-    let step = digit_fits 10 c.loop-place.value c.digit-digit.result c.loop-place.place c.loop-place.invariant.small (omega arith) (omega arith) (omega arith) in
+    let step = digit_fits 10 c.loop-place.value c.decimal_digit-digit.result c.loop-place.place c.loop-place.invariant.small (omega arith) (omega arith) (omega arith) in
     omega (arith, step.fits)
 
 pub loop-place-preserved : goal.loop-place-preserved
 loop-place-preserved c =
-    let step = digit_fits 10 c.loop-place.value c.digit-digit.result c.loop-place.place c.loop-place.invariant.small (omega arith) (omega arith) (omega arith) in
+    let step = digit_fits 10 c.loop-place.value c.decimal_digit-digit.result c.loop-place.place c.loop-place.invariant.small (omega arith) (omega arith) (omega arith) in
     let within : c.loop-place.place < length c.args.text.now = omega (arith, c.loop-place-test.true) in
+    let digit = c.decimal_digit-digit.ensures.digit (omega (arith, c.if-digit-ge10.false)) in
     let more = digits_value_more 10 c.args.text.now c.loop-place.place within in
-    let below : digit_value (get_or c.args.text.now c.loop-place.place 0) < 10 = omega (arith, c.if-digit-ge10.false, c.digit-digit.ensures) in
+    let below : digit_value (get_or c.args.text.now c.loop-place.place 0) < 10 = omega (arith, c.if-digit-ge10.false, digit) in
     record {
-      value = cc;
+      value = omega (arith, c.loop-place.invariant.value, more, digit);
       small = step.next;
       digits = one_more c.args.text.now c.loop-place.place below c.loop-place.invariant.digits;
       whole = whole_more c.args.text.now c.loop-place.place within below c.loop-place.invariant.whole;

@@ -1,0 +1,64 @@
+//! The stamp of a line before.
+//!
+//! All lines of an event have one stamp, so most lines have the stamp of the line before. A stamp that was read is kept
+//! with its key, and a line that has the same one is known by one comparison: its numbers aren't read again.
+ghost use Rattle.std.specs.Prelude.{◌≡◌, option_map};
+ghost use Rattle.audit_lex.specs.Header.{stamp_of};
+
+use crate::header::{EventKey, stamp};
+use crate::near::begins_alike;
+use std::marker::Model;
+use std::simd::prelude::*;
+
+/// A stamp and what it says. A reader's answer is the same whatever stands in it: it only saves work.
+#[derive(Drop)]
+pub struct LastStamp {
+    // A text that begins with the stamp.
+    bytes: [u8; 32],
+    // How long the stamp is, with its closing bracket.
+    len: usize,
+    key: EventKey,
+}
+
+impl Model for LastStamp {
+    ghost use Rattle.audit_lex.specs.HeldStamps.{HoldsStamp};
+
+    ghost Value = { Unit {0} };
+
+    ghost view = { λ _. tt };
+
+    ghost invariant = { λ a. HoldsStamp a.bytes a.len a.key };
+}
+
+impl LastStamp {
+    /// What is held before any line was read: the first stamp of all time, so that no reader asks whether one is held.
+    pub fn none() -> LastStamp {
+        LastStamp {
+            bytes: *b"msg=audit(0.000:0)              ",
+            len: 18,
+            key: EventKey { ms: 0, serial: 0 },
+        }
+    }
+
+    /// The stamp's time and serial number, and what stands after it. A stamp that isn't the one that is held takes its
+    /// place.
+    pub(crate) fn stamp<'a>(&mut self, text: &'a [u8]) -> Option<(EventKey, &'a [u8])>
+        ensures { option_map (λ p. (p.0, p.1.now)) result ≡ stamp_of text.now }
+    {
+        if text.len() < 32 {
+            return stamp(text);
+        }
+        if begins_alike(&self.bytes, self.len, text) {
+            return Some((self.key, &text[self.len..]));
+        }
+        let (key, rest) = stamp(text)?;
+        let len = text.len() - rest.len();
+        // A longer stamp is a rare one, and is read anew in each line.
+        if len <= 32 {
+            self.bytes = u8x32::from_slice(text).to_array();
+            self.len = len;
+            self.key = key;
+        }
+        Some((key, rest))
+    }
+}
