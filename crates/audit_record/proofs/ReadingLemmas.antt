@@ -1,6 +1,5 @@
 -- What a scanned line gives.
-use Rattle.std.proofs.Common.{◌≡◌, ◌∙◌, sym, refl, ap, subst, ℕ, ℤ, Bool, false, List, length, Option, None, Some, IsSome, option_map, Result, Ok, Err, if◌then◌else◌, arith}
-use Rattle.std.specs.Prelude.{IfOk}
+use Rattle.std.proofs.Common.{◌≡◌, ◌∙◌, sym, refl, ap, subst, ℕ, ℤ, Bool, true, false, List, length, Option, None, Some, IsSome, option_map, if◌then◌else◌, arith}
 use Rattle.std.proofs.lemmas.Grind.{common_steps}
 use Rattle.std.specs.Option.{option_and_then}
 use Rattle.audit_lex.specs.FieldTable.{name_of}
@@ -21,14 +20,13 @@ use Rattle.audit_lex.proofs.ReadableLemmas.{used_within, in_line}
 use Rattle.audit_lex.proofs.ScanLemmas.{used_where_readable, readable_where_used, slot_is}
 use Rattle.flow_base.specs.declared.types.Device.{Device}
 use Rattle.flow_base.specs.declared.types.FileId.{FileId}
-use Rattle.audit_record.specs.Reading.{is_end, IsGivenBy, GivesEntry, numbers_from, call_from, numbers_of, call_of, item_from, path_from, item_of, path_of, pair_from, body_of, scanned_value, record_with, entry_with}
+use Rattle.audit_record.specs.Reading.{is_end, IsGivenBy, if_read, numbers_from, call_from, numbers_of, call_of, item_from, path_from, item_of, path_of, pair_from, body_of, scanned_value, record_with}
 use Rattle.audit_record.specs.Records.{value_in_line, SpellsSyscall, SpellsPath, SpellsBody, Spells, file_from, name_kind_from}
 use Rattle.audit_record.specs.declared.types.Body.{Body}
 use Rattle.audit_record.specs.declared.types.Body.TheVariants as body
-use Rattle.audit_record.specs.declared.types.Entry.{Entry}
-use Rattle.audit_record.specs.declared.types.Entry.TheVariants as entry
 use Rattle.audit_record.specs.declared.types.NameKind.{NameKind}
 use Rattle.audit_record.specs.declared.types.PathItem.{PathItem}
+use Rattle.audit_record.specs.declared.types.Read.TheVariants as read
 use Rattle.audit_record.specs.declared.types.Record.{Record}
 use Rattle.audit_record.specs.declared.types.Syscall.{Syscall}
 use Rattle.audit_record.proofs.SpellingLaws.{syscall_body, path_body, cwd_body, sockaddr_body, pair_body, mmap_body, proctitle_body, eoe_body, body_there, spells_where_used}
@@ -295,26 +293,32 @@ module _ (limit : ℕ) (line : List ℕ) (key : EventKey) (k : Kind) (raw : List
   spelled_so : (said : Body) → body_of k (scanned_value slots raw) ≡ Some said → Spells line (record_with key line said)
   spelled_so said is = spells_where_used line key k line said (used_within limit line key k (used_so said is)) refl (said_in_line said is)
 
-  -- what was made is the record that the line spells
-  pub entry_made : (made : Entry) → option_map (entry_with key line) (body_of k (scanned_value slots raw)) ≡ Some made
-      → (item : Record) × (made ≡ entry.Record item) × Spells line item
-  entry_made made is =
-      let said = mapped (entry_with key line) (body_of k (scanned_value slots raw)) made is in
-      (record_with key line said.0, sym said.2, spelled_so said.0 said.1)
+  -- a record that was read is the one that the line spells
+  pub record_read : (item : Record) → Some item ≡ option_map (record_with key line) (body_of k (scanned_value slots raw)) → Spells line item
+  record_read item is =
+      let said = mapped (record_with key line) (body_of k (scanned_value slots raw)) item (sym is) in
+      subst (Spells line) said.2 (spelled_so said.0 said.1)
 
-  -- where none was made the line isn't used
-  pub none_given : option_map (entry_with key line) (body_of k (scanned_value slots raw)) ≡ None → IsUnused limit line
-  none_given none = λ other l is.
+  -- if none was read the line isn't used
+  pub none_read : None ≡ option_map (record_with key line) (body_of k (scanned_value slots raw)) → IsUnused limit line
+  none_read none = λ other l is.
       let can = body_there line k (readable_where_used limit line key k raw slots scanned other l is) in
       let moved = move_body k (value_in_line line) (scanned_value slots raw) can.0 agree objtype can.1 in
-      none_some can.0 (sym (unmapped (entry_with key line) _ none) ∙ body_read k (scanned_value slots raw) can.0 moved)
+      none_some can.0 (sym (unmapped (record_with key line) _ (sym none)) ∙ body_read k (scanned_value slots raw) can.0 moved)
 
-  pub gives : is_end k ≡ false → (made : Option Entry) → made ≡ option_map (entry_with key line) (body_of k (scanned_value slots raw)) → GivesEntry limit line made
-  gives other None is = none_given (sym is)
-  gives other (Some made) is =
-      let said = mapped (entry_with key line) (body_of k (scanned_value slots raw)) made (sym is) in
-      subst (λ (e : Entry). IsGivenBy limit line e) said.2
-      (record { key = key; kind = k; used = used_so said.0 said.1; gives = (other, spelled_so said.0 said.1) })
+  pub gives_record : is_end k ≡ false → (item : Record) → Some item ≡ option_map (record_with key line) (body_of k (scanned_value slots raw))
+      → IsGivenBy limit line read.Record item
+  gives_record other item is =
+      let said = mapped (record_with key line) (body_of k (scanned_value slots raw)) item (sym is) in
+      record { key = key; kind = k; used = used_so said.0 said.1; gives = (other, record_read item is) }
+
+pub was_read : {A : Type 0} (read : Bool) (a : A) (o : Option A) → read ≡ true → if_read read a ≡ o → Some a ≡ o
+was_read true a o is same = same
+was_read false a o is same = absurd (cc is)
+
+pub not_read : {A : Type 0} (read : Bool) (a : A) (o : Option A) → read ≡ false → if_read read a ≡ o → None ≡ o
+not_read true a o is same = absurd (cc is)
+not_read false a o is same = same
 
 -- ---- a used line is used within its length
 
@@ -326,8 +330,3 @@ short_class long class short = rw short refl
 
 pub used_at_length : (line : List ℕ) (key : EventKey) (k : Kind) → text_class line ≡ Used key k → class_of (length line) line ≡ Used key k
 used_at_length line key k is = short_class (is_long (length line) line) (text_class line) (within line) ∙ is
-
--- what holds of a value holds of a result with it
-pub then_ok : {T E : Type 0} (r : Result T E) (P Q : T → Type 0) → ((t : T) → P t → Q t) → IfOk r P → IfOk r Q
-then_ok (Ok t) P Q more p = more t p
-then_ok (Err e) P Q more p = p

@@ -18,8 +18,8 @@ use Rattle.audit_lex.specs.declared.header.EventKey.{EventKey}
 use Rattle.audit_record.specs.Records.{Spells, file_from, name_kind_from}
 use Rattle.audit_record.specs.declared.types.Body.{Body}
 use Rattle.audit_record.specs.declared.types.Body.TheVariants as body
-use Rattle.audit_record.specs.declared.types.Entry.{Entry}
-use Rattle.audit_record.specs.declared.types.Entry.TheVariants as entry
+use Rattle.audit_record.specs.declared.types.Read.{Read}
+use Rattle.audit_record.specs.declared.types.Read.TheVariants as read
 use Rattle.audit_record.specs.declared.types.NameKind.{NameKind}
 use Rattle.audit_record.specs.declared.types.PathItem.{PathItem}
 use Rattle.audit_record.specs.declared.types.Record.{Record}
@@ -34,21 +34,22 @@ is_end kind.Eoe = true
 is_end _ = false
 
 -- the end of this event, by a line of a kind that ends one, or else the record that the line spells
-abbrev pub IsEntryOf : List ℕ → EventKey → Kind → Entry → Type 0
-IsEntryOf line key kind (entry.Record item) = (is_end kind ≡ false) × Spells line item
-IsEntryOf line key kind (entry.End ended) = (is_end kind ≡ true) × (ended ≡ key)
+abbrev pub IsEntryOf : List ℕ → EventKey → Kind → Read → Record → Type 0
+IsEntryOf line key kind read.Unused item = ⊥
+IsEntryOf line key kind read.Record item = (is_end kind ≡ false) × Spells line item
+IsEntryOf line key kind (read.End ended) item = (is_end kind ≡ true) × (ended ≡ key)
 
 -- the line is used, and this is what it gives
-pub record IsGivenBy (limit : ℕ) (line : List ℕ) (given : Entry) : Type 0 where
+pub record IsGivenBy (limit : ℕ) (line : List ℕ) (given : Read) (item : Record) : Type 0 where
   pub key : EventKey
   pub kind : Kind
   pub used : class_of limit line ≡ Used key kind
-  pub gives : IsEntryOf line key kind given
+  pub gives : IsEntryOf line key kind given item
 
--- a used line gives an entry, and another line none
-abbrev pub GivesEntry : ℕ → List ℕ → Option Entry → Type 0
-GivesEntry limit line None = IsUnused limit line
-GivesEntry limit line (Some given) = IsGivenBy limit line given
+-- a used line gives this record or the end of an event, and another line nothing
+abbrev pub GivesEntry : ℕ → List ℕ → Read → Record → Type 0
+GivesEntry limit line read.Unused item = IsUnused limit line
+GivesEntry limit line given item = IsGivenBy limit line given item
 
 -- ---- what values spell, if each can be read
 
@@ -135,10 +136,21 @@ scanned_value slots raw field = held_for slots field
 abbrev pub record_with : EventKey → List ℕ → Body → Record
 record_with key line said = record { key = key; line = line; body = said }
 
--- the same as an entry
-abbrev pub entry_with : EventKey → List ℕ → Body → Entry
-entry_with key line said = entry.Record (record_with key line said)
+-- what was read, if it could be
+abbrev pub if_read : {A : Type 0} → Bool → A → Option A
+if_read true a = Some a
+if_read false a = None
 
--- an entry that is a record
-abbrev pub HasRecord : Entry → Type 0
-HasRecord given = (item : Record) × (given ≡ entry.Record item)
+-- ---- the kind of a body
+
+-- the body of a call
+abbrev pub IsCall : Body → Type 0
+IsCall said = (call : Syscall) × (said ≡ body.Syscall call)
+
+-- the body of a path
+abbrev pub IsPath : Body → Type 0
+IsPath said = (path : PathItem) × (said ≡ body.Path path)
+
+-- the body of a working directory
+abbrev pub IsCwd : Body → Type 0
+IsCwd said = (text : Option (List ℕ)) × (said ≡ body.Cwd text)

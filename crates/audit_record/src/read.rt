@@ -5,41 +5,46 @@ ghost use Rattle.std.specs.Prelude.{◌≡◌, IfOk, option_map};
 ghost use Rattle.audit_lex.specs.Slots.{held, held_for};
 ghost use Rattle.audit_lex.specs.declared.fields.Field.TheVariants.{Nametype, Objtype};
 ghost use Rattle.audit_lex.specs.declared.fields.Kind.TheVariants as kind;
-ghost use Rattle.audit_record.specs.declared.types.Entry.TheVariants as entry;
+ghost use Rattle.audit_record.specs.declared.types.Body.TheVariants as body;
 ghost use Rattle.audit_record.specs.Records.{Spells, name_kind, name_kind_from, file_from};
 ghost use Rattle.audit_record.specs.Reading.{is_end as ends_event, GivesEntry, scanned_value};
-ghost use Rattle.audit_record.specs.Reading.{numbers_of, item_of, body_of, entry_with, HasRecord};
+ghost use Rattle.audit_record.specs.Reading.{numbers_of, call_of, item_of, path_of, body_of};
+ghost use Rattle.audit_record.specs.Reading.{if_read, record_with};
 
+use crate::bodies::{become_call, become_cwd, become_path};
 use crate::fields::{
     needed_dec32, needed_handle, needed_hex32, needed_hex64, offered_dec64, offered_device,
     offered_signed, offered_yesno,
 };
-use crate::room::{Room, copied};
-use crate::texts::{needed_bytes, needed_text, offered_text};
-use crate::types::{Body, Entry, NameKind, PathItem, Record, Syscall};
+use crate::texts::{needed_bytes, needed_text, offered_text, refill};
+use crate::types::{Body, NameKind, PathItem, Read, Record, Syscall};
 use audit_lex::{Field, Kind, Scanned, Slots, UsedLine, scan};
 use flow_base::{Bytes, Device, FileId, NoMemory};
 use std::alloc::Global;
 
-/// What a line that may have this many bytes gives, if it is a used one. The line and a text between quotes are copied
-/// once, into the memory that `room` has, which the record takes. Texts and bytes in hex digits take new memory, and the
-/// other fields none.
+/// What a line that may have this many bytes gives, if it is a used one. A record is written over `item`: the line and a
+/// text between quotes use the memory of those that `item` had. Texts and bytes in hex digits take new memory. If the line
+/// gives no record, or if allocation fails, `item` is any record.
 pub fn read_line(
     alloc: Global,
     line: &[u8],
     limit: usize,
-    room: &mut Room,
-) -> Result<Option<Entry>, NoMemory>
-    ensures { IfOk result (λ read. GivesEntry limit line.now read) }
+    item: &mut Record,
+) -> Result<Read, NoMemory>
+    ensures { IfOk result (λ read. GivesEntry limit line.now read item.new) }
 {
     let mut slots = Slots::new();
     let Some(scanned) = scan(line, limit, &mut slots) else {
-        return Ok(None);
+        return Ok(Read::Unused);
     };
     if is_end(scanned.kind) {
-        return Ok(Some(Entry::End(scanned.key)));
+        return Ok(Read::End(scanned.key));
     }
-    read_scanned(alloc, line, scanned, &slots, room)
+    if read_scanned(alloc, line, scanned, &slots, item)? {
+        Ok(Read::Record)
+    } else {
+        Ok(Read::Unused)
+    }
 }
 
 /// The record that a used line spells.
@@ -50,22 +55,11 @@ pub fn read_record(alloc: Global, used: &UsedLine<'_>) -> Result<Record, NoMemor
     let Some(scanned) = scan(used.line, used.line.len(), &mut slots) else {
         unreachable!();
     };
-    let mut room = Room::new(alloc);
-    let Some(item) = read_scanned(alloc, used.line, scanned, &slots, &mut room)? else {
+    let mut item = Record::blank(alloc);
+    if !read_scanned(alloc, used.line, scanned, &slots, &mut item)? {
         unreachable!();
-    };
-    Ok(record_in(item))
-}
-
-// The record of an entry that is one.
-fn record_in(given: Entry) -> Record
-    requires { HasRecord given }
-    ensures { given ≡ entry.Record result }
-{
-    match given {
-        Entry::Record(item) => item,
-        Entry::End(_) => unreachable!(),
     }
+    Ok(item)
 }
 
 // Whether a line of this kind ends its event.
@@ -75,103 +69,138 @@ fn is_end(kind: Kind) -> bool
     matches!(kind, Kind::Proctitle | Kind::Eoe)
 }
 
-// The record of a line, if its values spell one. It is large, so it is put where it is returned from here on.
+// Writes the record of a line over another, if its values spell one.
+#[inline(always)]
 fn read_scanned(
     alloc: Global,
     line: &[u8],
     scanned: Scanned<'_>,
     slots: &Slots<'_>,
-    room: &mut Room,
-) -> Result<Option<Entry>, NoMemory>
-    ensures { IfOk result (λ made. made ≡ option_map (entry_with scanned.entry.key line.now)
-        (body_of scanned.entry.kind
+    item: &mut Record,
+) -> Result<bool, NoMemory>
+    ensures { IfOk result (λ read. if_read read item.new
+        ≡ option_map (record_with scanned.entry.key line.now) (body_of scanned.entry.kind
         (scanned_value (held slots.now.values) scanned.entry.raw.now))) }
 {
-    let Some(body) = read_body(alloc, scanned, slots, &mut room.text)? else {
-        return Ok(None);
-    };
-    let line = copied(&mut room.line, line)?;
-    Ok(Some(Entry::Record(Record {
-        key: scanned.key,
-        line,
-        body,
-    })))
+    if !read_body(alloc, scanned, slots, &mut item.body)? {
+        return Ok(false);
+    }
+    refill(&mut item.line, line)?;
+    item.key = scanned.key;
+    Ok(true)
 }
 
+// Writes the body over another.
+#[inline(always)]
 fn read_body(
     alloc: Global,
     scanned: Scanned<'_>,
     slots: &Slots<'_>,
-    room: &mut Bytes,
-) -> Result<Option<Body>, NoMemory>
-    ensures { IfOk result (λ said. said ≡ body_of scanned.entry.kind
+    body: &mut Body,
+) -> Result<bool, NoMemory>
+    ensures { IfOk result (λ read. if_read read body.new ≡ body_of scanned.entry.kind
         (scanned_value (held slots.now.values) scanned.entry.raw.now)) }
 {
     match scanned.kind {
-        Kind::Syscall => call_body(alloc, slots, room),
-        Kind::Path => path_body(alloc, scanned, slots, room),
-        Kind::Cwd => cwd_body(alloc, slots, room),
-        Kind::Sockaddr => sockaddr_body(alloc, slots),
-        Kind::FdPair => Ok(pair_body(slots)),
-        Kind::Mmap => Ok(mmap_body(slots)),
-        Kind::Proctitle => Ok(Some(Body::Proctitle)),
-        Kind::Eoe => Ok(Some(Body::Eoe)),
+        Kind::Syscall => call_body(alloc, slots, body),
+        Kind::Path => path_body(alloc, scanned, slots, body),
+        Kind::Cwd => cwd_body(alloc, slots, body),
+        Kind::Sockaddr => sockaddr_body(alloc, slots, body),
+        Kind::FdPair => Ok(put_body(body, pair_body(slots))),
+        Kind::Mmap => Ok(put_body(body, mmap_body(slots))),
+        Kind::Proctitle => Ok(put_body(body, Some(Body::Proctitle))),
+        Kind::Eoe => Ok(put_body(body, Some(Body::Eoe))),
     }
 }
 
-fn call_body(alloc: Global, slots: &Slots<'_>, room: &mut Bytes) -> Result<Option<Body>, NoMemory>
-    ensures { IfOk result (λ said. said ≡ body_of kind.Syscall (held_for (held slots.now.values))) }
+// Puts a body that was read in place of another.
+fn put_body(body: &mut Body, read: Option<Body>) -> bool
+    ensures { if_read result body.new ≡ read }
 {
-    let Some(mut call) = numbers_of_call(slots) else {
-        return Ok(None);
-    };
-    let Some(exe) = offered_text(alloc, slots.field(Field::Exe), room)? else {
-        return Ok(None);
-    };
-    call.exe = exe;
-    Ok(Some(Body::Syscall(call)))
+    match read {
+        Some(read) => {
+            *body = read;
+            true
+        }
+        None => false,
+    }
 }
 
-// A call without its program. Its numbers are read before any memory is taken.
-fn numbers_of_call(slots: &Slots<'_>) -> Option<Syscall>
-    ensures { result ≡ numbers_of (held_for (held slots.now.values)) }
+fn call_body(alloc: Global, slots: &Slots<'_>, body: &mut Body) -> Result<bool, NoMemory>
+    ensures { IfOk result (λ read. if_read read body.new
+        ≡ body_of kind.Syscall (held_for (held slots.now.values))) }
 {
-    Some(Syscall {
-        arch: needed_hex32(slots.field(Field::Arch))?,
-        number: needed_dec32(slots.field(Field::Syscall))?,
-        success: offered_yesno(slots.field(Field::Success))?,
-        exit: offered_signed(slots.field(Field::Exit))?,
-        a0: needed_hex64(slots.field(Field::A0))?,
-        a1: needed_hex64(slots.field(Field::A1))?,
-        a2: needed_hex64(slots.field(Field::A2))?,
-        a3: needed_hex64(slots.field(Field::A3))?,
-        ppid: needed_dec32(slots.field(Field::Ppid))?,
-        pid: needed_dec32(slots.field(Field::Pid))?,
-        exe: None,
-    })
+    become_call(body);
+    match body {
+        Body::Syscall(call) => read_call(alloc, slots, call),
+        _ => unreachable!(),
+    }
+}
+
+// Its numbers are read before any memory is taken.
+fn read_call(alloc: Global, slots: &Slots<'_>, call: &mut Syscall) -> Result<bool, NoMemory>
+    ensures { IfOk result (λ read. if_read read call.new
+        ≡ call_of (held_for (held slots.now.values))) }
+{
+    if read_numbers(slots, call).is_none() {
+        return Ok(false);
+    }
+    offered_text(alloc, slots.field(Field::Exe), &mut call.exe)
+}
+
+// The numbers of a call, each written where it stands.
+fn read_numbers(slots: &Slots<'_>, call: &mut Syscall) -> Option<()>
+    ensures { option_map (λ read. record call.new { exe = None }) result
+        ≡ numbers_of (held_for (held slots.now.values)) }
+{
+    call.arch = needed_hex32(slots.field(Field::Arch))?;
+    call.number = needed_dec32(slots.field(Field::Syscall))?;
+    call.success = offered_yesno(slots.field(Field::Success))?;
+    call.exit = offered_signed(slots.field(Field::Exit))?;
+    call.a0 = needed_hex64(slots.field(Field::A0))?;
+    call.a1 = needed_hex64(slots.field(Field::A1))?;
+    call.a2 = needed_hex64(slots.field(Field::A2))?;
+    call.a3 = needed_hex64(slots.field(Field::A3))?;
+    call.ppid = needed_dec32(slots.field(Field::Ppid))?;
+    call.pid = needed_dec32(slots.field(Field::Pid))?;
+    Some(())
 }
 
 fn path_body(
     alloc: Global,
     scanned: Scanned<'_>,
     slots: &Slots<'_>,
-    room: &mut Bytes,
-) -> Result<Option<Body>, NoMemory>
-    ensures { IfOk result (λ said. said ≡ body_of kind.Path
+    body: &mut Body,
+) -> Result<bool, NoMemory>
+    ensures { IfOk result (λ read. if_read read body.new ≡ body_of kind.Path
         (scanned_value (held slots.now.values) scanned.entry.raw.now)) }
 {
+    become_path(body);
+    match body {
+        Body::Path(path) => read_path(alloc, scanned, slots, path),
+        _ => unreachable!(),
+    }
+}
+
+fn read_path(
+    alloc: Global,
+    scanned: Scanned<'_>,
+    slots: &Slots<'_>,
+    path: &mut PathItem,
+) -> Result<bool, NoMemory>
+    ensures { IfOk result (λ read. if_read read path.new
+        ≡ path_of (scanned_value (held slots.now.values) scanned.entry.raw.now)) }
+{
     let Some((item, file)) = item_and_file(slots) else {
-        return Ok(None);
+        return Ok(false);
     };
-    let Some(name) = needed_text(alloc, slots.field(Field::Name), room)? else {
-        return Ok(None);
-    };
-    Ok(Some(Body::Path(PathItem {
-        item,
-        name,
-        file,
-        kind: kind_of_path(scanned, slots),
-    })))
+    if !needed_text(alloc, slots.field(Field::Name), &mut path.name)? {
+        return Ok(false);
+    }
+    path.item = item;
+    path.file = file;
+    path.kind = kind_of_path(scanned, slots);
+    Ok(true)
 }
 
 // The numbers of a path.
@@ -184,23 +213,34 @@ fn item_and_file(slots: &Slots<'_>) -> Option<(u32, Option<FileId>)>
     Some((item, file_of(inode, device)))
 }
 
-fn cwd_body(alloc: Global, slots: &Slots<'_>, room: &mut Bytes) -> Result<Option<Body>, NoMemory>
-    ensures { IfOk result (λ said. said ≡ body_of kind.Cwd (held_for (held slots.now.values))) }
+fn cwd_body(alloc: Global, slots: &Slots<'_>, body: &mut Body) -> Result<bool, NoMemory>
+    ensures { IfOk result (λ read. if_read read body.new
+        ≡ body_of kind.Cwd (held_for (held slots.now.values))) }
 {
-    let Some(text) = needed_text(alloc, slots.field(Field::Cwd), room)? else {
-        return Ok(None);
-    };
-    Ok(Some(Body::Cwd(text)))
+    become_cwd(body);
+    match body {
+        Body::Cwd(text) => needed_text(alloc, slots.field(Field::Cwd), text),
+        _ => unreachable!(),
+    }
 }
 
-fn sockaddr_body(alloc: Global, slots: &Slots<'_>) -> Result<Option<Body>, NoMemory>
-    ensures { IfOk result (λ said. said
+#[inline(never)]
+fn sockaddr_body(alloc: Global, slots: &Slots<'_>, body: &mut Body) -> Result<bool, NoMemory>
+    ensures { IfOk result (λ read. if_read read body.new
         ≡ body_of kind.Sockaddr (held_for (held slots.now.values))) }
 {
-    let Some(bytes) = needed_bytes(alloc, slots.field(Field::Saddr))? else {
-        return Ok(None);
-    };
-    Ok(Some(Body::Sockaddr(bytes)))
+    let read = needed_bytes(alloc, slots.field(Field::Saddr))?;
+    Ok(put_body(body, said_address(read)))
+}
+
+// The body of an address.
+fn said_address(read: Option<Bytes>) -> Option<Body>
+    ensures { result ≡ option_map body.Sockaddr read }
+{
+    match read {
+        Some(bytes) => Some(Body::Sockaddr(bytes)),
+        None => None,
+    }
 }
 
 fn pair_body(slots: &Slots<'_>) -> Option<Body>

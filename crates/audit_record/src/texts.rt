@@ -1,13 +1,14 @@
 //! Texts and bytes, copied and decoded by the values of their fields.
 //!
-//! A text stands between quotes, is absent by the word `(null)`, or is pairs of hex digits. The answer is `Ok(None)` if
-//! the value isn't spelled so, or if it isn't there and must be. A text between quotes is put into the memory of `room`.
-ghost use Rattle.std.specs.Prelude.{◌≡◌, Some, IsSome, IfOk, option_map};
+//! A text stands between quotes, is absent by the word `(null)`, or is pairs of hex digits. It is put in place of another,
+//! whose memory it uses if it stands between quotes. The answer says whether it was read: not if the value isn't spelled so,
+//! or if it isn't there and must be; then the text is any.
+ghost use Rattle.std.specs.Prelude.{◌≡◌, Some, IsSome, IfOk, OnOk, option_map};
 ghost use Rattle.std.specs.Option.{option_and_then};
 ghost use Rattle.audit_lex.specs.Values.{text_of, quoted_text, bytes_of};
 ghost use Rattle.audit_lex.specs.LineFields.{text_if_there};
+ghost use Rattle.audit_record.specs.Reading.{if_read};
 
-use crate::room::copied;
 use audit_lex::{is_bytes, quoted};
 use flow_base::{Bytes, NoMemory};
 use hex::FromHexError;
@@ -24,18 +25,18 @@ pub fn needed_bytes(alloc: Global, value: Option<&[u8]>) -> Result<Option<Bytes>
     }
 }
 
-/// A text that must be there. One that is absent by its word is `Some(None)`.
+/// A text that must be there. One that is absent by its word is read as `None`.
 pub fn needed_text(
     alloc: Global,
     value: Option<&[u8]>,
-    room: &mut Bytes,
-) -> Result<Option<Option<Bytes>>, NoMemory>
-    ensures { IfOk result (λ text. text
+    text: &mut Option<Bytes>,
+) -> Result<bool, NoMemory>
+    ensures { IfOk result (λ read. if_read read text.new
         ≡ option_and_then text_of (option_map (λ text. text.now) value.entry)) }
 {
     match value {
-        Some(value) => read_text(alloc, value, room),
-        None => Ok(None),
+        Some(value) => read_text(alloc, value, text),
+        None => Ok(false),
     }
 }
 
@@ -43,58 +44,81 @@ pub fn needed_text(
 pub fn offered_text(
     alloc: Global,
     value: Option<&[u8]>,
-    room: &mut Bytes,
-) -> Result<Option<Option<Bytes>>, NoMemory>
-    ensures { IfOk result (λ text. text
+    text: &mut Option<Bytes>,
+) -> Result<bool, NoMemory>
+    ensures { IfOk result (λ read. if_read read text.new
         ≡ text_if_there (option_map (λ text. text.now) value.entry)) }
 {
     match value {
-        Some(value) => read_text(alloc, value, room),
-        None => Ok(Some(None)),
+        Some(value) => read_text(alloc, value, text),
+        None => {
+            *text = None;
+            Ok(true)
+        }
     }
+}
+
+/// Bytes in the memory of others, in place of these.
+pub fn refill(room: &mut Bytes, bytes: &[u8]) -> Result<(), NoMemory>
+    ensures { OnOk result (room.new ≡ bytes.now) }
+{
+    room.clear();
+    room.append(bytes)
 }
 
 // The text that a value spells.
-fn read_text(
-    alloc: Global,
-    value: &[u8],
-    room: &mut Bytes,
-) -> Result<Option<Option<Bytes>>, NoMemory>
-    ensures { IfOk result (λ text. text ≡ text_of value.now) }
+fn read_text(alloc: Global, value: &[u8], text: &mut Option<Bytes>) -> Result<bool, NoMemory>
+    ensures { IfOk result (λ read. if_read read text.new ≡ text_of value.now) }
 {
     match value {
-        [b'"', ..] => {
-            let text = read_quoted(value, room)?;
-            Ok(present(text))
+        [b'"', ..] => read_quoted(alloc, value, text),
+        b"(null)" => {
+            *text = None;
+            Ok(true)
         }
-        b"(null)" => Ok(Some(None)),
-        _ => {
-            let text = read_bytes(alloc, value)?;
-            Ok(present(text))
-        }
-    }
-}
-
-// A text that is there, if it is spelled.
-fn present(text: Option<Bytes>) -> Option<Option<Bytes>>
-    ensures { result ≡ option_map Some text }
-{
-    match text {
-        Some(text) => Some(Some(text)),
-        None => None,
+        _ => read_hex(alloc, value, text),
     }
 }
 
 // The text between quotes.
-fn read_quoted(value: &[u8], room: &mut Bytes) -> Result<Option<Bytes>, NoMemory>
-    ensures { IfOk result (λ text. text ≡ quoted_text value.now) }
+fn read_quoted(alloc: Global, value: &[u8], text: &mut Option<Bytes>) -> Result<bool, NoMemory>
+    ensures { IfOk result (λ read. if_read read text.new
+        ≡ option_map Some (quoted_text value.now)) }
 {
     match quoted(value) {
         Some(inner) => {
-            let text = copied(room, inner)?;
-            Ok(Some(text))
+            put_text(alloc, inner, text)?;
+            Ok(true)
         }
-        None => Ok(None),
+        None => Ok(false),
+    }
+}
+
+// A text in the memory of another, if there is one.
+fn put_text(alloc: Global, inner: &[u8], text: &mut Option<Bytes>) -> Result<(), NoMemory>
+    ensures { OnOk result (text.new ≡ Some inner.now) }
+{
+    match text {
+        Some(room) => refill(room, inner),
+        None => {
+            *text = Some(Bytes::from_slice(alloc, inner)?);
+            Ok(())
+        }
+    }
+}
+
+// The text in hex digits.
+#[inline(never)]
+fn read_hex(alloc: Global, value: &[u8], text: &mut Option<Bytes>) -> Result<bool, NoMemory>
+    ensures { IfOk result (λ read. if_read read text.new
+        ≡ option_map Some (bytes_of value.now)) }
+{
+    match read_bytes(alloc, value)? {
+        Some(bytes) => {
+            *text = Some(bytes);
+            Ok(true)
+        }
+        None => Ok(false),
     }
 }
 

@@ -1,9 +1,12 @@
 //! Records, each with the line that spells it.
 //!
 //! A record keeps what later steps ask for and nothing else of its line: the fields of the table of its kind.
+ghost use Rattle.std.specs.Prelude.{◌≡◌, []};
+ghost use Rattle.audit_record.specs.declared.types.Body.TheVariants as body;
 
 use audit_lex::EventKey;
 use flow_base::{Bytes, FileId};
+use std::alloc::Global;
 
 /// A system call. `success` and `exit` aren't there if the call didn't return.
 #[derive(PartialEq, Eq, Drop)]
@@ -61,10 +64,25 @@ pub struct Record {
     pub body: Body,
 }
 
-/// What a used line gives: its record, or the key of the event that it ends. The record of an end says no more than that,
-/// so none is made of it.
-#[derive(Drop)]
-pub enum Entry {
-    Record(Record),
+impl Record {
+    /// A record without a line, which has no memory yet.
+    pub fn blank(alloc: Global) -> Record
+        ensures line { result.line ≡ [] }
+        ensures body { result.body ≡ body.Eoe }
+    {
+        Record {
+            key: EventKey { ms: 0, serial: 0 },
+            line: Bytes::new(alloc),
+            body: Body::Eoe,
+        }
+    }
+}
+
+/// What a line gives: nothing if it isn't used, or a record, or the end of the event of this key. The record of an end
+/// says no more than that, so none is made of it.
+#[derive(Clone, Copy, Debug, PartialEq, Eq)]
+pub enum Read {
+    Unused,
+    Record,
     End(EventKey),
 }

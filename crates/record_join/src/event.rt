@@ -1,8 +1,8 @@
 //! Events, and what was done with a record.
 
+use crate::records::Records;
 use audit_lex::EventKey;
 use audit_record::Record;
-use flow_base::List;
 
 /// What was done with a record: it waits in its group, it closed its group if that waits, or it was dropped.
 #[derive(Clone, Copy, Debug, PartialEq, Eq)]
@@ -19,7 +19,7 @@ pub struct Event {
     pub key: EventKey,
     pub ms: u64,
     pub late: bool,
-    pub records: List<Record>,
+    pub records: Records,
 }
 
 /// An event, borrowed.

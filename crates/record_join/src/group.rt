@@ -5,15 +5,16 @@ ghost use Rattle.record_join.specs.Keys.{is_call};
 ghost use Rattle.record_join.specs.Events.{is_excess, text_of};
 
 use crate::kinds::is_call;
+use crate::records::Records;
 use audit_lex::EventKey;
 use audit_record::Record;
-use flow_base::{Limits, List};
+use flow_base::Limits;
 
 /// The waiting records of a key, and whether its end has arrived.
 #[derive(Drop)]
 pub struct Group {
     pub closed: bool,
-    pub records: List<Record>,
+    pub records: Records,
 }
 
 /// A group, borrowed.

@@ -18,7 +18,7 @@ use crate::parts::Parts;
 use crate::spare::Spare;
 use audit_lex::EventKey;
 use audit_record::Record;
-use flow_base::{Limits, List, NoMemory};
+use flow_base::{Limits, NoMemory};
 use std::alloc::Global;
 use std::cmp::Ordering;
 use std::collections::BTreeMap;
@@ -135,18 +135,25 @@ impl Groups {
         close_last(&mut self.last);
     }
 
-    /// Puts a record into the group of its key, which is made if it doesn't wait: its list has the room that is spare. It is
-    /// inlined, since a record is large: each call that hands it on copies it.
+    /// Puts a record into the group of its key, which is made if it doesn't wait: its list has the memory that is spare. In
+    /// place of the record any other is left. If allocation fails, nothing has changed. It is inlined, since it is done
+    /// with each record.
     #[inline(always)]
-    pub fn hold(&mut self, alloc: Global, spare: &mut Spare, item: Record) -> Result<(), NoMemory>
+    pub fn hold(
+        &mut self,
+        alloc: Global,
+        spare: &mut Spare,
+        item: &mut Record,
+    ) -> Result<(), NoMemory>
         ensures each { OnOk result ((key : EventKey) → lookup (is_key key) self.new
-            ≡ (if is_key item.key key then Some (grown (lookup (is_key key) self.old) item)
+            ≡ (if is_key item.old.key key then Some (grown (lookup (is_key key) self.old) item.old)
             else lookup (is_key key) self.old)) }
         ensures ascend { IsStrictlySortedBy key_cmp (keys_of self.new) }
         ensures err { OnErr result (self.new ≡ self.old) }
+        ensures same { OnErr result (item.new ≡ item.old) }
     {
         match place_of(&self.last, &item.key) {
-            Ordering::Equal => hold_last(&mut self.last, item),
+            Ordering::Equal => hold_last(alloc, &mut self.last, item),
             Ordering::Greater => hold_first(alloc, &mut self.lesser, &mut self.last, spare, item),
             Ordering::Less => hold_lesser(alloc, &mut self.lesser, spare, item),
         }
@@ -179,28 +186,27 @@ fn place_of(last: &Last, key: &EventKey) -> Ordering
 
 // Puts a record into the last group.
 #[inline(always)]
-fn hold_last(last: &mut Last, item: Record) -> Result<(), NoMemory>
+fn hold_last(alloc: Global, last: &mut Last, item: &mut Record) -> Result<(), NoMemory>
     requires { last.old ≢ None }
-    ensures ok { OnOk result (last.new ≡ option_map (more_of item) last.old) }
+    ensures ok { OnOk result (last.new ≡ option_map (more_of item.old) last.old) }
     ensures err { OnErr result (last.new ≡ last.old) }
+    ensures same { OnErr result (item.new ≡ item.old) }
 {
     match last {
-        Some((_, group)) => hold_more(group, item),
+        Some((_, group)) => hold_more(alloc, group, item),
         None => unreachable!(),
     }
 }
 
 // Puts one more record into a group.
 #[inline(always)]
-fn hold_more(group: &mut Group, item: Record) -> Result<(), NoMemory>
+fn hold_more(alloc: Global, group: &mut Group, item: &mut Record) -> Result<(), NoMemory>
     ensures ok { OnOk result (group.new
-        ≡ record group.old { records = group.old.records ++ item ∷ [] }) }
+        ≡ record group.old { records = group.old.records ++ item.old ∷ [] }) }
     ensures err { OnErr result (group.new ≡ group.old) }
+    ensures same { OnErr result (item.new ≡ item.old) }
 {
-    match group.records.push(item) {
-        Ok(()) => Ok(()),
-        Err(fault) => Err(fault),
-    }
+    group.records.exchange(alloc, item)
 }
 
 // Makes the group of a record, which is the last from now on: the one that was is put among the others.
@@ -210,20 +216,24 @@ fn hold_first(
     lesser: &mut Lesser,
     last: &mut Last,
     spare: &mut Spare,
-    item: Record,
+    item: &mut Record,
 ) -> Result<(), NoMemory>
     requires split { IsSplit lesser.old.entries last.old }
     ensures ok { OnOk result (lesser.new.entries ≡ joined lesser.old.entries last.old) }
     ensures last { OnOk result
-        (last.new ≡ Some (item.key, record { closed = false; records = item ∷ [] })) }
+        (last.new ≡ Some (item.old.key, record { closed = false; records = item.old ∷ [] })) }
     ensures err { OnErr result
         ((lesser.new.entries ≡ lesser.old.entries) × (last.new ≡ last.old)) }
+    ensures same { OnErr result (item.new ≡ item.old) }
 {
     let key = item.key;
     let mut records = spare.take(alloc)?;
-    records.push(item)?;
+    records.exchange(alloc, item)?;
     if last.is_some() {
-        set_aside(lesser, last)?;
+        if let Err(fault) = set_aside(lesser, last) {
+            records.give_back(item);
+            return Err(fault);
+        }
     }
     *last = Some((
         key,
@@ -262,29 +272,34 @@ fn hold_lesser(
     alloc: Global,
     lesser: &mut Lesser,
     spare: &mut Spare,
-    item: Record,
+    item: &mut Record,
 ) -> Result<(), NoMemory>
     ensures each { OnOk result ((key : EventKey) → lookup (is_key key) lesser.new.entries
-        ≡ (if is_key item.key key then Some (grown (lookup (is_key key) lesser.old.entries) item)
+        ≡ (if is_key item.old.key key
+        then Some (grown (lookup (is_key key) lesser.old.entries) item.old)
         else lookup (is_key key) lesser.old.entries)) }
     ensures ascend { IsStrictlySortedBy key_cmp (keys_of lesser.new.entries) }
     ensures err { OnErr result (lesser.new.entries ≡ lesser.old.entries) }
+    ensures same { OnErr result (item.new ≡ item.old) }
 {
     let key = item.key;
     match lesser.get_mut(&key) {
-        Some(group) => match group.records.push(item) {
-            Ok(()) => Ok(()),
-            Err(fault) => Err(fault),
-        },
+        Some(group) => group.records.exchange(alloc, item),
         None => {
             let mut records = spare.take(alloc)?;
-            records.push(item)?;
+            records.exchange(alloc, item)?;
             let group = Group {
                 closed: false,
                 records,
             };
-            lesser.insert(key, group)?;
-            Ok(())
+            match lesser.insert(key, group) {
+                Ok(_) => Ok(()),
+                Err(failed) => {
+                    let (_, mut group) = failed.value;
+                    group.records.give_back(item);
+                    Err(NoMemory)
+                }
+            }
         }
     }
 }

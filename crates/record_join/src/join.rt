@@ -13,14 +13,15 @@ use crate::group::{Group, text_without};
 use crate::group_map::Groups;
 use crate::kinds::ends_event;
 use crate::parts::Parts;
+use crate::records::shorten;
 use crate::spare::Spare;
 use audit_lex::EventKey;
-use audit_record::{Record, Room};
+use audit_record::Record;
 use flow_base::{Limits, NoMemory};
 use std::alloc::Global;
 use std::marker::Model;
 
-/// Joins records into events. Only `take` needs memory.
+/// Joins records into events. Only `exchange` and `take` need memory.
 #[derive(Drop)]
 pub struct Join {
     alloc: Global,
@@ -103,25 +104,27 @@ impl Join {
         self.groups.parts()
     }
 
-    /// Takes one more record, once all that is ripe is released. If allocation fails, nothing has changed, and the record
-    /// is lost: its caller keeps the line. Ends and records in excess need no memory.
+    /// Takes one more record, once all that is ripe is released, and leaves any record in its place, whose memory can be
+    /// used. If allocation fails, nothing has changed. Ends and records in excess need no memory.
     #[inline(always)]
-    pub fn take(&mut self, item: Record) -> Result<Taken, NoMemory>
+    pub fn exchange(&mut self, item: &mut Record) -> Result<Taken, NoMemory>
         requires nothing { NothingRipe self.old }
         ensures ok { IfOk result (λ taken. WhereStands self.old (λ limits s.
-            taken ≡ taken_as limits s item)) }
+            taken ≡ taken_as limits s item.old)) }
         ensures stands { OnOk result (WhereStands self.old (λ limits s.
-            StandsFor limits self.new (enter limits s item))) }
+            StandsFor limits self.new (enter limits s item.old))) }
         ensures err { OnErr result (self.new ≡ self.old) }
+        ensures same { OnErr result (item.new ≡ item.old) }
         ensures memory { OnErr result (WhereStands self.old (λ limits s.
-            taken_as limits s item ≡ Taken.Held)) }
+            taken_as limits s item.old ≡ Taken.Held)) }
     {
         let key = item.key;
-        if ends_event(&item) {
+        if ends_event(item) {
             self.end(key);
             return Ok(Taken::Closed);
         }
-        if self.groups.is_excess(&self.limits, &item) {
+        if self.groups.is_excess(&self.limits, item) {
+            shorten(item);
             self.clock.see(key.ms);
             return Ok(Taken::Excess);
         }
@@ -133,7 +136,23 @@ impl Join {
         Ok(Taken::Held)
     }
 
-    /// Takes the end of the event of a key, as `take` does the record of an end. It says no more than its key, so that no
+    /// Takes a record as `exchange` does, and keeps the memory of none. If allocation fails, nothing has changed, and the
+    /// record is lost: its caller keeps the line.
+    pub fn take(&mut self, item: Record) -> Result<Taken, NoMemory>
+        requires nothing { NothingRipe self.old }
+        ensures ok { IfOk result (λ taken. WhereStands self.old (λ limits s.
+            taken ≡ taken_as limits s item)) }
+        ensures stands { OnOk result (WhereStands self.old (λ limits s.
+            StandsFor limits self.new (enter limits s item))) }
+        ensures err { OnErr result (self.new ≡ self.old) }
+        ensures memory { OnErr result (WhereStands self.old (λ limits s.
+            taken_as limits s item ≡ Taken.Held)) }
+    {
+        let mut item = item;
+        self.exchange(&mut item)
+    }
+
+    /// Takes the end of the event of a key, as `exchange` does the record of an end. It says no more than its key, so that no
     /// record need be made of it. It needs no memory.
     pub fn end(&mut self, key: EventKey)
         ensures { (item : Record) → EndsAt key item
@@ -182,8 +201,8 @@ impl Join {
         Some(self.release())
     }
 
-    /// Passes over the event that is released next, of which there is one. The room of its list of records is kept for the
-    /// next group, and that of each record for `spare_room`.
+    /// Passes over the event that is released next, of which there is one. The memory of its list and of its records is
+    /// kept for the next groups.
     pub fn pass(&mut self)
         requires ripe { WhereStands self.old (λ limits s. is_some (ripe_key limits s) ≡ true) }
         ensures stands { WhereStands self.old (λ limits s.
@@ -191,7 +210,7 @@ impl Join {
         ensures less { length self.old.groups ≡ suc (length self.new.groups) }
     {
         let event = self.release();
-        self.spare.keep(self.alloc, event.records);
+        self.spare.keep(event.records);
     }
 
     // Releases the least group, which is ripe.
@@ -214,15 +233,6 @@ impl Join {
         self.text = text_without(self.text, event.records.as_slice());
         self.clock.release(key);
         event
-    }
-
-    /// A room without bytes, which has the memory of a record that was passed over, if there is one.
-    pub fn spare_room(&mut self) -> Room
-        ensures empty { result ≡ record { line = []; text = [] } }
-        ensures same { self.new ≡ self.old }
-    {
-        let _ = &self.groups;
-        self.spare.take_room(self.alloc)
     }
 
     /// Marks every waiting group closed.

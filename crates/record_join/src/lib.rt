@@ -18,6 +18,7 @@ mod join;
 mod kinds;
 mod laws;
 mod parts;
+mod records;
 mod releases;
 mod spare;
 
@@ -30,4 +31,5 @@ pub use laws::{
     states_are_sound,
 };
 pub use parts::Parts;
+pub use records::Records;
 pub use releases::{join_all, release_ripe};

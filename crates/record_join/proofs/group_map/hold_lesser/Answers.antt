@@ -10,10 +10,10 @@ pub returns-in-Err-clause-err : goal.returns-in-Err-clause-err
 returns-in-Err-clause-err c =
     let before = c.args.lesser.now.entries in
     (c.get_mut.follows.holds (record { closed = c.in-Some.group.now.closed; records = c.push.new.self })).0
-    ∙ ap (λ (rs : List Record). set_value (is_key c.args.item.key) before (record { closed = c.in-Some.group.now.closed; records = rs })) c.in-Err.ensures.err
-    ∙ set_value_same (is_key c.args.item.key) before c.in-Some.group.now (sym c.in-Some.ensures.value)
+    ∙ ap (λ (rs : List Record). set_value (is_key c.args.item.now.key) before (record { closed = c.in-Some.group.now.closed; records = rs })) c.in-Err.ensures.err
+    ∙ set_value_same (is_key c.args.item.now.key) before c.in-Some.group.now (sym c.in-Some.ensures.value)
 
 pub returns-in_ok-insert-in-None-clause-each : goal.returns-in_ok-insert-in-None-clause-each
 returns-in_ok-insert-in-None-clause-each c = λ q.
-    held_first c.args.item.key q c.args.item _ _ _ _ (c.in_ok-insert-in-None.ensures.updates.0 q) (ap (λ m. m.entries) c.get_mut.follows.holds-at-none)
-    (c.in_ok-push-in-None.ensures.ok ∙ ap (λ (rs : List Record). rs ++ c.args.item ∷ []) c.in_ok-records-in-None.ensures) (sym c.in-None.ensures.value)
+    held_first c.args.item.now.key q c.args.item.now _ _ _ _ (c.in_ok-insert-in-None.ensures.updates.0 q) (ap (λ m. m.entries) c.get_mut.follows.holds-at-none)
+    (c.in_ok-push-in-None.ensures.ok ∙ ap (λ (rs : List Record). rs ++ c.args.item.now ∷ []) c.in_ok-records-in-None.ensures) (sym c.in-None.ensures.value)
