@@ -54,8 +54,8 @@ pairs_turned (one ∷ given) =
 pub planned : (ground : Ground) (worked : Worked) (plan : Plan) (before : List Taken) (acts : List Act)
     → IsWorked ground worked before (turned ground.ms ground.serial acts) → AreNew ground.entities.now.keys worked.draft.added.keys
     → ground.entities.now.keys ≡ objects (acts_of before)
-    → plan.acts ≡ acts → plan.see ≡ worked.see → plan.last ≡ worked.last → plan.address ≡ worked.address
-    → plan.given ≡ reverse worked.draft.given → plan.keys ≡ reverse worked.draft.added.keys → plan.flows ≡ worked.draft.added.flows
+    → plan.acts ≡ acts → plan.work.see ≡ worked.see → plan.work.last ≡ worked.last → plan.work.address ≡ worked.address
+    → plan.work.draft.given ≡ reverse worked.draft.given → plan.work.draft.added.keys ≡ reverse worked.draft.added.keys → plan.work.draft.added.flows ≡ worked.draft.added.flows
     → IsPlanOf text_of plan before (turned ground.ms ground.serial acts)
 planned ground worked plan before acts works new known acts_is see_is last_is address_is given_is keys_is flows_is =
     let now = turned ground.ms ground.serial acts in

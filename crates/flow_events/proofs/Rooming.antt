@@ -143,9 +143,9 @@ none_by e f o n objects flows = grind (arith, nat_tests, objects, flows)
 
 -- no limit is passed by what a plan does that fits
 pub plan_fits : (text : List ℕ → List ℕ) (tables : Tables) (plan : Plan) (limits : Limits) (before now : List Taken) → HasLimits limits tables → StandsFor text tables before → IsPlanOf text plan before now
-    → length (entered tables.entities.keys plan.keys) ≤ tables.entities.limit → tables.flows + length plan.flows ≤ tables.limits.flows → full_at limits.entities limits.flows (now ++ before) ≡ None
+    → length (entered tables.entities.keys plan.work.draft.added.keys) ≤ tables.entities.limit → tables.flows + length plan.work.draft.added.flows ≤ tables.limits.flows → full_at limits.entities limits.flows (now ++ before) ≡ None
 plan_fits text tables plan limits before now has stands is keys flows_fit =
     none_by limits.entities limits.flows (length (objects (acts_of (now ++ before)))) (length (flows (now ++ before)))
     (rw (is.objects_are, sym stands.objects_are, sym (ap (λ (l : Limits). l.entities) has.limits_are), stands.limit_is) keys)
-    (let e : length (flows (now ++ before)) ≡ tables.flows + length plan.flows = ap length is.flows_are ∙ length-append (flows before) plan.flows ∙ ap (λ n. n + length plan.flows) (sym stands.flows_are) in
-    subst (λ (n : ℕ). n ≤ limits.flows) (sym e) (subst (λ (l : Limits). tables.flows + length plan.flows ≤ l.flows) has.limits_are flows_fit))
+    (let e : length (flows (now ++ before)) ≡ tables.flows + length plan.work.draft.added.flows = ap length is.flows_are ∙ length-append (flows before) plan.work.draft.added.flows ∙ ap (λ n. n + length plan.work.draft.added.flows) (sym stands.flows_are) in
+    subst (λ (n : ℕ). n ≤ limits.flows) (sym e) (subst (λ (l : Limits). tables.flows + length plan.work.draft.added.flows ≤ l.flows) has.limits_are flows_fit))

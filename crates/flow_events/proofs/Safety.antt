@@ -51,8 +51,8 @@ safe_marked old new rest flows acts limits safe = record {
 }
 
 -- a plan keeps tables safe where its flows can be counted and its objects fit
-pub safe_grown : (old new : Tables) (plan : Plan) → HasGrown old new plan → new.entities.limit ≡ old.entities.limit → old.flows + length plan.flows ≤ 2 ^ 60
-    → length (entered old.entities.keys plan.keys) ≤ old.entities.limit → AreSafe old → AreSafe new
+pub safe_grown : (old new : Tables) (plan : Plan) → HasGrown old new plan → new.entities.limit ≡ old.entities.limit → old.flows + length plan.work.draft.added.flows ≤ 2 ^ 60
+    → length (entered old.entities.keys plan.work.draft.added.keys) ≤ old.entities.limit → AreSafe old → AreSafe new
 safe_grown old new plan grown limit few fits safe = record {
   flows_few = rw grown.flows few;
   limit_is = ap (λ (l : Limits). l.entities) grown.limits ∙ safe.limit_is ∙ sym limit;

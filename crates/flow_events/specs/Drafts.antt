@@ -57,6 +57,12 @@ taken_at ground act = record { act = act; ms = ground.ms; serial = ground.serial
 abbrev pub HasNewKeys : Ground → Draft → Type 0
 HasNewKeys ground draft = AreNew ground.entities.now.keys draft.added.keys
 
+-- nothing was worked out yet
+pub record IsEmpty (draft : Draft) : Type 0 where
+  pub births : BornAs draft.births []
+  pub given : draft.given ≡ []
+  pub added : draft.added ≡ record { keys = []; flows = [] }
+
 -- if the keys that the draft added before were each new when they came, those that it adds now are too
 abbrev pub StaysNew : Ground → Draft → Draft → Type 0
 StaysNew ground old new = HasNewKeys ground old → HasNewKeys ground new

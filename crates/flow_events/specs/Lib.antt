@@ -7,6 +7,7 @@ pub mod Acting
 pub mod Added
 pub mod Drafts
 pub mod Working
+pub mod Planned
 pub mod Following
 pub mod Filling
 pub mod Since

@@ -53,23 +53,23 @@ addresses_in (Some new) = 1
 -- the plan does what these acts do after those before
 pub record IsPlanOf (address_text : List ℕ → List ℕ) (plan : Plan) (before now : List Taken) : Type 0 where
   pub acts_are : acts_of (now ++ before) ≡ reverse plan.acts ++ acts_of before
-  pub held_are : (p n : ℕ) → holds (acts_of (now ++ before)) p n ≡ changed plan.last (changed plan.see (holds (acts_of before))) p n
-  pub addresses_are : (s : ℕ) → address_of (acts_of (now ++ before)) s ≡ readdressed plan.address (address_of (acts_of before)) s
-  pub names_are : SameNames (all_given address_text (acts_of (now ++ before))) (all_given address_text (acts_of before) ++ pairs_of plan.given)
-  pub objects_are : objects (acts_of (now ++ before)) ≡ entered (objects (acts_of before)) plan.keys
-  pub flows_are : flows (now ++ before) ≡ flows before ++ plan.flows
+  pub held_are : (p n : ℕ) → holds (acts_of (now ++ before)) p n ≡ changed plan.work.last (changed plan.work.see (holds (acts_of before))) p n
+  pub addresses_are : (s : ℕ) → address_of (acts_of (now ++ before)) s ≡ readdressed plan.work.address (address_of (acts_of before)) s
+  pub names_are : SameNames (all_given address_text (acts_of (now ++ before))) (all_given address_text (acts_of before) ++ pairs_of plan.work.draft.given)
+  pub objects_are : objects (acts_of (now ++ before)) ≡ entered (objects (acts_of before)) plan.work.draft.added.keys
+  pub flows_are : flows (now ++ before) ≡ flows before ++ plan.work.draft.added.flows
   pub count_is : length (now ++ before) ≡ length before + length plan.acts
 
 -- there is room in the tables for all that the plan does
 pub record IsReady (tables : Tables) (plan : Plan) : Type 0 where
   pub lives : length plan.acts ≤ tables.procs.spare
   pub births : length plan.acts ≤ tables.births.spare
-  pub held : need plan.see + need plan.last ≤ tables.fds.spare
-  pub addresses : addresses_in plan.address ≤ tables.fds.address_spare
-  pub names : Covers tables.entities plan.given
-  pub keys : length plan.keys ≤ tables.entities.spare
-  pub objects_fit : length (entered tables.entities.keys plan.keys) ≤ tables.entities.limit
-  pub flows_fit : tables.flows + length plan.flows ≤ 2 ^ 60
+  pub held : need plan.work.see + need plan.work.last ≤ tables.fds.spare
+  pub addresses : addresses_in plan.work.address ≤ tables.fds.address_spare
+  pub names : Covers tables.entities plan.work.draft.given
+  pub keys : length plan.work.draft.added.keys ≤ tables.entities.spare
+  pub objects_fit : length (entered tables.entities.keys plan.work.draft.added.keys) ≤ tables.entities.limit
+  pub flows_fit : tables.flows + length plan.work.draft.added.flows ≤ 2 ^ 60
   pub acts_fit : tables.acts + length plan.acts < 2 ^ 64 - 1
   pub since : HasRoomFor tables.since (length plan.acts)
   pub touched : HasTouched tables.since tables.fds plan.acts
@@ -78,10 +78,10 @@ pub record IsReady (tables : Tables) (plan : Plan) : Type 0 where
 pub record HasRooms (tables : Tables) (plan : Plan) : Type 0 where
   pub lives : length plan.acts ≤ tables.procs.spare
   pub births : length plan.acts ≤ tables.births.spare
-  pub held : need plan.see + need plan.last ≤ tables.fds.spare
+  pub held : need plan.work.see + need plan.work.last ≤ tables.fds.spare
   pub addresses : 1 ≤ tables.fds.address_spare
-  pub names : Covers tables.entities plan.given
-  pub keys : length plan.keys ≤ tables.entities.spare
+  pub names : Covers tables.entities plan.work.draft.given
+  pub keys : length plan.work.draft.added.keys ≤ tables.entities.spare
   pub since : HasRoomFor tables.since (length plan.acts)
   pub touched : HasTouched tables.since tables.fds plan.acts
 
@@ -104,15 +104,15 @@ pub record DiffersInRoom (old new : Tables) : Type 0 where
 
 -- what the plan's flows are after the tables: they number the new objects as these come, and stand from the next place on
 pub record PlanFlows (tables : Tables) (ms : ℕ) (plan : Plan) : Type 0 where
-  pub go_on : GoOn (length tables.entities.keys) plan.flows
-  pub known_are : known_after (length tables.entities.keys) plan.flows ≡ length (entered tables.entities.keys plan.keys)
-  pub stand : StandFrom ms tables.flows plan.flows
+  pub go_on : GoOn (length tables.entities.keys) plan.work.draft.added.flows
+  pub known_are : known_after (length tables.entities.keys) plan.work.draft.added.flows ≡ length (entered tables.entities.keys plan.work.draft.added.keys)
+  pub stand : StandFrom ms tables.flows plan.work.draft.added.flows
 
 -- the plan's acts, flows and keys are counted in, and the mark is if it was
 pub record HasGrown (old new : Tables) (plan : Plan) : Type 0 where
   pub acts : new.acts ≡ old.acts + length plan.acts
-  pub flows : new.flows ≡ old.flows + length plan.flows
-  pub keys : new.entities.keys ≡ entered old.entities.keys plan.keys
+  pub flows : new.flows ≡ old.flows + length plan.work.draft.added.flows
+  pub keys : new.entities.keys ≡ entered old.entities.keys plan.work.draft.added.keys
   pub limits : new.limits ≡ old.limits
   pub marked : new.marked ≡ old.marked
 
@@ -148,7 +148,7 @@ AddsFlows plan added = (text : List ℕ → List ℕ) (before now : List Taken) 
 
 -- the objects, with those of the plan, are no more than there may be
 abbrev pub PlanFits : Tables → Plan → Type 0
-PlanFits tables plan = length (entered tables.entities.keys plan.keys) ≤ tables.entities.limit
+PlanFits tables plan = length (entered tables.entities.keys plan.work.draft.added.keys) ≤ tables.entities.limit
 
 -- the new address, if there is one, is what this act gives after these
 abbrev pub GivesAddress : Option NewAddress → List Act → Act → Type 0

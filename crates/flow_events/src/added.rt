@@ -1,16 +1,18 @@
 //! The objects and flows that an event adds.
-ghost use Rattle.std.specs.Prelude.{◌≡◌, ◌≤◌, ◌<◌, ◌≢◌, [], Some, length, OnOk, IfOk, position};
+ghost use Rattle.std.specs.Prelude.{◌≡◌, ◌≤◌, ◌<◌, ◌≢◌, ◌++◌, ◌∷◌, [], Some, length, reverse, OnOk, IfOk, IfSome, IsNone, position};
 ghost use Rattle.flow_base.specs.contracts.types.KeyPartialEq.TheImpl.{ghosts};
 ghost use Rattle.std.specs.List.{position_or_len};
 ghost use Rattle.acts.specs.Keys.{put_new};
 ghost use Rattle.acts.specs.Flows.{number_in, with_ends};
 ghost use Rattle.flow_events.specs.Added.{AddsEnds, AddsFlow, AddsKey, IfFull, IsPast, StayNew, StayNumbered, objects_in};
 
+use crate::parts::{empty, turn};
 use acts::Link;
 use entity_names::Entities;
 use flow_base::{
     EntityId, Flow, Full, Key, Limit, List, NoMemory, Refused, Stamp, equal_keys_are_one,
 };
+use std::alloc::Global;
 use std::marker::Model;
 
 /// The objects and flows that an event adds.
@@ -29,13 +31,57 @@ impl Model for Added {
 }
 
 impl Added {
-    /// Nothing, with the memory of these lists.
-    pub fn over(keys: List<Key>, flows: List<Flow>) -> Added
-        requires keys { keys ≡ [] }
-        requires flows { flows ≡ [] }
+    /// Nothing.
+    pub fn new(alloc: Global) -> Added
         ensures { result ≡ record { keys = []; flows = [] } }
     {
-        Added { keys, flows }
+        Added {
+            keys: List::new(alloc),
+            flows: List::new(alloc),
+        }
+    }
+
+    /// Takes all out, and keeps the memory of the lists.
+    pub fn clear(&mut self)
+        ensures { self.new ≡ record { keys = []; flows = [] } }
+    {
+        empty(&mut self.keys);
+        empty(&mut self.flows);
+    }
+
+    /// Puts the last object first.
+    pub fn turn(&mut self, alloc: Global) -> Result<(), NoMemory>
+        ensures ok { OnOk result
+            (self.new ≡ record self.old { keys = reverse self.old.keys }) }
+    {
+        let _ = &self.flows;
+        turn(alloc, &mut self.keys)
+    }
+
+    /// The objects.
+    pub fn keys(&self) -> &[Key]
+        ensures { result.now ≡ self.now.keys }
+    {
+        let _ = &self.flows;
+        self.keys.as_slice()
+    }
+
+    /// The flows.
+    pub fn flows(&self) -> &[Flow]
+        ensures { result.now ≡ self.now.flows }
+    {
+        let _ = &self.keys;
+        self.flows.as_slice()
+    }
+
+    /// Takes the last object out.
+    pub fn pop_key(&mut self) -> Option<Key>
+        ensures some { IfSome result (λ key. self.old.keys ≡ self.new.keys ++ key ∷ []) }
+        ensures none { IsNone result → (self.old.keys ≡ []) × (self.new.keys ≡ []) }
+        ensures flows { self.new.flows ≡ self.old.flows }
+    {
+        let _ = &self.flows;
+        self.keys.pop()
     }
 
     #[tactic(auto, using(crate::proofs::Numbering::known_number, crate::proofs::Numbering::new_number, crate::proofs::Numbering::known_stays, crate::proofs::Numbering::new_comes, crate::proofs::Numbering::still_fits, crate::proofs::Numbering::still_new))]
@@ -106,15 +152,6 @@ impl Added {
             serial,
         })?;
         Ok(())
-    }
-
-    /// The objects and the flows.
-    pub fn apart(self) -> (List<Key>, List<Flow>)
-        ensures keys { result.0 ≡ self.keys }
-        ensures flows { result.1 ≡ self.flows }
-    {
-        let Added { keys, flows } = self;
-        (keys, flows)
     }
 }
 

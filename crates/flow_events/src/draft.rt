@@ -4,7 +4,7 @@ ghost use Rattle.acts.specs.Flows.{with_ends};
 ghost use Rattle.call_acts.specs.Events.{IsCalmOf, IsOf};
 ghost use Rattle.flow_events.specs.Acting.{SeesLink, pair_if};
 ghost use Rattle.flow_events.specs.Births.{BornAs, births_of, births_in};
-ghost use Rattle.flow_events.specs.Drafts.{ActPasses, AddsAct, AddsActs, AddsSee, DraftFits, DraftedActsPass, GrowsAtMost};
+ghost use Rattle.flow_events.specs.Drafts.{ActPasses, AddsAct, AddsActs, AddsSee, DraftFits, DraftedActsPass, GrowsAtMost, IsEmpty};
 ghost use Rattle.flow_events.specs.Drafts.{HasPlacesFor, SeePasses, StaysNew, StaysNumbered};
 ghost use Rattle.flow_events.specs.Added.{AddsEnds, AddsFlow, HasTwoEnds, IfFull, IsPast, StayNew, StayNumbered, objects_in};
 ghost use Rattle.flow_events.specs.Entering.{pair_of};
@@ -14,6 +14,7 @@ use crate::added::Added;
 use crate::births::{Births, Fresh};
 use crate::given::Given;
 use crate::naming::new_exe;
+use crate::parts::empty;
 use crate::steps::{link_of, name_of};
 use acts::{Act, Link};
 use entity_names::Entities;
@@ -86,6 +87,26 @@ pub struct Ground<'a> {
 }
 
 impl Draft {
+    /// Nothing.
+    pub fn new(alloc: Global) -> Draft
+        ensures { IsEmpty result }
+    {
+        Draft {
+            births: Fresh::none(),
+            given: List::new(alloc),
+            added: Added::new(alloc),
+        }
+    }
+
+    /// Takes all out, and keeps the memory of the lists.
+    pub fn clear(&mut self)
+        ensures { IsEmpty self.new }
+    {
+        self.births = Fresh::none();
+        empty(&mut self.given);
+        self.added.clear();
+    }
+
     /// Makes room for this many births in an event that has none yet.
     pub fn expect(&mut self, alloc: Global, salt: Salt, more: usize) -> Result<(), NoMemory>
         ensures births { OnOk result (BornAs self.new.births []) }

@@ -1,5 +1,5 @@
 //! The parts of a plan, put in the order in which they are done.
-ghost use Rattle.std.specs.Prelude.{◌≡◌, [], List, IfOk, map, reverse};
+ghost use Rattle.std.specs.Prelude.{◌≡◌, [], IfOk, OnOk, map, reverse};
 
 use crate::given::Given;
 use acts::copy_key;
@@ -7,13 +7,24 @@ use flow_base::{Key, List, NoMemory};
 use std::alloc::Global;
 
 #[tactic(auto, using(crate::proofs::Turning::few_turned))]
-/// The items with the last one first. Most lists have at most one item, and then the list itself is given back.
-pub fn newest_first<T: Drop>(alloc: Global, items: List<T>) -> Result<List<T>, NoMemory>
-    ensures { IfOk result (λ turned. turned ≡ reverse items) }
+/// Puts the last item first. Most lists have at most one item, and stay as they are.
+#[inline]
+pub fn turn<T: Drop>(alloc: Global, items: &mut List<T>) -> Result<(), NoMemory>
+    ensures { OnOk result (items.new ≡ reverse items.old) }
 {
     if items.as_slice().len() <= 1 {
-        return Ok(items);
+        return Ok(());
     }
+    let whole = std::mem::replace(items, List::new(alloc));
+    *items = newest_first(alloc, whole)?;
+    Ok(())
+}
+
+// The items with the last one first.
+#[inline(never)]
+fn newest_first<T: Drop>(alloc: Global, items: List<T>) -> Result<List<T>, NoMemory>
+    ensures { IfOk result (λ turned. turned ≡ reverse items) }
+{
     let mut items = items;
     let mut turned = List::new(alloc);
     while let Some(item) = items.pop() {
@@ -22,13 +33,11 @@ pub fn newest_first<T: Drop>(alloc: Global, items: List<T>) -> Result<List<T>, N
     Ok(turned)
 }
 
-/// A list without items that has the memory of this one, in place of which one without memory stays.
-pub fn emptied<T: Drop>(alloc: Global, items: &mut List<T>) -> List<T>
-    ensures { result ≡ [] }
+/// Takes all items out, and keeps their memory.
+pub fn empty<T: Drop>(items: &mut List<T>)
+    ensures { items.new ≡ [] }
 {
-    let mut left = std::mem::replace(items, List::new(alloc));
-    while let Some(_) = left.pop() {}
-    left
+    while let Some(_) = items.pop() {}
 }
 
 /// The keys that are named.

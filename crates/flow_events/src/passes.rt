@@ -9,6 +9,7 @@ ghost use Rattle.entity_names.specs.Known.{HasPlace, names_at, capacity_at};
 ghost use Rattle.flow_events.specs.Births.{BornAs};
 ghost use Rattle.flow_events.specs.Entering.{AddsNames, ChangesKeys, Covers, SavedAlike, entered, pair_of, pairs_of};
 
+use crate::added::Added;
 use crate::births::Births;
 use crate::given::Given;
 use crate::lives::live_on;
@@ -83,14 +84,15 @@ pub fn enter(entities: &mut Entities, key: Key)
     }
 }
 
-/// Enters these keys, the newest of which stands first. None is left.
-pub fn enter_all(entities: &mut Entities, keys: &mut List<Key>)
-    requires room { length keys.old ≤ entities.old.spare }
-    requires fits { length (entered entities.old.keys keys.old) ≤ entities.old.limit }
-    ensures keys { entities.new.keys ≡ entered entities.old.keys keys.old }
+/// Enters the objects, the newest of which stands first. None is left, and the flows stay.
+pub fn enter_all(entities: &mut Entities, added: &mut Added)
+    requires room { length added.old.keys ≤ entities.old.spare }
+    requires fits { length (entered entities.old.keys added.old.keys) ≤ entities.old.limit }
+    ensures keys { entities.new.keys ≡ entered entities.old.keys added.old.keys }
     ensures rest { ChangesKeys entities.old entities.new }
+    ensures flows { added.new.flows ≡ added.old.flows }
 {
-    while let Some(key) = keys.pop() {
+    while let Some(key) = added.pop_key() {
         enter(entities, key);
     }
 }

@@ -1,19 +1,14 @@
 //! What an event will do, with all the memory for it.
-ghost use Rattle.std.specs.Prelude.{◌≡◌, ◌≤◌, ℕ, OnOk, reverse};
+ghost use Rattle.std.specs.Prelude.{◌≡◌, ◌≤◌, ℕ, OnOk};
 ghost use Rattle.fd_table.specs.Table.{address_at, HoldsTheSame};
 ghost use Rattle.flow_events.specs.Standing.{readdressed, addresses_in};
-ghost use Rattle.flow_events.specs.Working.{IsFresh};
+ghost use Rattle.flow_events.specs.Planned.{IsTurned, PlansNothing};
 
-use crate::added::Added;
-use crate::births::Fresh;
-use crate::change::Change;
-use crate::draft::Draft;
-use crate::given::Given;
-use crate::parts::{emptied, newest_first};
+use crate::parts::turn;
 use crate::work::Worked;
 use acts::Act;
 use fd_table::Fds;
-use flow_base::{Bytes, Flow, Key, List, NoMemory};
+use flow_base::{Bytes, Flow, List, NoMemory};
 use std::alloc::Global;
 
 /// A socket, by the act that made it, with its new address.
@@ -28,92 +23,39 @@ pub struct NewAddress {
 pub struct Plan {
     /// The acts, the oldest first.
     pub acts: List<Act>,
-    /// What the first act does to descriptors.
-    pub see: Change,
-    /// What the last act does to descriptors.
-    pub last: Change,
-    pub address: Option<NewAddress>,
-    /// The names that the acts give to keys which don't have them yet, newest first.
-    pub given: List<Given>,
-    /// The objects that are new, newest first.
-    pub keys: List<Key>,
-    pub flows: List<Flow>,
+    /// What they do. Names and objects stand with the newest first.
+    pub work: Worked,
     pub unmapped: bool,
 }
 
 impl Plan {
     /// Nothing.
-    pub fn new(alloc: Global) -> Plan {
+    pub fn new(alloc: Global) -> Plan
+        ensures { PlansNothing result }
+    {
         Plan {
             acts: List::new(alloc),
-            see: Change::Nothing,
-            last: Change::Nothing,
-            address: None,
-            given: List::new(alloc),
-            keys: List::new(alloc),
-            flows: List::new(alloc),
+            work: Worked::new(alloc),
             unmapped: false,
         }
     }
 
-    /// Work that has not begun, with the memory of the lists that the last event left here.
-    pub fn take_room(&mut self, alloc: Global) -> Worked
-        ensures fresh { IsFresh result }
+    /// Puts the names and the objects that were worked out with the newest first.
+    pub fn turn(&mut self, alloc: Global) -> Result<(), NoMemory>
+        ensures ok { OnOk result (IsTurned self.old.work self.new.work) }
         ensures acts { self.new.acts ≡ self.old.acts }
         ensures unmapped { self.new.unmapped ≡ self.old.unmapped }
     {
-        Worked {
-            see: Change::Nothing,
-            last: Change::Nothing,
-            address: None,
-            draft: Draft {
-                births: Fresh::none(),
-                given: emptied(alloc, &mut self.given),
-                added: Added::over(
-                    emptied(alloc, &mut self.keys),
-                    emptied(alloc, &mut self.flows),
-                ),
-            },
-        }
-    }
-
-    /// Puts in what was worked out.
-    pub fn put(&mut self, alloc: Global, worked: Worked) -> Result<(), NoMemory>
-        ensures acts { self.new.acts ≡ self.old.acts }
-        ensures unmapped { self.new.unmapped ≡ self.old.unmapped }
-        ensures see { OnOk result (self.new.see ≡ worked.see) }
-        ensures last { OnOk result (self.new.last ≡ worked.last) }
-        ensures address { OnOk result (self.new.address ≡ worked.address) }
-        ensures given { OnOk result (self.new.given ≡ reverse worked.draft.given) }
-        ensures keys { OnOk result (self.new.keys ≡ reverse worked.draft.added.keys) }
-        ensures flows { OnOk result (self.new.flows ≡ worked.draft.added.flows) }
-    {
-        let Worked {
-            see,
-            last,
-            address,
-            draft,
-        } = worked;
-        let Draft {
-            births: _,
-            given,
-            added,
-        } = draft;
-        let (keys, flows) = added.apart();
-        self.see = see;
-        self.last = last;
-        self.address = address;
-        self.given = newest_first(alloc, given)?;
-        self.keys = newest_first(alloc, keys)?;
-        self.flows = flows;
+        turn(alloc, &mut self.work.draft.given)?;
+        self.work.draft.added.turn(alloc)?;
         Ok(())
     }
 
     /// The flows that the event will make, in their order.
     pub fn flows(&self) -> &[Flow]
-        ensures { result.now ≡ self.now.flows }
+        ensures { result.now ≡ self.now.work.draft.added.flows }
     {
-        self.flows.as_slice()
+        self.work.draft.added.flows()
     }
 
     /// Whether the call of the event isn't among those that are known.

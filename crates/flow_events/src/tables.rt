@@ -262,7 +262,7 @@ impl Tables {
         ensures full { IfFull result (ActsPass self.old ms serial plan.old.acts) }
     {
         self.plan(alloc, ms, serial, plan)?;
-        if self.limits.flows < self.flows + plan.flows.as_slice().len() as u64 {
+        if self.limits.flows < self.flows + plan.flows().len() as u64 {
             return Err(Refused::Full(Full {
                 limit: Limit::Flows,
                 number: self.limits.flows,
@@ -282,7 +282,8 @@ impl Tables {
         ensures unmapped { plan.new.unmapped ≡ plan.old.unmapped }
         ensures fits { OnOk result (PlanFits self.now plan.new) }
         ensures flows { OnOk result (PlanFlows self.now ms plan.new) }
-        ensures more { OnOk result (length plan.new.flows ≤ length plan.old.acts) }
+        ensures more { OnOk result
+            (length plan.new.work.draft.added.flows ≤ length plan.old.acts) }
         ensures full { IfFull result (ActsPassObjects self.now ms serial plan.old.acts) }
     {
         each_beginning_is_an_act();
@@ -297,9 +298,9 @@ impl Tables {
             ms,
             serial,
         };
-        let mut worked = plan.take_room(alloc);
-        work_event(&ground, self.acts, plan.acts.as_slice(), &mut worked)?;
-        plan.put(alloc, worked)?;
+        plan.work.clear();
+        work_event(&ground, self.acts, plan.acts.as_slice(), &mut plan.work)?;
+        plan.turn(alloc)?;
         Ok(())
     }
 
@@ -310,13 +311,14 @@ impl Tables {
         ensures safe { AreSafe self.old → AreSafe self.new }
     {
         let acts = plan.acts.as_slice().len();
-        let named = named_keys(alloc, plan.given.as_slice())?;
+        let named = named_keys(alloc, plan.work.draft.given.as_slice())?;
         self.procs.reserve(acts)?;
         self.births.reserve(acts)?;
-        self.fds.reserve(need(&plan.see) + need(&plan.last), 1)?;
+        self.fds
+            .reserve(need(&plan.work.see) + need(&plan.work.last), 1)?;
         reserve_event(&mut self.since, &self.fds, plan.acts.as_slice())?;
         self.entities
-            .reserve(plan.keys.as_slice().len(), named.as_slice())?;
+            .reserve(plan.work.draft.added.keys().len(), named.as_slice())?;
         Ok(())
     }
 
@@ -325,29 +327,29 @@ impl Tables {
         requires ready { IsReady self.old plan.old }
         requires safe { AreSafe self.old }
         ensures next { GoesOnStanding self.old self.new plan.old }
-        ensures flows { AddsFlows plan.old plan.new.flows }
+        ensures flows { AddsFlows plan.old plan.new.work.draft.added.flows }
         ensures limits { (limits : Limits) → HasLimits limits self.old → HasLimits limits self.new }
         ensures since { GoesOnSince self.old self.new plan.old }
         ensures marks { GoesOnMarked self.old self.new plan.old }
         ensures safe { AreSafe self.new }
         ensures grown { HasGrown self.old self.new plan.old }
-        ensures same { plan.new.flows ≡ plan.old.flows }
+        ensures same { plan.new.work.draft.added.flows ≡ plan.old.work.draft.added.flows }
     {
         note_event(
             &mut self.since,
             &self.procs,
             &self.fds,
             plan.acts.as_slice(),
-            &plan.address,
+            &plan.work.address,
         );
         live_through(&mut self.procs, plan.acts.as_slice());
         bear_through(&mut self.births, plan.acts.as_slice());
-        make_change(&mut self.fds, replace(&mut plan.see, Change::Nothing));
-        make_change(&mut self.fds, replace(&mut plan.last, Change::Nothing));
-        readdress(&mut self.fds, plan.address.take());
-        give_all(&mut self.entities, &mut plan.given);
-        enter_all(&mut self.entities, &mut plan.keys);
-        self.flows += plan.flows.as_slice().len() as u64;
+        make_change(&mut self.fds, replace(&mut plan.work.see, Change::Nothing));
+        make_change(&mut self.fds, replace(&mut plan.work.last, Change::Nothing));
+        readdress(&mut self.fds, plan.work.address.take());
+        give_all(&mut self.entities, &mut plan.work.draft.given);
+        enter_all(&mut self.entities, &mut plan.work.draft.added);
+        self.flows += plan.flows().len() as u64;
         self.acts += plan.acts.as_slice().len() as u64;
     }
 }

@@ -15,6 +15,7 @@ use crate::seeing::{Seen, see_process};
 use crate::steps::{address_of, change_of};
 use acts::Act;
 use flow_base::{Bytes, Refused};
+use std::alloc::Global;
 
 /// What an event does to the tables.
 #[derive(Drop)]
@@ -23,6 +24,30 @@ pub struct Worked {
     pub last: Change,
     pub address: Option<NewAddress>,
     pub draft: Draft,
+}
+
+impl Worked {
+    /// Nothing.
+    pub fn new(alloc: Global) -> Worked
+        ensures { IsFresh result }
+    {
+        Worked {
+            see: Change::Nothing,
+            last: Change::Nothing,
+            address: None,
+            draft: Draft::new(alloc),
+        }
+    }
+
+    /// Takes all out, and keeps the memory of the lists.
+    pub fn clear(&mut self)
+        ensures { IsFresh self.new }
+    {
+        self.see = Change::Nothing;
+        self.last = Change::Nothing;
+        self.address = None;
+        self.draft.clear();
+    }
 }
 
 /// Begins an event by its see, with room for this many births. The process is as the see brings it into its life.

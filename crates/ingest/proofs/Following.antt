@@ -139,12 +139,12 @@ FlowsAreLawful = (taken : List Taken) → TimesNeverFall taken → IsLawfulWith 
 -- the flows of a plan come next after those before it
 pub come_next : FlowsAreLawful → (limits : Limits) (event : Event) (plan : Plan) (taken : List Taken) → TimesNeverFall taken → latest taken ≤ event.ms
     → IsPlanOf text_of plan taken (turned_by limits event) → full_at limits.entities limits.flows (turned_by limits event ++ taken) ≡ None
-    → ComeNext (flows taken) plan.flows
+    → ComeNext (flows taken) plan.work.draft.added.flows
 come_next lawful limits event plan taken rise later plan_is fits =
     let now = turned_by limits event ++ taken in
     let all = lawful now (rise_then limits event taken rise later).0 in
     let few = full_parts limits.entities limits.flows (length (objects (acts_of now))) (length (flows now)) fits in
-    let count : known (flows taken ++ plan.flows) ≡ length (objects (acts_of now)) = ap known (sym plan_is.flows_are) ∙ all.objects in
+    let count : known (flows taken ++ plan.work.draft.added.flows) ≡ length (objects (acts_of now)) = ap known (sym plan_is.flows_are) ∙ all.objects in
     record {
       lawful = subst IsLawful plan_is.flows_are all.lawful;
       numbered = subst IsNumbered plan_is.flows_are all.numbered;

@@ -69,12 +69,12 @@ all_after flows ms told R more before is stand = record {
 }
 
 -- the flows of a plan may be taken in
-pub may_take : (ms : ℕ) (tables : Tables) (kept : KeptFlows) (plan : Plan) (flows : List Flow) → flows ≡ plan.flows → GoTogether ms tables kept → PlanFlows tables ms plan
-    → tables.flows + length plan.flows ≤ 2 ^ 60 → MayTakeIn kept flows
+pub may_take : (ms : ℕ) (tables : Tables) (kept : KeptFlows) (plan : Plan) (flows : List Flow) → flows ≡ plan.work.draft.added.flows → GoTogether ms tables kept → PlanFlows tables ms plan
+    → tables.flows + length plan.work.draft.added.flows ≤ 2 ^ 60 → MayTakeIn kept flows
 may_take ms tables kept plan flows is together own few = record {
-  numbered = subst (GoOn kept.objects) (sym is) (subst (λ n. GoOn n plan.flows) (sym together.kept_of.known) own.go_on);
+  numbered = subst (GoOn kept.objects) (sym is) (subst (λ n. GoOn n plan.work.draft.added.flows) (sym together.kept_of.known) own.go_on);
   few_flows = omega (arith, together.kept_of.counted, ap length is, few);
-  later = λ R told. subst (AllComeAfter R) (sym is) (all_after tables.flows ms kept.told R plan.flows together.kept_of.before told own.stand);
+  later = λ R told. subst (AllComeAfter R) (sym is) (all_after tables.flows ms kept.told R plan.work.draft.added.flows together.kept_of.before told own.stand);
 }
 
 before_more : (flows more ms later : ℕ) (f : Flow) → flows ≤ more → ms ≤ later → IsBefore flows ms f → IsBefore more later f
@@ -89,12 +89,12 @@ brought ms flows old more new before stand brings S is f of_S =
     ]
 
 -- and then the kept flows go with the tables and the plan
-pub goes_with : (ms : ℕ) (tables : Tables) (kept new : KeptFlows) (plan : Plan) (flows : List Flow) → flows ≡ plan.flows → GoTogether ms tables kept → PlanFlows tables ms plan
+pub goes_with : (ms : ℕ) (tables : Tables) (kept new : KeptFlows) (plan : Plan) (flows : List Flow) → flows ≡ plan.work.draft.added.flows → GoTogether ms tables kept → PlanFlows tables ms plan
     → new.objects ≡ known_after kept.objects flows → new.count ≤ kept.count + length flows → BringsOnly kept.told flows new.told → GoWithPlan ms tables plan new
 goes_with ms tables kept new plan flows is together own objects count brings = record {
-  known = objects ∙ ap (known_after kept.objects) is ∙ ap (λ n. known_after n plan.flows) together.kept_of.known ∙ own.known_are;
+  known = objects ∙ ap (known_after kept.objects) is ∙ ap (λ n. known_after n plan.work.draft.added.flows) together.kept_of.known ∙ own.known_are;
   counted = omega (arith, count, ap length is, together.kept_of.counted);
-  before = brought ms tables.flows kept.told plan.flows new.told together.kept_of.before own.stand (subst (λ (fs : List Flow). BringsOnly kept.told fs new.told) is brings);
+  before = brought ms tables.flows kept.told plan.work.draft.added.flows new.told together.kept_of.before own.stand (subst (λ (fs : List Flow). BringsOnly kept.told fs new.told) is brings);
 }
 
 -- ---- times and rooms
@@ -142,15 +142,15 @@ pub in_time_followed : (limits : Limits) (join after : Joiner) (tables prepared 
     → IsInTime limits after more all
 in_time_followed limits join after tables prepared more kept all event plan w next stands room grown safe bounds goes =
     let so = released_so limits w.s event next in
-    let keys : more.entities.keys ≡ entered tables.entities.keys plan.keys = grown.keys ∙ ap (λ (ks : List Key). entered ks plan.keys) room.keys in
+    let keys : more.entities.keys ≡ entered tables.entities.keys plan.work.draft.added.keys = grown.keys ∙ ap (λ (ks : List Key). entered ks plan.work.draft.added.keys) room.keys in
     record {
       s = next_left limits w.s;
       join_is = stands;
       bounds = bounds;
       together = record {
         safe = safe;
-        kept_of = kept_same (length (entered tables.entities.keys plan.keys)) (tables.flows + length plan.flows) event.ms (length more.entities.keys) more.flows after.clock.effective all
-            (ap length keys) (grown.flows ∙ ap (λ n. n + length plan.flows) room.flows) (ap (λ (c : JoinClock). c.effective) stands.clock ∙ so.time) goes;
+        kept_of = kept_same (length (entered tables.entities.keys plan.work.draft.added.keys)) (tables.flows + length plan.work.draft.added.flows) event.ms (length more.entities.keys) more.flows after.clock.effective all
+            (ap length keys) (grown.flows ∙ ap (λ n. n + length plan.work.draft.added.flows) room.flows) (ap (λ (c : JoinClock). c.effective) stands.clock ∙ so.time) goes;
       };
     }
 

@@ -33,4 +33,4 @@ pub record GoTogether (ms : ℕ) (tables : Tables) (kept : KeptFlows) : Type 0 w
 -- the kept flows are of the objects and flows of the tables and of a plan
 abbrev pub GoWithPlan : ℕ → Tables → Plan → KeptFlows → Type 0
 GoWithPlan ms tables plan kept =
-    AreKeptOf (length (entered tables.entities.keys plan.keys)) (tables.flows + length plan.flows) ms kept
+    AreKeptOf (length (entered tables.entities.keys plan.work.draft.added.keys)) (tables.flows + length plan.work.draft.added.flows) ms kept

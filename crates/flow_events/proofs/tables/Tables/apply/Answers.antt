@@ -28,24 +28,24 @@ returns-clause-next c = λ text before now stands plan.
       lives_are = subst (λ acts. LivesAs c.live_through.new.procs acts)
           (ap (λ acts. reverse acts ++ acts_of before) c.as_slice-2.ensures ∙ sym plan.acts_are)
           (c.live_through.ensures.next (acts_of before) (acts_fit before old.acts _ stands.acts_are (subst (λ (l : List Act). old.acts + length l < 2 ^ 64 - 1) (sym c.as_slice-2.ensures) c.requires.ready.acts_fit)) stands.lives_are);
-      held_are = held_after old.fds c.make_change.new.fds c.make_change-2.new.fds c.readdress.new.fds done.see done.last (acts_of before) (acts_of (now ++ before))
+      held_are = held_after old.fds c.make_change.new.fds c.make_change-2.new.fds c.readdress.new.fds done.work.see done.work.last (acts_of before) (acts_of (now ++ before))
           stands.held_are
           (λ p n. c.make_change.ensures.held p n ∙ ap (λ change. changed change (held_at old.fds) p n) c.replace.ensures.value)
           (λ p n. c.make_change-2.ensures.held p n ∙ ap (λ change. changed change (held_at c.make_change.new.fds) p n) c.replace-2.ensures.value)
           c.readdress.ensures.held plan.held_are;
-      addresses_are = addresses_after old.fds c.make_change.new.fds c.make_change-2.new.fds c.readdress.new.fds done.address (acts_of before) (acts_of (now ++ before))
+      addresses_are = addresses_after old.fds c.make_change.new.fds c.make_change-2.new.fds c.readdress.new.fds done.work.address (acts_of before) (acts_of (now ++ before))
           stands.addresses_are c.make_change.ensures.addresses c.make_change-2.ensures.addresses
           (λ s. c.readdress.ensures.addresses s ∙ ap (λ new. readdressed new (address_at c.make_change-2.new.fds) s) c.take.ensures.value) plan.addresses_are;
       births_are = subst (λ acts. BornAs c.bear_through.new.births acts)
           (ap (λ acts. reverse acts ++ acts_of before) c.as_slice-3.ensures ∙ sym plan.acts_are)
           (c.bear_through.ensures.next (acts_of before) (acts_fit before old.acts _ stands.acts_are (subst (λ (l : List Act). old.acts + length l < 2 ^ 64 - 1) (sym c.as_slice-3.ensures) c.requires.ready.acts_fit)) stands.births_are);
       objects_are = c.enter_all.ensures.keys
-          ∙ ap (λ seen. entered seen done.keys) (ap (λ e. e.keys) c.give_all.ensures.rest ∙ stands.objects_are)
+          ∙ ap (λ seen. entered seen done.work.draft.added.keys) (ap (λ e. e.keys) c.give_all.ensures.rest ∙ stands.objects_are)
           ∙ sym plan.objects_are;
       names_are = same_kept c.enter_all.new.entities _ _ plan.names_are
           (names_kept mid c.enter_all.new.entities _ c.enter_all.ensures.rest (c.give_all.ensures.next (all_given text (acts_of before)) stands.names_are));
-      flows_are = (λ i. stands.flows_are i + ap length c.as_slice-4.ensures i) ∙ sym (length-append (flows before) done.flows) ∙ ap length (sym plan.flows_are);
-      acts_are = (λ i. stands.acts_are i + ap length c.as_slice-5.ensures i) ∙ sym plan.count_is;
+      flows_are = (λ i. stands.flows_are i + ap length (c.flows.ensures ∙ c.enter_all.ensures.flows) i) ∙ sym (length-append (flows before) done.work.draft.added.flows) ∙ ap length (sym plan.flows_are);
+      acts_are = (λ i. stands.acts_are i + ap length c.as_slice-4.ensures i) ∙ sym plan.count_is;
       objects_fit =
           subst (λ keys. length keys ≤ c.enter_all.new.entities.limit) (sym c.enter_all.ensures.keys ∙ refl)
           (rw (ap (λ e. e.limit) c.enter_all.ensures.rest ∙ ap (λ e. e.limit) c.give_all.ensures.rest, ap (λ e. e.keys) c.give_all.ensures.rest) c.requires.ready.objects_fit);
@@ -62,7 +62,7 @@ returns-clause-since c = λ text before now fresh stands plan. record {
       subst (Remembers c.note_event.new.since (acts_of before)) (sym (map-append (λ (t : Taken). t.act) fresh now))
       (c.note_event.ensures (acts_of before) (acts_of now) (acts_of fresh) (subst (LivesAs c.args.self.now.procs) joined stands.stands.lives_are) (subst (HoldsAs c.args.self.now.fds) joined stands.stands.held_are) (subst (AddressesAs c.args.self.now.fds) joined stands.stands.addresses_are)
       (turned ∙ ap reverse (sym c.as_slice.ensures))
-      (λ s. ap (λ (l : List Act). address_of l s) (sym later) ∙ plan.addresses_are s ∙ ap (λ (l : List Act). readdressed c.args.plan.now.address (address_of l) s) joined)
+      (λ s. ap (λ (l : List Act). address_of l s) (sym later) ∙ plan.addresses_are s ∙ ap (λ (l : List Act). readdressed c.args.plan.now.work.address (address_of l) s) joined)
       stands.since);
   saved = saved_still text c.args.self.now.entities c.enter_all.new.entities before
       (ap (λ e. e.most_names) c.enter_all.ensures.rest ∙ ap (λ e. e.most_names) c.give_all.ensures.rest)
@@ -78,9 +78,9 @@ returns-clause-limits c = λ limits has. record {
 
 pub returns-clause-grown : goal.returns-clause-grown
 returns-clause-grown c = record {
-  acts = ap (λ (l : List Act). c.args.self.now.acts + length l) c.as_slice-5.ensures;
-  flows = ap (λ (l : List Flow). c.args.self.now.flows + length l) c.as_slice-4.ensures;
-  keys = c.enter_all.ensures.keys ∙ ap (λ seen. entered seen c.args.plan.now.keys) (ap (λ e. e.keys) c.give_all.ensures.rest);
+  acts = ap (λ (l : List Act). c.args.self.now.acts + length l) c.as_slice-4.ensures;
+  flows = ap (λ (l : List Flow). c.args.self.now.flows + length l) (c.flows.ensures ∙ c.enter_all.ensures.flows);
+  keys = c.enter_all.ensures.keys ∙ ap (λ seen. entered seen c.args.plan.now.work.draft.added.keys) (ap (λ e. e.keys) c.give_all.ensures.rest);
   limits = refl;
   marked = refl;
 }

@@ -20,22 +20,22 @@ pub work_event-requires : goal.work_event-requires
 work_event-requires c =
     let few = c.requires.few in
     let flows = c.requires.safe.flows_few in
-    let slice = ap length (c.as_slice.ensures ∙ c.take_room-worked.ensures.acts) in
+    let slice = ap length c.as_slice.ensures in
     record {
       few = omega (arith, few, slice);
       limit = c.requires.safe.limit_is;
       fits = rw c.requires.safe.limit_is c.requires.safe.objects_fit;
-      event = subst IsEvent (sym (c.as_slice.ensures ∙ c.take_room-worked.ensures.acts)) c.requires.event;
+      event = subst IsEvent (sym c.as_slice.ensures) c.requires.event;
       flows = omega (arith, few, flows, slice);
-      fresh = c.take_room-worked.ensures.fresh;
+      fresh = c.clear.ensures;
     }
 
 pub returns-clause-plan : goal.returns-clause-plan
 returns-clause-plan c = λ before may.
     let stands = may.stands in
-    let slice = c.as_slice.ensures ∙ c.take_room-worked.ensures.acts in
-    let plan = c.put.new.self in
-    let is = c.in_ok-put.ensures in
+    let slice = c.as_slice.ensures in
+    let plan = c.turn.new.self in
+    let is = c.in_ok-turn.ensures.ok in
     let work = c.in_ok-work_event.ensures in
     subst (λ acts. IsPlanOf text_of plan before (turned c.args.ms c.args.serial acts)) slice
     (planned _ c.work_event.new.worked plan before c.as_slice.result.now
@@ -55,18 +55,18 @@ returns-clause-plan c = λ before may.
       acts_are = stands.acts_are;
       few = (let few = may.few in let same = ap length slice in omega (arith, few, same));
     }))
-    work.new stands.objects_are (c.put.ensures.acts ∙ c.take_room-worked.ensures.acts ∙ sym slice) is.see is.last is.address is.given is.keys is.flows)
+    work.new stands.objects_are (c.turn.ensures.acts ∙ sym slice) is.see is.last is.address is.given is.keys is.flows)
 
 pub returns-clause-more : goal.returns-clause-more
 returns-clause-more c =
     let fewer = c.in_ok-work_event.ensures.more in
-    let slice = ap length (c.as_slice.ensures ∙ c.take_room-worked.ensures.acts) in
-    let same = ap length c.in_ok-put.ensures.flows in
+    let slice = ap length c.as_slice.ensures in
+    let same = ap length c.in_ok-turn.ensures.ok.flows in
     omega (arith, fewer, slice, same)
 
 pub returns-clause-flows : goal.returns-clause-flows
 returns-clause-flows c =
-    let is = c.in_ok-put.ensures in
+    let is = c.in_ok-turn.ensures.ok in
     let work = c.in_ok-work_event.ensures in
     let known = c.args.self.now.entities.keys in
     record {
@@ -80,7 +80,7 @@ returns-in_err-work_event-clause-full c =
     let p = err_from_is_err_and c.from_residual.result c.from_residual.ensures.1 in
     rw (p.1, p.2) (λ full is before may.
     let stands = may.stands in
-    let slice = c.as_slice.ensures ∙ c.take_room-worked.ensures.acts in
+    let slice = c.as_slice.ensures in
     let now = turned c.args.ms c.args.serial c.as_slice.result.now in
     subst (λ acts. IsPast c.args.self.now.limits.entities full (objects (acts_of (turned c.args.ms c.args.serial acts ++ before)))) slice
     (subst (λ all. IsPast c.args.self.now.limits.entities full (objects all)) (sym (joined now before))

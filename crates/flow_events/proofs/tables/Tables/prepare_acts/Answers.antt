@@ -9,7 +9,7 @@ pub overflow_add-self : goal.overflow_add-self
 overflow_add-self c =
     let flows = c.requires.safe.flows_few in
     let few = c.requires.few in
-    let slice = ap length c.as_slice.ensures in
+    let slice = ap length c.flows.ensures in
     let fewer = c.in_ok-plan.ensures.more in
     omega (arith, flows, few, slice, fewer)
 
@@ -22,4 +22,4 @@ returns-clause-since c = since_stays c.args.self.now c.make_room.new.self c.make
 pub returns-clause-fits : goal.returns-clause-fits
 returns-clause-fits c = λ limits has before may.
     plan_fits text_of c.args.self.now c.plan.new.plan limits before (turned c.args.ms c.args.serial c.args.plan.now.acts) has may.stands (c.in_ok-plan.ensures.plan before may) c.in_ok-plan.ensures.fits
-    (let flows = may.stands.flows_are in let few_of_them = few_flows before in let few = may.few in let fewer = c.in_ok-plan.ensures.more in let past = c.if-self-as_slice.false in let slice = ap length c.as_slice.ensures in omega (arith, past, slice, flows, few_of_them, few, fewer))
+    (let flows = may.stands.flows_are in let few_of_them = few_flows before in let few = may.few in let fewer = c.in_ok-plan.ensures.more in let past = c.if-self-flows.false in let slice = ap length c.flows.ensures in omega (arith, past, slice, flows, few_of_them, few, fewer))
