@@ -52,6 +52,11 @@ room_left old new o count places wide used f rest r = record {
       let p : length rest * (new.shared.width + 1) ≡ length rest * (old.shared.width + 1) = ap (λ w. length rest * (w + 1)) wide.width in
       let c = wide.capacity in
       omega (arith, b, e, p, c, used);
+  few =
+      let b = r.few in
+      let e = by_parts (length rest) (old.shared.width + 1) in
+      let p : length rest * (new.shared.width + 1) ≡ length rest * (old.shared.width + 1) = ap (λ w. length rest * (w + 1)) wide.width in
+      omega (arith, b, e, p, used);
 }
 
 -- room for flows is room for the first of them
@@ -63,6 +68,7 @@ room_one s f rest r = record {
   numbers = let n = r.numbers in omega arith;
   counted = let n = r.counted in omega arith;
   blocks = let b = r.blocks in let e = by_parts (length rest) (s.shared.width + 1) in omega (arith, b, e);
+  few = let b = r.few in let e = by_parts (length rest) (s.shared.width + 1) in omega (arith, b, e);
 }
   where
     first : (g : Flow) → Contains (f ∷ []) g → Contains (f ∷ rest) g

@@ -1,6 +1,6 @@
-//! The blocks of all sets, in one list. The id of a block is its place in it, from 1 on; the id 0
-//! is that of no bits. A block is never changed.
-ghost use Rattle.std.specs.Prelude.{◌≡◌, ◌↔◌, ◌⊎◌, ◌<◌, ◌≤◌, ℕ, [], IfSome, None, false, true, length, IsTrue};
+//! The blocks of all sets, in one list. The id of a block is its place in it, from 1 on, in 32 bits;
+//! the id 0 is that of no bits. A block is never changed.
+ghost use Rattle.std.specs.Prelude.{◌≡◌, ◌↔◌, ◌⊎◌, ◌-◌, ◌<◌, ◌≤◌, ◌^◌, ℕ, [], IfSome, None, false, true, length, IsTrue};
 ghost use Rattle.std.specs.Vec.{vec_len, vec_capacity};
 ghost use Rattle.reduce_source.specs.BitsOf.{HasBit};
 ghost use Rattle.reduce_source.specs.Blocks.{AddsBlocks, words_of};
@@ -8,7 +8,7 @@ ghost use Rattle.reduce_source.specs.Blocks.{AddsBlocks, words_of};
 use crate::block::Block;
 
 /// Whether the block with an id has a bit.
-pub fn has_bit(blocks: &[Block], id: usize, bit: usize) -> bool
+pub fn has_bit(blocks: &[Block], id: u32, bit: usize) -> bool
     requires { bit < 1024 }
     ensures { IsTrue result ↔ HasBit (words_of blocks.now id) bit }
 {
@@ -19,7 +19,7 @@ pub fn has_bit(blocks: &[Block], id: usize, bit: usize) -> bool
 }
 
 /// Whether each bit of one block is a bit of another.
-pub fn is_within(blocks: &[Block], small: usize, large: usize) -> bool
+pub fn is_within(blocks: &[Block], small: u32, large: u32) -> bool
     ensures yes { result ≡ true → (j : ℕ) → HasBit (words_of blocks.now small) j
         → HasBit (words_of blocks.now large) j }
     ensures no { result ≡ false
@@ -39,10 +39,11 @@ pub fn is_within(blocks: &[Block], small: usize, large: usize) -> bool
 }
 
 /// The id of a block with the bits of two. A block is made only if neither has the bits of both.
-pub fn join(blocks: &mut Vec<Block>, mine: usize, other: usize) -> usize
+pub fn join(blocks: &mut Vec<Block>, mine: u32, other: u32) -> u32
     requires mine { mine ≤ length blocks.old.items }
     requires other { other ≤ length blocks.old.items }
     requires room { vec_len blocks.old < vec_capacity blocks.old }
+    requires few { vec_len blocks.old < 2 ^ 32 - 1 }
     ensures bits { (j : ℕ) → HasBit (words_of blocks.new.items result) j
         ↔ (HasBit (words_of blocks.old.items mine) j ⊎ HasBit (words_of blocks.old.items other) j) }
     ensures id { result ≤ length blocks.new.items }
@@ -70,9 +71,10 @@ pub fn join(blocks: &mut Vec<Block>, mine: usize, other: usize) -> usize
 }
 
 /// The id of a new block with the bits of a block and one more.
-pub fn mark(blocks: &mut Vec<Block>, id: usize, bit: usize) -> usize
+pub fn mark(blocks: &mut Vec<Block>, id: u32, bit: usize) -> u32
     requires bit { bit < 1024 }
     requires room { vec_len blocks.old < vec_capacity blocks.old }
+    requires few { vec_len blocks.old < 2 ^ 32 - 1 }
     ensures bits { (j : ℕ) → HasBit (words_of blocks.new.items result) j
         ↔ (HasBit (words_of blocks.old.items id) j ⊎ (j ≡ bit)) }
     ensures id { result ≤ length blocks.new.items }
@@ -86,23 +88,24 @@ pub fn mark(blocks: &mut Vec<Block>, id: usize, bit: usize) -> usize
 }
 
 /// The block with an id, if there is one.
-fn block_of(blocks: &[Block], id: usize) -> Option<&Block>
+fn block_of(blocks: &[Block], id: u32) -> Option<&Block>
     ensures none { result ≡ None → words_of blocks.now id ≡ [] }
     ensures some { IfSome result (λ block. words_of blocks.now id ≡ block.now.words) }
 {
     if id == 0 {
         return None;
     }
-    blocks.get(id - 1)
+    blocks.get((id - 1) as usize)
 }
 
 /// Adds a block in the room that was made for it, and gives its id.
-fn add(blocks: &mut Vec<Block>, block: Block) -> usize
+fn add(blocks: &mut Vec<Block>, block: Block) -> u32
     requires room { vec_len blocks.old < vec_capacity blocks.old }
+    requires few { vec_len blocks.old < 2 ^ 32 - 1 }
     ensures block { words_of blocks.new.items result ≡ block.words }
     ensures id { result ≤ length blocks.new.items }
     ensures adds { AddsBlocks 1 blocks.old blocks.new }
 {
     blocks.push_reserved(block);
-    blocks.len()
+    blocks.len() as u32
 }

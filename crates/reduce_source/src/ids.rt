@@ -1,6 +1,6 @@
 //! A set of numbers as a list of ids of blocks, by place. The block at a place has a bit for each
 //! of 1,024 numbers: the number n is the bit n % 1024 of the block at the place n / 1024.
-ghost use Rattle.std.specs.Prelude.{◌≡◌, ◌↔◌, ◌⊎◌, ◌/◌, ◌+◌, ◌<◌, ◌≤◌, ℕ, List, [], false, true, length, max, slice_index, IsTrue, OnOk};
+ghost use Rattle.std.specs.Prelude.{◌≡◌, ◌↔◌, ◌⊎◌, ◌/◌, ◌+◌, ◌-◌, ◌<◌, ◌≤◌, ◌^◌, ℕ, List, [], false, true, length, max, slice_index, IsTrue, OnOk};
 ghost use Rattle.std.specs.Vec.{vec_len, vec_capacity};
 ghost use Rattle.reduce_source.specs.Blocks.{AddsBlocks, AreIdsOf, HasIn};
 
@@ -16,7 +16,7 @@ const BITS: u64 = 1024;
 /// The ids of the blocks of a set. A place past the end has the id 0.
 #[derive(Drop)]
 pub struct Ids {
-    ids: Vec<usize>,
+    ids: Vec<u32>,
 }
 
 impl Model for Ids {
@@ -36,18 +36,19 @@ impl Ids {
     }
 
     /// The ids, by place.
-    pub fn as_slice(&self) -> &[usize]
+    pub fn as_slice(&self) -> &[u32]
         ensures { result.now ≡ self.now }
     {
         self.ids.as_slice()
     }
 
     /// Takes all numbers of another set in, in the room that was made for it.
-    pub fn join(&mut self, blocks: &mut Vec<Block>, more: &[usize])
+    pub fn join(&mut self, blocks: &mut Vec<Block>, more: &[u32])
         requires ids { AreIdsOf (length blocks.old.items) self.old }
         requires more { AreIdsOf (length blocks.old.items) more.now }
         requires places { length more.now ≤ length self.old }
         requires room { vec_len blocks.old + length more.now ≤ vec_capacity blocks.old }
+        requires few { vec_len blocks.old + length more.now < 2 ^ 32 }
         ensures set { (n : ℕ) → HasIn blocks.new.items self.new n
             ↔ (HasIn blocks.old.items self.old n ⊎ HasIn blocks.old.items more.now n) }
         ensures ids { AreIdsOf (length blocks.new.items) self.new }
@@ -64,6 +65,7 @@ impl Ids {
         requires ids { AreIdsOf (length blocks.old.items) self.old }
         requires place { number / 1024 < length self.old }
         requires room { vec_len blocks.old < vec_capacity blocks.old }
+        requires few { vec_len blocks.old < 2 ^ 32 - 1 }
         ensures set { (n : ℕ) → HasIn blocks.new.items self.new n
             ↔ (HasIn blocks.old.items self.old n ⊎ (n ≡ number)) }
         ensures ids { AreIdsOf (length blocks.new.items) self.new }
@@ -92,7 +94,7 @@ impl Ids {
 }
 
 /// Whether the set with these ids has a number.
-pub fn has_number(blocks: &[Block], ids: &[usize], number: u64) -> bool
+pub fn has_number(blocks: &[Block], ids: &[u32], number: u64) -> bool
     ensures { IsTrue result ↔ HasIn blocks.now ids.now number }
 {
     let id = id_at(ids, (number / BITS) as usize);
@@ -100,7 +102,7 @@ pub fn has_number(blocks: &[Block], ids: &[usize], number: u64) -> bool
 }
 
 /// Whether each number of one set is a number of another.
-pub fn is_within(blocks: &[Block], small: &[usize], large: &[usize]) -> bool
+pub fn is_within(blocks: &[Block], small: &[u32], large: &[u32]) -> bool
     ensures yes { result ≡ true → (n : ℕ) → HasIn blocks.now small.now n
         → HasIn blocks.now large.now n }
     ensures no { result ≡ false
@@ -116,7 +118,7 @@ pub fn is_within(blocks: &[Block], small: &[usize], large: &[usize]) -> bool
 }
 
 /// The id at a place.
-fn id_at(ids: &[usize], place: usize) -> usize
+fn id_at(ids: &[u32], place: usize) -> u32
     ensures { result ≡ slice_index ids.now place }
 {
     match ids.get(place) {

@@ -1,5 +1,5 @@
 //! The sets of sources over a list of kept flows.
-ghost use Rattle.std.specs.Prelude.{◌≡◌, ◌≢◌, ◌↔◌, ◌⊎◌, ◌==◌, ◌+◌, ◌/◌, ◌^◌, ◌<◌, ◌≤◌, ◌∷◌, ◌++◌, [], ℕ, List, false, true, cond, length, slice_index_or, IfOk, IsTrue, None, OnOk};
+ghost use Rattle.std.specs.Prelude.{◌≡◌, ◌≢◌, ◌↔◌, ◌⊎◌, ◌==◌, ◌+◌, ◌-◌, ◌/◌, ◌^◌, ◌<◌, ◌≤◌, ◌∷◌, ◌++◌, [], ℕ, List, false, true, cond, length, slice_index_or, IfOk, IsTrue, None, OnOk};
 ghost use Rattle.std.specs.List.{Contains};
 ghost use Rattle.flow_base.specs.declared.types.Flow.{Flow as AFlow};
 ghost use Rattle.reach_model.specs.Ids.{IsAscending, numbers};
@@ -95,7 +95,8 @@ impl SourceSets {
         self.shared.is_within(small.0 as usize, large.0 as usize)
     }
 
-    /// Makes room for the unions that these flows can ask for.
+    /// Makes room for the unions that these flows can ask for. It fails if memory does, or if the
+    /// sets could come to 2^32 blocks by these flows, which is 512 GiB.
     pub fn reserve(&mut self, flows: &[Flow]) -> Result<(), NoMemory>
         ensures room { OnOk result (HasRoom self.new flows.now) }
         ensures same { (K : List AFlow) → StandsFor self.old K → StandsFor self.new K }
@@ -136,6 +137,7 @@ impl SourceSets {
         requires number { self.old.count / 1024
             < length (slice_index_or self.old.shared.sets.items object []) }
         requires room { vec_len self.old.shared.blocks < vec_capacity self.old.shared.blocks }
+        requires few { vec_len self.old.shared.blocks < 2 ^ 32 - 1 }
         requires counted { self.old.count + 1 < 2 ^ 64 }
         ensures standings { (x : ℕ)
             → standing_of self.new x ≡

@@ -1,5 +1,5 @@
 //! The sets of all objects, and the blocks that they share.
-ghost use Rattle.std.specs.Prelude.{◌≡◌, ◌↔◌, ◌⊎◌, ◌+◌, ◌/◌, ◌*◌, ◌<◌, ◌≤◌, [], ℕ, false, true, length, max, slice_index_or, IsTrue, OnOk};
+ghost use Rattle.std.specs.Prelude.{◌≡◌, ◌↔◌, ◌⊎◌, ◌+◌, ◌-◌, ◌/◌, ◌*◌, ◌<◌, ◌≤◌, ◌^◌, [], ℕ, false, true, length, max, slice_index_or, IsTrue, OnOk};
 ghost use Rattle.std.specs.Vec.{vec_len, vec_capacity};
 ghost use Rattle.flow_base.specs.declared.types.Flow.{Flow as AFlow};
 ghost use Rattle.reach_model.specs.Flows.{source, target};
@@ -9,6 +9,9 @@ use crate::block::Block;
 use crate::ids::{self, Ids};
 use flow_base::{Flow, NoMemory};
 use std::alloc::Global;
+
+/// The ids of blocks have 32 bits, and 0 is none. As many blocks take 512 GiB.
+const MOST_BLOCKS: usize = 1 << 32;
 
 /// A set of numbers for each object.
 #[derive(Drop)]
@@ -58,6 +61,7 @@ impl Shared {
         requires places { length (ids_of self.old with) ≤ length (ids_of self.old into) }
         requires room { vec_len self.old.blocks + length (ids_of self.old with)
             ≤ vec_capacity self.old.blocks }
+        requires few { vec_len self.old.blocks + length (ids_of self.old with) < 2 ^ 32 }
         ensures sets { (v n : ℕ) → HasNumber self.new v n
             ↔ (HasNumber self.old v n ⊎ ((v ≡ into) × HasNumber self.old with n)) }
         ensures shape { IsAsWide self.old self.new }
@@ -76,6 +80,7 @@ impl Shared {
         requires object { object < length self.old.sets.items }
         requires place { number / 1024 < length (ids_of self.old object) }
         requires room { vec_len self.old.blocks < vec_capacity self.old.blocks }
+        requires few { vec_len self.old.blocks < 2 ^ 32 - 1 }
         ensures sets { (v n : ℕ) → HasNumber self.new v n
             ↔ (HasNumber self.old v n ⊎ ((v ≡ object) × (n ≡ number))) }
         ensures shape { IsAsWide self.old self.new }
@@ -142,23 +147,29 @@ impl Shared {
         }
     }
 
-    /// Makes room for the blocks of this many unions, each after a mark. It fails if memory does.
+    /// Makes room for the blocks of this many unions, each after a mark. It fails if memory does, or
+    /// if there could be as many blocks as there are ids.
     pub fn make_room(&mut self, unions: usize) -> Result<(), NoMemory>
         ensures room { OnOk result
             (vec_len self.new.blocks + unions * (self.new.width + 1)
             ≤ vec_capacity self.new.blocks) }
+        ensures few { OnOk result
+            (vec_len self.new.blocks + unions * (self.new.width + 1) < 2 ^ 32) }
         ensures same { (v n : ℕ) → HasNumber self.new v n ↔ HasNumber self.old v n }
         ensures rest { (self.new.sets ≡ self.old.sets) × (self.new.width ≡ self.old.width) }
         ensures blocks { self.new.blocks.items ≡ self.old.blocks.items }
     {
         let more = self.width.saturating_add(1).saturating_mul(unions);
+        if more.saturating_add(self.blocks.len()) >= MOST_BLOCKS {
+            return Err(NoMemory);
+        }
         self.blocks.reserve(more)?;
         Ok(())
     }
 }
 
 /// The ids of the set of an object. An object past the end has none.
-fn ids_at(sets: &[Ids], object: usize) -> &[usize]
+fn ids_at(sets: &[Ids], object: usize) -> &[u32]
     ensures { result.now ≡ slice_index_or sets.now object [] }
 {
     match sets.get(object) {

@@ -53,6 +53,7 @@ returns-clause-room c =
           (subst (λ n. n ≤ length c.args.self.now.standings.items) (sym c.args.self.now.counted) (few_sources c.args.self.now.standings.items))
           c.args.self.now.standings.ok c.args.self.now.standings.small (omega arith);
       blocks = c.in_ok-make_room.ensures.room;
+      few = c.in_ok-make_room.ensures.few;
     }
   where
     fewer : (count length flows len cap : ℕ) → count ≤ length → (len ≡ length) × (len ≤ cap) → cap < 2 ^ 63 → flows < 2 ^ 63 → count + flows < 2 ^ 64

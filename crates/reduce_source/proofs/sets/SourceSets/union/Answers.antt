@@ -39,10 +39,12 @@ join-requires c =
     let narrow = old.sound.narrow c.args.with.0 in
     let more = c.begin.ensures.blocks in
     let blocks = (r.2).blocks in
+    let few = (r.2).few in
     record {
       object = let same = shape.objects in omega (arith, e, o, same);
       places = omega (arith, from, to, narrow, w);
       room = let same = shape.capacity in omega (arith, from, narrow, more, blocks, same);
+      few = omega (arith, from, narrow, more, few);
     }
 
 pub returns-clause-next : goal.returns-clause-next
