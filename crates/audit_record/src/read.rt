@@ -18,23 +18,24 @@ use crate::fields::{
 };
 use crate::texts::{needed_bytes, needed_text, offered_text, refill};
 use crate::types::{Body, NameKind, PathItem, Read, Record, Syscall};
-use audit_lex::{Field, Kind, Scanned, Slots, UsedLine, scan};
+use audit_lex::{Field, Kind, LastStamp, Scanned, Slots, UsedLine, scan};
 use flow_base::{Bytes, Device, FileId, NoMemory};
 use std::alloc::Global;
 
 /// What a line that may have this many bytes gives, if it is a used one. A record is written over `item`: the line and a
 /// text between quotes use the memory of those that `item` had. Texts and bytes in hex digits take new memory. If the line
-/// gives no record, or if allocation fails, `item` is any record.
+/// gives no record, or if allocation fails, `item` is any record. The answer is the same whatever stands in `last`.
 pub fn read_line(
     alloc: Global,
     line: &[u8],
     limit: usize,
+    last: &mut LastStamp,
     item: &mut Record,
 ) -> Result<Read, NoMemory>
     ensures { IfOk result (λ read. GivesEntry limit line.now read item.new) }
 {
     let mut slots = Slots::new();
-    let Some(scanned) = scan(line, limit, &mut slots) else {
+    let Some(scanned) = scan(line, limit, last, &mut slots) else {
         return Ok(Read::Unused);
     };
     if is_end(scanned.kind) {
@@ -52,7 +53,8 @@ pub fn read_record(alloc: Global, used: &UsedLine<'_>) -> Result<Record, NoMemor
     ensures { IfOk result (λ made. Spells used.now.line.now made) }
 {
     let mut slots = Slots::new();
-    let Some(scanned) = scan(used.line, used.line.len(), &mut slots) else {
+    let mut last = LastStamp::none();
+    let Some(scanned) = scan(used.line, used.line.len(), &mut last, &mut slots) else {
         unreachable!();
     };
     let mut item = Record::blank(alloc);

@@ -20,9 +20,9 @@ pub fn turn<T: Drop>(alloc: Global, items: &mut List<T>) -> Result<(), NoMemory>
     Ok(())
 }
 
-// The items with the last one first.
+/// The items with the last one first.
 #[inline(never)]
-fn newest_first<T: Drop>(alloc: Global, items: List<T>) -> Result<List<T>, NoMemory>
+pub fn newest_first<T: Drop>(alloc: Global, items: List<T>) -> Result<List<T>, NoMemory>
     ensures { IfOk result (λ turned. turned ≡ reverse items) }
 {
     let mut items = items;
