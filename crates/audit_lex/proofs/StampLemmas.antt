@@ -9,23 +9,7 @@ use Rattle.audit_lex.proofs.NumberLemmas.{all_digits}
 use Rattle.audit_lex.proofs.HeaderNumbers.{too_long}
 use Rattle.audit_lex.specs.Values.{number_of, are_digits}
 use Rattle.audit_lex.specs.declared.header.EventKey.{EventKey}
-use Rattle.audit_lex.specs.Header.{behind, cut_at, number_then, number_to, key_from, key_of, with_key, stamp_serial, stamp_millis, stamp_seconds, stamp_of}
-
--- a key whose serial number fits 32 bits
-abbrev pub serial_when : Bool → ℕ → ℕ × List ℕ → Option (EventKey × List ℕ)
-serial_when fits ms parts = if fits then Some (record { ms = ms; serial = parts.0 }, parts.1) else None
-
--- the key of this time, with the serial number that was read
-abbrev pub with_serial : ℕ → ℕ × List ℕ → Option (EventKey × List ℕ)
-with_serial ms parts = serial_when (nat_lt parts.0 (2 ^ 32)) ms parts
-
--- the key of these seconds, with the milliseconds that were read
-abbrev pub with_millis : ℕ → ℕ × List ℕ → Option (EventKey × List ℕ)
-with_millis seconds parts = option_and_then (with_serial (seconds * 1000 + parts.0)) (number_to 41 1 10 parts.1)
-
--- the key of the seconds that were read
-abbrev pub with_seconds : ℕ × List ℕ → Option (EventKey × List ℕ)
-with_seconds parts = option_and_then (with_millis parts.0) (number_to 58 3 3 parts.1)
+use Rattle.audit_lex.specs.Header.{behind, cut_at, number_then, number_to, key_from, key_of, with_key, stamp_serial, stamp_millis, stamp_seconds, stamp_of, serial_when, with_serial, with_millis, with_seconds, seconds_of}
 
 -- a number has at least one digit
 some_digit : (most bound : ℕ) (text : List ℕ) → (if nat_le 1 (length text) then number_of 10 most bound text else None) ≡ number_of 10 most bound text
@@ -152,5 +136,5 @@ in_bracket None = refl
 in_bracket (Some rest) = seconds_step (cut_at 46 rest)
 
 -- a stamp is three numbers in a row, of which the last fits 32 bits
-pub stamp_by_numbers : (text : List ℕ) → stamp_of text ≡ option_and_then with_seconds (option_and_then (number_to 46 1 15) (behind (codes "msg=audit(") text))
+pub stamp_by_numbers : (text : List ℕ) → stamp_of text ≡ option_and_then with_seconds (seconds_of text)
 stamp_by_numbers text = in_bracket (behind (codes "msg=audit(") text)

@@ -20,6 +20,7 @@ pub(crate) fn place_in_sixteen(byte: u8, text: &[u8]) -> usize
 }
 
 /// Whether a text begins with the first `len` of these bytes. All of them are compared together.
+#[inline(always)]
 pub(crate) fn begins_alike(bytes: &[u8; 32], len: usize, text: &[u8]) -> bool
     requires text { 32 ≤ length text.now }
     requires len { len ≤ 32 }
