@@ -77,7 +77,7 @@ impl Records {
         ensures { self.old ≡ self.new ++ item.new ∷ [] }
     {
         self.count -= 1;
-        std::mem::swap(&mut self.items[self.count], item);
+        std::mem::swap(item, &mut self.items[self.count]);
     }
 
     /// Takes all records away. Some of them are kept as spare ones.
