@@ -1,7 +1,7 @@
 //! Records in, events out. The wanted events are worked out by hand from the rules of joining.
 
 use audit_lex::EventKey;
-use audit_record::{Body, Record, Syscall};
+use audit_record::{Body, Read, Record, Syscall, read_line};
 use flow_base::{Bytes, Limits, List, NoMemory};
 use record_join::{Event, EventView, GroupView, Join, JoinClock, Taken, join_all, release_ripe};
 use std::alloc::Global;
@@ -303,40 +303,73 @@ fn a_list_of_records_is_joined(rt: HostRuntime) -> Result<(), Fail> {
     Ok(())
 }
 
-/// Whether the joiner's spare room has no bytes.
-fn is_spare_room_empty(join: &mut Join) -> bool {
-    let room = join.spare_room();
-    room.line.as_slice().is_empty() && room.text.as_slice().is_empty()
+/// Reads a line over `item`, and gives what it gives to a joiner.
+fn read_and_give(
+    alloc: Global,
+    join: &mut Join,
+    item: &mut Record,
+    line: &[u8],
+) -> Result<Read, Fail> {
+    let read = read_line(alloc, line, 2000, item)?;
+    match read {
+        Read::Record => {
+            if join.ripe() {
+                return Err(Fail::new("an event was ripe"));
+            }
+            let taken = join.exchange(item)?;
+            if taken != Taken::Held {
+                return Err(Fail::new("a record was not held"));
+            }
+        }
+        Read::End(key) => join.end(key),
+        Read::Unused => {}
+    }
+    Ok(read)
+}
+
+/// The lines of the records of an event, joined by spaces.
+fn lines_of(alloc: Global, view: Option<EventView<'_>>) -> Result<Bytes, NoMemory> {
+    let mut text = Bytes::new(alloc);
+    if let Some(view) = view {
+        for item in view.records {
+            text.append(item.line.as_slice())?;
+            text.append(b" ".as_slice())?;
+        }
+    }
+    Ok(text)
 }
 
 #[test]
-fn a_spare_room_has_no_bytes(rt: HostRuntime) -> Result<(), Fail> {
+fn the_memory_of_a_passed_event_holds_the_next_one(rt: HostRuntime) -> Result<(), Fail> {
     let alloc = rt.alloc();
-    let mut join = Join::new(alloc, &limits());
-    assert!(rt; is_spare_room_empty(&mut join));
-    let texts = [
-        Body::Cwd(Some(Bytes::from_slice(alloc, b"/a".as_slice())?)),
-        Body::Sockaddr(Bytes::from_slice(alloc, [0; 1025].as_slice())?),
+    let mut join = Join::new(alloc, &Limits::standard());
+    let mut item = Record::blank(alloc);
+    let first = [
+        b"type=CWD msg=audit(5.000:1): cwd=\"/a/long/first/path\"".as_slice(),
+        b"type=MMAP msg=audit(5.000:1): fd=5".as_slice(),
+        b"type=PATH msg=audit(5.000:1): item=0 name=\"/b\" nametype=NORMAL".as_slice(),
+        b"type=EOE msg=audit(5.000:1):".as_slice(),
     ];
-    for body in texts {
-        let item = Record {
-            key: EventKey {
-                ms: 5000,
-                serial: 1,
-            },
-            line: Bytes::from_slice(alloc, b"line".as_slice())?,
-            body,
-        };
-        give(&mut join, item)?;
+    for line in first {
+        read_and_give(alloc, &mut join, &mut item, line)?;
     }
-    join.settle();
+    assert_eq!(rt; lent(join.peek()), Some((5000, 1, 5000, false, 3)));
     if join.ripe() {
         join.pass();
     }
-    assert_eq!(rt; join.waiting(), 0);
-    // The rooms of two records, and a new one.
-    for _ in 0..3 {
-        assert!(rt; is_spare_room_empty(&mut join));
+    // A shorter event, whose records are of other kinds in each place.
+    let path = b"type=PATH msg=audit(6.000:2): item=1 name=\"/c\" nametype=CREATE".as_slice();
+    let cwd = b"type=CWD msg=audit(6.000:2): cwd=(null)".as_slice();
+    for line in [path, cwd, b"type=EOE msg=audit(6.000:2):".as_slice()] {
+        read_and_give(alloc, &mut join, &mut item, line)?;
     }
+    assert_eq!(rt; lent(join.peek()), Some((6000, 2, 6000, false, 2)));
+    let mut wanted = Bytes::from_slice(alloc, path)?;
+    wanted.append(b" ".as_slice())?;
+    wanted.append(cwd)?;
+    wanted.append(b" ".as_slice())?;
+    assert!(rt; lines_of(alloc, join.peek())? == wanted);
+    assert_eq!(rt; told(join.next()), Some((6000, 2, 6000, false, 2)));
+    assert_eq!(rt; join.waiting(), 0);
     Ok(())
 }

@@ -1,9 +1,7 @@
 //! Lines in, records out. The wanted records are worked out by hand from the format of audit records.
 
 use audit_lex::{EventKey, Lexed, lex};
-use audit_record::{
-    Body, Entry, NameKind, PathItem, Record, Room, Syscall, read_line, read_record,
-};
+use audit_record::{Body, NameKind, PathItem, Read, Record, Syscall, read_line, read_record};
 use flow_base::{Bytes, Device, FileId, NoMemory};
 use std::alloc::Global;
 use std::test::Fail;
@@ -43,24 +41,39 @@ fn spells(alloc: Global, line: &[u8], body: Body) -> Result<bool, NoMemory> {
     Ok(record == Some(wanted))
 }
 
-/// What a line of at most 200 bytes gives, if an earlier record had texts of its own.
-fn given(alloc: Global, line: &[u8]) -> Result<Option<Entry>, NoMemory> {
-    let mut room = Room {
+/// A record that was read before, with texts of its own.
+fn earlier(alloc: Global) -> Result<Record, NoMemory> {
+    Ok(Record {
+        key: EventKey { ms: 1, serial: 1 },
         line: Bytes::from_slice(alloc, b"an earlier line".as_slice())?,
-        text: Bytes::from_slice(alloc, b"/earlier".as_slice())?,
-    };
-    read_line(alloc, line, 200, &mut room)
+        body: Body::Path(PathItem {
+            item: 1,
+            name: text(alloc, b"/earlier".as_slice())?,
+            file: Some(FileId {
+                device: Device { major: 8, minor: 1 },
+                ino: 1,
+            }),
+            kind: NameKind::Create,
+        }),
+    })
 }
 
-/// Whether a line gives a record of this body.
+/// What a line of at most 200 bytes gives.
+fn given(alloc: Global, line: &[u8]) -> Result<Read, NoMemory> {
+    let mut item = earlier(alloc)?;
+    read_line(alloc, line, 200, &mut item)
+}
+
+/// Whether a line gives a record of this body, over an earlier one and over a record of its own kind.
 fn gives(alloc: Global, line: &[u8], body: Body) -> Result<bool, NoMemory> {
-    match given(alloc, line)? {
-        Some(Entry::Record(record)) => {
-            let wanted = wanted(alloc, line, body)?;
-            Ok(record == wanted)
+    let mut item = earlier(alloc)?;
+    let wanted = wanted(alloc, line, body)?;
+    for _ in 0..2 {
+        if read_line(alloc, line, 200, &mut item)? != Read::Record || item != wanted {
+            return Ok(false);
         }
-        _ => Ok(false),
     }
+    Ok(true)
 }
 
 fn text(alloc: Global, bytes: &[u8]) -> Result<Option<Bytes>, NoMemory> {
@@ -297,10 +310,7 @@ fn an_end_gives_its_key_and_an_unused_line_nothing(rt: HostRuntime) -> Result<()
         b"type=EOE msg=audit(1364481363.243:24287):".as_slice(),
         b"type=PROCTITLE msg=audit(1364481363.243:24287): proctitle=7368".as_slice(),
     ] {
-        match given(alloc, line)? {
-            Some(Entry::End(ended)) => assert_eq!(rt; ended, key()),
-            _ => assert!(rt; false),
-        }
+        assert_eq!(rt; given(alloc, line)?, Read::End(key()));
     }
     for line in [
         b"".as_slice(),
@@ -311,7 +321,7 @@ fn an_end_gives_its_key_and_an_unused_line_nothing(rt: HostRuntime) -> Result<()
         b"type=PATH msg=audit(1364481363.243:24287): item=0".as_slice(),
         [b'a'; 201].as_slice(),
     ] {
-        assert!(rt; given(alloc, line)?.is_none());
+        assert_eq!(rt; given(alloc, line)?, Read::Unused);
     }
     Ok(())
 }

@@ -64,7 +64,7 @@ impl Records {
         if self.count == self.items.len() {
             grow(alloc, &mut self.items)?;
         }
-        std::mem::swap(&mut self.items[self.count], item);
+        swap_parts(&mut self.items[self.count], item);
         self.count += 1;
         Ok(())
     }
@@ -77,7 +77,7 @@ impl Records {
         ensures { self.old ≡ self.new ++ item.new ∷ [] }
     {
         self.count -= 1;
-        std::mem::swap(&mut self.items[self.count], item);
+        swap_parts(&mut self.items[self.count], item);
     }
 
     /// Takes all records away. Some of them are kept as spare ones.
@@ -88,6 +88,17 @@ impl Records {
         self.count = 0;
         self.items.truncate(MOST_SPARE);
     }
+}
+
+// Exchanges two records. Each part is small enough to be moved without a call, and a whole record isn't.
+#[inline(always)]
+fn swap_parts(spare: &mut Record, item: &mut Record)
+    ensures spare { spare.new ≡ item.old }
+    ensures item { item.new ≡ spare.old }
+{
+    std::mem::swap(&mut spare.key, &mut item.key);
+    std::mem::swap(&mut spare.line, &mut item.line);
+    std::mem::swap(&mut spare.body, &mut item.body);
 }
 
 // Makes one spare record.
