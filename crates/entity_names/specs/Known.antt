@@ -1,5 +1,5 @@
 -- The table of objects and names, and what it stands for.
-use Rattle.std.specs.Prelude.{⊤, Bool, ◌∷◌, if◌then◌else◌, ◌++◌, ◌+◌, ◌≡◌, ◌<◌, ◌≤◌, ◌⊎◌, ◌||◌, ℕ, zero, suc, List, [], length, take, drop, map, nat_le, Option, None, Some, vec_capacity}
+use Rattle.std.specs.Prelude.{⊤, Bool, ◌∷◌, if◌then◌else◌, ◌++◌, ◌+◌, ◌≡◌, ◌<◌, ◌≤◌, ◌⊎◌, ◌||◌, ℕ, zero, suc, List, [], length, take, drop, map, nat_le, Option, None, Some}
 use Rattle.std.specs.List.{list_any, flat_map}
 use Rattle.std.specs.Map.{lookup}
 use Rattle.std.specs.Cmp.Lexicographic.{pointwise}
@@ -10,7 +10,7 @@ use Rattle.flow_base.specs.declared.limits.Full.{Full}
 use Rattle.flow_base.specs.declared.limits.Limit.TheVariants as limit
 use Rattle.flow_base.specs.contracts.types.KeyPartialEq.TheImpl.{ghosts}
 use Rattle.acts.specs.Keys.{names_of}
-use Rattle.entity_names.specs.declared.key_names.Names.{Names}
+use Rattle.entity_names.specs.KeyNames.{KeyNames}
 use Rattle.entity_names.specs.declared.key_names.Named.{Named}
 
 -- the known keys in order of first appearance, how many there may be, how many names a key may have,
@@ -19,18 +19,18 @@ pub record Known : Type 0 where
   pub keys : List Key
   pub limit : ℕ
   pub most_names : ℕ
-  pub names : List (Key × Names)
+  pub names : List (Key × KeyNames)
   pub spare : ℕ
 
-abbrev pub texts : Option Names → List (List ℕ)
+abbrev pub texts : Option KeyNames → List (List ℕ)
 texts None = []
-texts (Some names) = names.texts.items
+texts (Some names) = names.texts
 
 -- the names of a key, none if it has no list
 abbrev pub names_at : Known → Key → List (List ℕ)
 names_at table key = texts (lookup (ghosts.eq key) table.names)
 
-abbrev pub saved_in : Option Names → ℕ
+abbrev pub saved_in : Option KeyNames → ℕ
 saved_in None = 0
 saved_in (Some names) = names.saved
 
@@ -38,9 +38,9 @@ saved_in (Some names) = names.saved
 abbrev pub saved_at : Known → Key → ℕ
 saved_at table key = saved_in (lookup (ghosts.eq key) table.names)
 
-abbrev pub places : Option Names → ℕ
+abbrev pub places : Option KeyNames → ℕ
 places None = 0
-places (Some names) = vec_capacity names.texts
+places (Some names) = names.capacity
 
 -- how many names of a key fit without memory
 abbrev pub capacity_at : Known → Key → ℕ
@@ -59,7 +59,7 @@ pub record NamesAs (table : Known) (given : List (Key × List ℕ)) : Type 0 whe
   pub each : (key : Key) → names_at table key ≡ take table.most_names (names_of key given)
 
 -- each key has the names and the places that it had
-pub record NamesStay (old new : List (Key × Names)) : Type 0 where
+pub record NamesStay (old new : List (Key × KeyNames)) : Type 0 where
   pub texts_are : (key : Key) → texts (lookup (ghosts.eq key) new) ≡ texts (lookup (ghosts.eq key) old)
   pub places_are : (key : Key) → places (lookup (ghosts.eq key) new) ≡ places (lookup (ghosts.eq key) old)
 
@@ -81,14 +81,14 @@ AreNew table pairs =
     (key : Key) → texts_of key pairs ≡ drop (saved_at table key) (names_at table key)
 
 -- the names of a key that came since the mark, each with the key
-abbrev pub new_pairs : Key × Names → List (Key × List ℕ)
-new_pairs entry = map (λ text. (entry.0, text)) (drop entry.1.saved entry.1.texts.items)
+abbrev pub new_pairs : Key × KeyNames → List (Key × List ℕ)
+new_pairs entry = map (λ text. (entry.0, text)) (drop entry.1.saved entry.1.texts)
 
 -- all names of the first keys, this many of them, were there at the mark
-abbrev pub AreSaved : ℕ → List (Key × Names) → Type 0
+abbrev pub AreSaved : ℕ → List (Key × KeyNames) → Type 0
 AreSaved zero entries = ⊤
 AreSaved (suc n) [] = ⊥
-AreSaved (suc n) (entry ∷ entries) = (entry.1.saved ≡ length entry.1.texts.items) × AreSaved n entries
+AreSaved (suc n) (entry ∷ entries) = (entry.1.saved ≡ length entry.1.texts) × AreSaved n entries
 
 -- no more objects than these
 abbrev pub full_at : ℕ → Full

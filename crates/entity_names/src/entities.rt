@@ -144,7 +144,7 @@ impl Entities {
         ensures { result ≡ list_any (pointwise nat_eq text.now) (names_at self.now key.now) }
     {
         match self.names.get(key) {
-            Some(names) => is_listed(names.texts.as_slice(), text),
+            Some(names) => is_listed(names.as_slice(), text),
             None => false,
         }
     }
@@ -183,13 +183,14 @@ impl Entities {
         let alloc = *self.names.allocator();
         let more = more.min(self.most_names);
         match self.names.get_mut(key) {
-            Some(names) => match names.texts.reserve(more) {
+            Some(names) => match names.reserve(alloc, more) {
                 Ok(()) => Ok(()),
-                Err(_) => Err(NoMemory),
+                Err(fault) => Err(fault),
             },
             None => {
-                let texts = Vec::with_capacity(alloc, more)?;
-                match self.names.insert(copy_key(key)?, Names { texts, saved: 0 }) {
+                let mut names = Names::new();
+                names.reserve(alloc, more)?;
+                match self.names.insert(copy_key(key)?, names) {
                     Ok(_) => Ok(()),
                     Err(_) => Err(NoMemory),
                 }
@@ -204,7 +205,7 @@ impl Entities {
         ensures some { IfSome result (λ list. list.now ≢ []) }
     {
         match self.names.get(key) {
-            Some(names) if !names.texts.is_empty() => Some(names.texts.as_slice()),
+            Some(names) if !names.as_slice().is_empty() => Some(names.as_slice()),
             _ => None,
         }
     }
@@ -230,17 +231,14 @@ impl Entities {
         let alloc = *self.names.allocator();
         self.saved = set_apart(&mut self.names, self.saved, &key);
         match self.names.get_mut(&key) {
-            Some(names) => match names.texts.push(text) {
+            Some(names) => match names.push(alloc, text) {
                 Ok(()) => Ok(()),
+                Err(fault) => Err(fault),
+            },
+            None => match self.names.insert(key, Names::of_one(text)) {
+                Ok(_) => Ok(()),
                 Err(_) => Err(NoMemory),
             },
-            None => {
-                let texts = one_text(alloc, text)?;
-                match self.names.insert(key, Names { texts, saved: 0 }) {
-                    Ok(_) => Ok(()),
-                    Err(_) => Err(NoMemory),
-                }
-            }
         }
     }
 
@@ -252,7 +250,8 @@ impl Entities {
     {
         match self.names.get(key) {
             Some(names) => {
-                names.texts.len() < self.most_names && !is_listed(names.texts.as_slice(), text)
+                let texts = names.as_slice();
+                texts.len() < self.most_names && !is_listed(texts, text)
             }
             None => self.most_names > 0,
         }
@@ -295,15 +294,6 @@ fn copy_keys(alloc: Global, keys: &[Key]) -> Result<List<Key>, NoMemory>
         copies.push(copy_key(key)?)?;
     }
     Ok(copies)
-}
-
-/// A list of one name.
-fn one_text(alloc: Global, text: Bytes) -> Result<Vec<Bytes>, NoMemory>
-    ensures { IfOk result (λ list. list.items ≡ text ∷ []) }
-{
-    let mut list = Vec::new(alloc);
-    list.push(text)?;
-    Ok(list)
 }
 
 /// Whether these bytes are among the names.

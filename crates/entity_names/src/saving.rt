@@ -70,7 +70,7 @@ fn save(names: &mut IndexMap<Key, Names, Salt>, place: usize)
     ensures count { length names.new.entries ≡ length names.old.entries }
 {
     match names.get_index_mut(place) {
-        Some(one) => one.saved = one.texts.len(),
+        Some(one) => one.save(),
         None => {}
     }
 }

@@ -1,12 +1,12 @@
 use Rattle.std.proofs.Common.{sym, subst}
-use Rattle.entity_names.specs.declared.key_names.Names.{Names}
+use Rattle.entity_names.specs.KeyNames.{KeyNames}
 use Rattle.entity_names.specs.Known.{AreSaved}
 use Rattle.entity_names.proofs.SavedLemmas.{saved_past, saved_added}
 use Rattle.entity_names.proofs.entities.Entities.add_name.Goals as goal
 
 pub invariant_of-self : goal.invariant_of-self
 invariant_of-self c =
-    let w : Names = record { texts = c.push.new.self; saved = c.in-Some.names.now.saved } in (
+    let w : KeyNames = c.push.new.self in (
       c.self.invariant.0,
       (
         c.self.invariant.1.0,
@@ -20,7 +20,7 @@ invariant_of-self c =
 
 pub invariant_of-self-in-Some : goal.invariant_of-self-in-Some
 invariant_of-self-in-Some c =
-    let w : Names = record { texts = c.push.new.self; saved = c.in-Some.names.now.saved } in (
+    let w : KeyNames = c.push.new.self in (
       c.self.invariant.0,
       (
         c.self.invariant.1.0,
@@ -34,7 +34,7 @@ invariant_of-self-in-Some c =
 
 pub invariant_of-self-in-Ok-insert : goal.invariant_of-self-in-Ok-insert
 invariant_of-self-in-Ok-insert c =
-    let w : Names = record { texts = c.in_ok-texts-in-None.texts; saved = 0 } in
+    let w : KeyNames = c.of_one.result in
     let same = c.get_mut.follows.holds-at-none in (
       c.self.invariant.0,
       (

@@ -1,43 +1,43 @@
-use Rattle.std.proofs.Common.{◌∙◌, ap, sym, subst, refl}
+use Rattle.std.proofs.Common.{◌∙◌, ap, sym, subst}
 use Rattle.std.specs.Map.{lookup}
 use Rattle.flow_base.specs.declared.types.Key.{Key}
 use Rattle.flow_base.specs.contracts.types.KeyPartialEq.TheImpl.{ghosts}
-use Rattle.entity_names.specs.declared.key_names.Names.{Names}
-use Rattle.entity_names.specs.Known.{AreSaved}
-use Rattle.entity_names.proofs.SavedLemmas.{saved_kept, saved_added}
+use Rattle.entity_names.specs.KeyNames.{KeyNames}
+use Rattle.entity_names.specs.Known.{Known, AreSaved, saved_in, saved_at}
+use Rattle.entity_names.proofs.SavedLemmas.{saved_kept, saved_added, looked_up_by}
 use Rattle.entity_names.proofs.entities.Entities.make_room.Goals as goal
 
 pub invariant_of-self : goal.invariant_of-self
 invariant_of-self c =
-    let w : Names = record { texts = c.reserve.new.self; saved = c.in-Some.names.now.saved } in (
+    let w : KeyNames = c.reserve.new.self in (
       c.self.invariant.0,
       (
         c.self.invariant.1.0,
         (
           c.self.invariant.1.1.0,
           subst (AreSaved c.self.inside.saved) (sym (c.get_mut.follows.holds w).0)
-              (saved_kept _ c.self.inside.names.entries c.self.inside.saved c.in-Some.names.now w c.self.invariant.1.1.1 c.in-Some.ensures.value refl c.reserve.ensures.items),
+              (saved_kept _ c.self.inside.names.entries c.self.inside.saved c.in-Some.names.now w c.self.invariant.1.1.1 c.in-Some.ensures.value c.reserve.ensures.saved c.reserve.ensures.texts),
         ),
       ),
     )
 
 pub invariant_of-self-in-Some : goal.invariant_of-self-in-Some
 invariant_of-self-in-Some c =
-    let w : Names = record { texts = c.reserve.new.self; saved = c.in-Some.names.now.saved } in (
+    let w : KeyNames = c.reserve.new.self in (
       c.self.invariant.0,
       (
         c.self.invariant.1.0,
         (
           c.self.invariant.1.1.0,
           subst (AreSaved c.self.inside.saved) (sym (c.get_mut.follows.holds w).0)
-              (saved_kept _ c.self.inside.names.entries c.self.inside.saved c.in-Some.names.now w c.self.invariant.1.1.1 c.in-Some.ensures.value refl c.reserve.ensures.items),
+              (saved_kept _ c.self.inside.names.entries c.self.inside.saved c.in-Some.names.now w c.self.invariant.1.1.1 c.in-Some.ensures.value c.reserve.ensures.saved c.reserve.ensures.texts),
         ),
       ),
     )
 
 pub invariant_of-self-in-Ok-insert : goal.invariant_of-self-in-Ok-insert
 invariant_of-self-in-Ok-insert c =
-    let w : Names = record { texts = c.in_ok-texts-in-None.texts; saved = 0 } in
+    let w : KeyNames = c.reserve-in-None.new.self in
     let same = c.get_mut.follows.holds-at-none in (
       c.self.invariant.0,
       (
@@ -50,3 +50,15 @@ invariant_of-self-in-Ok-insert c =
         ),
       ),
     )
+
+pub returns-in-Ok-clause-saved : goal.returns-in-Ok-clause-saved
+returns-in-Ok-clause-saved c = λ k.
+    ap (λ es. saved_in (lookup (ghosts.eq k) es)) (c.get_mut.follows.holds c.reserve.new.self).0
+    ∙ looked_up_by saved_in _ (ghosts.eq k) c.self.inside.names.entries c.in-Some.names.now c.reserve.new.self c.in-Some.ensures.value c.reserve.ensures.saved
+    ∙ ap (λ (t : Known). saved_at t k) c.self.view_is
+
+pub returns-in-Some-clause-saved : goal.returns-in-Some-clause-saved
+returns-in-Some-clause-saved c = λ k.
+    ap (λ es. saved_in (lookup (ghosts.eq k) es)) (c.get_mut.follows.holds c.reserve.new.self).0
+    ∙ looked_up_by saved_in _ (ghosts.eq k) c.self.inside.names.entries c.in-Some.names.now c.reserve.new.self c.in-Some.ensures.value c.reserve.ensures.saved
+    ∙ ap (λ (t : Known). saved_at t k) c.self.view_is
