@@ -1,5 +1,5 @@
 -- Two texts that are compared lane by lane.
-use Rattle.std.proofs.Common.{◌≡◌, ℕ, ◌+◌, ◌<◌, ◌≤◌, ◌%◌, ◌^◌, ◌∙◌, Bool, true, false, not, cond, eqb, List, [], ◌∷◌, length, map, take, refl, sym, ap, ap₂, subst, arith, suc, zero, inl, inr, w8}
+use Rattle.std.proofs.Common.{◌≡◌, ℕ, ◌+◌, ◌≤◌, ◌%◌, ◌^◌, ◌∙◌, Bool, true, false, not, cond, eqb, List, [], ◌∷◌, length, map, take, refl, sym, ap, ap₂, subst, arith, suc, zero, inl, inr, w8}
 use lib.Count.{count_trailing_zeros}
 use Rattle.std.proofs.lemmas.Bool.{eqb-true, cases_lt}
 use Rattle.std.proofs.lemmas.List.{map-id}

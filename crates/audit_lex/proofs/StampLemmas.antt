@@ -8,7 +8,6 @@ use Rattle.std.proofs.lemmas.Int.Digits.{digits_value-lt}
 use Rattle.audit_lex.proofs.NumberLemmas.{all_digits}
 use Rattle.audit_lex.proofs.HeaderNumbers.{too_long}
 use Rattle.audit_lex.specs.Values.{number_of, are_digits}
-use Rattle.audit_lex.specs.declared.header.EventKey.{EventKey}
 use Rattle.audit_lex.specs.Header.{behind, cut_at, number_then, number_to, key_from, key_of, with_key, stamp_serial, stamp_millis, stamp_seconds, stamp_of, serial_when, with_serial, with_millis, with_seconds, seconds_of}
 
 -- a number has at least one digit

@@ -1,5 +1,5 @@
 -- A stamp that is held in a few bytes.
-use Rattle.std.specs.Prelude.{◌≡◌, ◌<◌, ◌≤◌, ◌^◌, ℕ, List, length, drop, Option, Some}
+use Rattle.std.specs.Prelude.{◌≡◌, ◌<◌, ◌≤◌, ◌^◌, ℕ, List, length, drop, Some}
 use Rattle.audit_lex.specs.Header.{seconds_of, stamp_of}
 use Rattle.audit_lex.specs.declared.header.EventKey.{EventKey}
 

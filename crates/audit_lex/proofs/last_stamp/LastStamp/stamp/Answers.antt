@@ -1,10 +1,10 @@
-use Rattle.std.proofs.Common.{rules, ◌≡◌, ◌+◌, ◌-◌, ◌≤◌, ◌∙◌, sym, ap, arith, length, take, drop, Some}
+use Rattle.std.proofs.Common.{rules, ◌≡◌, ◌-◌, ◌≤◌, ◌∙◌, sym, ap, arith, length, take, drop, Some}
 use Rattle.std.specs.Option.{option_and_then}
 use Rattle.std.proofs.lemmas.List.{take_rest, take-take}
 use Rattle.std.proofs.lemmas.Simd.{length-chunk}
 use Rattle.audit_lex.specs.Header.{seconds_of, stamp_of, with_seconds}
 use Rattle.audit_lex.proofs.StampLemmas.{stamp_by_numbers}
-use Rattle.audit_lex.proofs.SameStamps.{same_seconds, same_stamp, seconds_rest, seconds_within, rest_is, rest_within, after_seconds}
+use Rattle.audit_lex.proofs.SameStamps.{same_seconds, same_stamp, seconds_rest, seconds_within, rest_is, after_seconds}
 use Rattle.audit_lex.proofs.last_stamp.LastStamp.stamp.Goals as goal
 
 pub returns-then-begins_alike : goal.returns-then-begins_alike
