@@ -15,7 +15,7 @@ TABLE = re.compile(r'static (\w+): \[Rule; ([0-9]+)\] = \[(.*?)\];', re.S)
 RULE = re.compile(r'Rule \{\s*field: Field::(\w+),\s*value: ValueKind::(\w+),\s*must: (true|false),?\s*\}', re.S)
 # Which table a kind has, none if it has no field.
 TABLE_OF = re.compile(r'Kind::(\w+) => &(\w+|\[\]),')
-TYPE_OF = re.compile(r'is_same\(name, b"(\w+)"\) \{\s*Some\(Kind::(\w+)\)')
+TYPE_OF = re.compile(r'is_name\(name, b"(\w+)"\) \{\s*Some\(Kind::(\w+)\)')
 NAME_OF = re.compile(r'Field::(\w+) => b"(\w+)",')
 # What the plain reading calls the reader of a value.
 READERS = {'Dec32': 'dec32', 'Dec64': 'dec64', 'Signed': 'signed', 'Hex32': 'hex32', 'Hex64': 'hex64', 'Device': 'device', 'Handle': 'handle',

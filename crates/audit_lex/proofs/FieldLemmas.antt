@@ -1,8 +1,9 @@
 -- The field of a name, both ways.
-use Rattle.std.proofs.Common.{◌≡◌, ◌≢◌, ◌↔◌, ◌∙◌, sym, refl, ap, ℕ, List, length, ◌==◌, Bool, true, false, Option, None, Some, if◌then◌else◌}
+use Rattle.std.proofs.Common.{◌≡◌, ◌≢◌, ◌↔◌, ◌∙◌, sym, refl, ap, ℕ, List, length, take, arith, ◌==◌, Bool, true, false, Option, None, Some, if◌then◌else◌}
 use Rattle.std.specs.Str.{bytes_eq}
 use Rattle.std.proofs.lemmas.Slice.Eq.{bytes_eq-Decides}
-use Rattle.std.proofs.lemmas.Bool.{eq-eqb, false_from_ne_true}
+use Rattle.std.proofs.lemmas.Bool.{eqb-false, false_from_ne_true}
+use Rattle.std.proofs.lemmas.List.{take_all}
 use Rattle.audit_lex.specs.FieldTable.{name_of}
 use Rattle.audit_lex.specs.FieldNames.{field_called, by_two, by_three, by_four, by_five, by_seven, by_eight}
 use Rattle.audit_lex.specs.declared.fields.Field.{Field}
@@ -88,13 +89,21 @@ same_name g f is = same_field g f (sym (called g) ∙ ap field_called is ∙ cal
 pub not_named : (name : List ℕ) → ((f : Field) → (None ≡ Some f) ↔ (name_of f ≡ name)) → (f : Field) → name_of f ≢ name
 not_named name never f is = let some = (never f).1 is in cc
 
--- ---- names of other lengths
+-- ---- whole names
 
-apart : (test : Bool) → test ≡ true → test ≡ false → ⊥
-apart true is isnt = cc
-apart false is isnt = cc
+same_answer : (a b : Bool) → (a ≡ true → b ≡ true) → (b ≡ true → a ≡ true) → a ≡ b
+same_answer true b there back = sym (there refl)
+same_answer false true there back = back refl
+same_answer false false there back = refl
+
+-- a text as long as a name that it begins with is the name
+pub whole_name : (text name : List ℕ) → length text ≡ length name → bytes_eq name (take (length name) text) ≡ bytes_eq text name
+whole_name text name long =
+    let whole : take (length name) text ≡ text = take_all (length name) text (omega (arith, long)) in
+    let front = bytes_eq-Decides name (take (length name) text) in
+    let same = bytes_eq-Decides text name in
+    same_answer _ _ (λ begins. same.1 (sym whole ∙ sym (front.0 begins))) (λ is. front.1 (sym (same.0 is) ∙ sym whole))
 
 -- names of different lengths differ
-pub other_length : (name other : List ℕ) → (length name == length other) ≡ false → bytes_eq name other ≡ false
-other_length name other differs =
-    false_from_ne_true (bytes_eq name other) (λ same. apart (length name == length other) (eq-eqb _ _ (ap length ((bytes_eq-Decides name other).0 same))) differs)
+pub other_length : (text name : List ℕ) → (length text == length name) ≡ false → bytes_eq text name ≡ false
+other_length text name differs = false_from_ne_true (bytes_eq text name) (λ same. eqb-false _ _ differs (ap length ((bytes_eq-Decides text name).0 same)))

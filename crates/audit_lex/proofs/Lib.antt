@@ -1,8 +1,10 @@
 pub mod PlaceLemmas
+pub mod NearLemmas
 pub mod HistoryLemmas
 pub mod HistoryLaws
 pub mod TokenLemmas
 pub mod PastTokens
+pub mod OtherTokens
 pub mod FieldLemmas
 pub mod SlotLemmas
 pub mod TableLemmas

@@ -1,6 +1,7 @@
 pub mod History
 pub mod LineCut
 pub mod Tokens
+pub mod Stops
 pub mod Values
 pub mod Header
 pub mod HeldStamps

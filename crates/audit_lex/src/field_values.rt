@@ -10,7 +10,7 @@ ghost use Rattle.audit_lex.specs.Slots.{slot_value, names_of, held, kept, AreFou
 ghost use Rattle.audit_lex.specs.Tokens.{token_at as token_there, token_len, value_in, field_of};
 
 use crate::fields::{Field, Kind, field_name, slot_rules};
-use crate::fronts::{front_of, past_spaces, past_token, token_at};
+use crate::fronts::{front_of, past_others, past_spaces, past_token, token_at};
 use crate::slots::{Found, Slots, value_of_slot};
 use crate::table_places::home_of;
 use crate::usual_run::{take_front, usual_run};
@@ -71,7 +71,7 @@ fn slot_named<'a>(raw: &'a [u8], name: &[u8]) -> &'a [u8]
                 return slot;
             }
         }
-        rest = past_spaces(past_token(rest));
+        rest = past_spaces(past_others(past_token(rest), name[0]));
     }
     b""
 }

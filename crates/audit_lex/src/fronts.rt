@@ -6,10 +6,11 @@ ghost use Rattle.std.specs.Option.{option_to_list};
 ghost use Rattle.audit_lex.specs.Fronts.{token_seen, IsFrontOf, IsUsual};
 ghost use Rattle.audit_lex.specs.FieldTable.{slot_rules};
 ghost use Rattle.audit_lex.specs.Slots.{names_of};
+ghost use Rattle.audit_lex.specs.Stops.{HasTheSame};
 ghost use Rattle.audit_lex.specs.Tokens.{token_at as token_there, token_len, tokens_of, value_in};
 
 use crate::fields::Kind;
-use crate::places::place_of_space_or_quote;
+use crate::places::{last_space, place_of_space_or_quote, place_of_stop};
 use crate::table_places::place_named;
 use crate::tokens::{len_of_name, len_of_value};
 use crate::usual::{Usual, number_behind, usual_name};
@@ -111,7 +112,20 @@ pub(crate) fn past_token(text: &[u8]) -> &[u8]
     past_any_token(text)
 }
 
-// The same for any token. It stays a call, since else each token that is passed over makes room for a token's parts.
+/// The text after tokens whose names don't begin with this byte, as far as one search passes over them. If the text
+/// doesn't begin with a space, it is returned whole.
+pub(crate) fn past_others(text: &[u8], first: u8) -> &[u8]
+    ensures same { HasTheSame first text.now result.now }
+    ensures shorter { length result.now ≤ length text.now }
+{
+    if text.is_empty() || text[0] != b' ' {
+        return text;
+    }
+    let stop = place_of_stop(first, text);
+    &text[last_space(text, stop)..]
+}
+
+// The text after any first token. It stays a call, since else each token that is passed over makes room for a token's parts.
 #[inline(never)]
 fn past_any_token(text: &[u8]) -> &[u8]
     requires some { 0 < length text.now }

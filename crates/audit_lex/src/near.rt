@@ -1,5 +1,7 @@
 //! What is known of the next sixteen or 32 bytes by comparing them together.
 ghost use Rattle.std.specs.Prelude.{◌≡◌, ◌==◌, ◌<◌, ◌≤◌, ℕ, true, false, length, take, slice_index};
+ghost use Rattle.memchr.specs.Find.{is_byte2};
+ghost use Rattle.audit_lex.specs.Stops.{stops_at};
 
 use std::simd::prelude::*;
 
@@ -30,4 +32,37 @@ pub(crate) fn begins_alike(bytes: &[u8; 32], len: usize, text: &[u8]) -> bool
         .simd_ne(u8x32::from_array(*bytes))
         .to_bitmask();
     others.trailing_zeros() as usize >= len
+}
+
+/// The place of the first of two bytes among the first sixteen, or 16.
+pub(crate) fn place_of_either_in_sixteen(one: u8, other: u8, text: &[u8]) -> usize
+    requires { 16 ≤ length text.now }
+    ensures before { (k : ℕ) → k < result → is_byte2 one other (slice_index text.now k) ≡ false }
+    ensures there { result < 16 → is_byte2 one other (slice_index text.now result) ≡ true }
+    ensures within { result ≤ 16 }
+{
+    let bytes = u8x16::from_slice(text);
+    let either = (bytes.simd_eq(u8x16::splat(one))
+        | bytes.simd_eq(u8x16::splat(other))).to_bitmask();
+    if either == 0 {
+        return 16;
+    }
+    either.trailing_zeros() as usize
+}
+
+/// The place among the first sixteen of the first quote, or of the first space after which this byte stands, or 16.
+pub(crate) fn place_of_stop_in_sixteen(first: u8, text: &[u8]) -> usize
+    requires { 17 ≤ length text.now }
+    ensures before { (k : ℕ) → k < result → stops_at first text.now k ≡ false }
+    ensures there { result < 16 → stops_at first text.now result ≡ true }
+    ensures within { result ≤ 16 }
+{
+    let bytes = u8x16::from_slice(text);
+    let behind = u8x16::from_slice(&text[1..]);
+    let starts = bytes.simd_eq(u8x16::splat(b' ')) & behind.simd_eq(u8x16::splat(first));
+    let stops = (starts | bytes.simd_eq(u8x16::splat(b'"'))).to_bitmask();
+    if stops == 0 {
+        return 16;
+    }
+    stops.trailing_zeros() as usize
 }

@@ -29,7 +29,9 @@ impl<'a> Slots<'a> {
         }
     }
 
-    /// What was found for this field, if it has a slot in the table that the slots were filled for.
+    /// What was found for this field, if it has a slot in the table that the slots were filled for. It is inlined, so that
+    /// the place of a field that is known when the program is compiled costs nothing.
+    #[inline(always)]
     pub fn field(&self, name: Field) -> Option<&'a [u8]>
         ensures { option_map (λ value. value.now) result ≡ held_for (held self.now.values) name }
     {
@@ -40,6 +42,7 @@ impl<'a> Slots<'a> {
     }
 
     /// What was found for the field at this place of the table.
+    #[inline(always)]
     pub(crate) fn value(&self, place: usize) -> Option<&'a [u8]>
         requires { place < 11 }
         ensures { option_map (λ value. value.now) result
@@ -130,6 +133,7 @@ impl<'a> Found<'a> {
 }
 
 /// The value of a slot, if it holds one.
+#[inline(always)]
 pub(crate) fn value_of_slot(slot: &[u8]) -> Option<&[u8]>
     ensures { option_map (λ value. value.now) result ≡ slot_value slot.now }
 {

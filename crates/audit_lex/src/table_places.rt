@@ -30,6 +30,7 @@ pub(crate) fn place_of_field(kind: Kind, field: Field) -> Option<usize>
 }
 
 // The kind whose table asks for the field, and its place there, if it has a slot.
+#[inline(always)]
 pub(crate) fn home_of(field: Field) -> Option<(Kind, usize)>
     ensures { result ≡ home field }
 {

@@ -90,8 +90,15 @@ fn usual_in_path(number: usize, text: &[u8]) -> Option<Usual>
     }
 }
 
-/// The name that a text begins with, if these bytes begin it: a name and an `=`. The field is that of the name.
-pub(crate) fn begins(kind: Kind, front: &[u8], field: Option<Field>, text: &[u8]) -> Option<Usual>
+/// The name that a text begins with, if these bytes begin it: a name and an `=`. The field is that of the name. It is
+/// inlined, so that the bytes are compared as one or two words.
+#[inline(always)]
+pub(crate) fn begins<const N: usize>(
+    kind: Kind,
+    front: &[u8; N],
+    field: Option<Field>,
+    text: &[u8],
+) -> Option<Usual>
     requires { IsNameFront front.now field }
     ensures { IfSome result (IsUsual kind text.now) }
 {

@@ -88,10 +88,10 @@ fn run_of_path<'a>(raw: &'a [u8], slots: &mut Slots<'a>) -> Run<'a>
 // that of the name. Once a token is another one, no later number is next. It is inlined, so that number and place are
 // known where the code is made.
 #[inline(always)]
-fn take_usual<'a>(
+fn take_usual<'a, const N: usize>(
     kind: Kind,
     number: usize,
-    name: &[u8],
+    name: &[u8; N],
     field: Option<Field>,
     run: Run<'a>,
     slots: &mut Slots<'a>,

@@ -18,5 +18,7 @@ loop-rest-preserved c =
     record {
       begins = next.ensures.begins;
       rest = c.loop-rest.invariant.rest
-          ∙ found_later rest name [] next.result.now some (c.loop-rest.invariant.begins some) (sym none) refl (next.ensures.same ∙ ap tokens_of c.past_token.ensures.rest);
+          ∙ found_later rest name [] c.past_token.result.now some (c.loop-rest.invariant.begins some) (sym none) refl (ap tokens_of c.past_token.ensures.rest)
+          ∙ c.past_others.ensures.same name c.requires refl
+          ∙ ap (λ tokens. value_in tokens name) (sym next.ensures.same);
     }

@@ -1,0 +1,6 @@
+use Rattle.std.proofs.Common.{◌∙◌, sym}
+use Rattle.audit_lex.proofs.FieldLemmas.{whole_name, other_length}
+use Rattle.audit_lex.proofs.fields.is_name.Goals as goal
+
+pub returns-then-text : goal.returns-then-text
+returns-then-text g c = c.starts_with.ensures.value ∙ whole_name c.args.text.now c.args.name.now (c.if-text.true ∙ sym c.told-name)
