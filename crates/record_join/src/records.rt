@@ -105,7 +105,8 @@ fn swap_parts(spare: &mut Record, item: &mut Record)
 #[cold]
 #[inline(never)]
 fn grow(alloc: Global, items: &mut Vec<Record>) -> Result<(), NoMemory>
-    ensures ok { OnOk result ((spare : Record) × (items.new.items ≡ items.old.items ++ spare ∷ [])) }
+    ensures ok { OnOk result
+        ((spare : Record) × (items.new.items ≡ items.old.items ++ spare ∷ [])) }
     ensures err { OnErr result (items.new.items ≡ items.old.items) }
 {
     items.push(Record::blank(alloc))?;
