@@ -1,6 +1,6 @@
-//! The blocks of all sets, in one list. The id of a block is its place in it, from 1 on, in 32 bits;
-//! the id 0 is that of no bits. A block is changed only by the set that alone has it, and a block
-//! that no set has any more is used again.
+//! The blocks of all sets, in one list. The id of a block is its place in it, from 1 on, in 32
+//! bits; the id 0 is that of no bits. A block is changed only by the set that alone has it, and a
+//! block that no set has any more is used again.
 ghost use Rattle.std.specs.Prelude.{◌≡◌, ◌↔◌, ◌⊎◌, ◌-◌, ◌<◌, ◌≤◌, ◌^◌, ℕ, [], IfSome, None, false, true, length, IsTrue};
 ghost use Rattle.std.specs.Vec.{vec_len, vec_capacity};
 ghost use Rattle.reduce_source.specs.BitsOf.{HasBit};
@@ -31,8 +31,8 @@ impl Blocks {
         }
     }
 
-    /// The id of a block with the bits of two, in place of the block `mine` of an object. A block is
-    /// changed or made only if neither has the bits of both.
+    /// The id of a block with the bits of two, in place of the block `mine` of an object. A block
+    /// is changed or made only if neither has the bits of both.
     pub fn join(&mut self, object: u32, mine: u32, other: u32) -> u32
         requires mine { MayHave object (owner_of self.old.slots.items mine) }
         requires other { IsKept object (owner_of self.old.slots.items other) }
@@ -80,8 +80,8 @@ impl Blocks {
         self.put(object, mine, block)
     }
 
-    /// Gives an object a block with these bits in place of its block `mine`, and returns the id: `mine`
-    /// is changed if the object alone has it.
+    /// Gives an object a block with these bits in place of its block `mine`, and returns the id:
+    /// `mine` is changed if the object alone has it.
     fn put(&mut self, object: u32, mine: u32, block: Block) -> u32
         requires room { vec_len self.old.slots < vec_capacity self.old.slots }
         requires few { vec_len self.old.slots < 2 ^ 32 - 1 }
@@ -134,8 +134,8 @@ impl Blocks {
         }
     }
 
-    /// Adds a block, in the place of one that no set has or else in the room that was made for it, and
-    /// returns its id.
+    /// Adds a block, in the place of one that no set has or else in the room that was made for it,
+    /// and returns its id.
     fn add(&mut self, slot: Slot) -> u32
         requires room { vec_len self.old.slots < vec_capacity self.old.slots }
         requires few { vec_len self.old.slots < 2 ^ 32 - 1 }

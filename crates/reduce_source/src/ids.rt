@@ -43,8 +43,8 @@ impl Ids {
         self.ids.as_slice()
     }
 
-    /// Takes all numbers of another set in, in the room that was made for it. `object` is whose set this
-    /// is.
+    /// Takes all numbers of another set in, in the room that was made for it. `object` is whose set
+    /// this is.
     pub fn join(&mut self, blocks: &mut Blocks, object: u32, more: &[u32])
         requires held { AreHeldBy object blocks.old.slots.items self.old }
         requires more { AreKept object blocks.old.slots.items more.now }

@@ -3,8 +3,8 @@
 //! A source is an object whose first flow leaves it. Its number is its place among the sources in
 //! the order of their first flows. The set of an object has a bit for each of these numbers, in
 //! blocks of 1,024 bits. Sets share blocks: a union takes over the other set's block wherever that
-//! has the bits of both. If neither has, it changes the set's own block if no other set has that, and
-//! else makes a new one.
+//! has the bits of both. If neither has, it changes the set's own block if no other set has that,
+//! and else makes a new one.
 #![tactic(auto)]
 
 mod block;

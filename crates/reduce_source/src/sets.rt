@@ -96,7 +96,7 @@ impl SourceSets {
     }
 
     /// Makes room for the unions that these flows can ask for. It fails if memory does, or if the
-    /// sets could come to 2^32 blocks by these flows, which is 512 GiB.
+    /// sets could come to 2^32 blocks by these flows, which are more than 512 GiB.
     pub fn reserve(&mut self, flows: &[Flow]) -> Result<(), NoMemory>
         ensures room { OnOk result (HasRoom self.new flows.now) }
         ensures same { (K : List AFlow) → StandsFor self.old K → StandsFor self.new K }
@@ -136,7 +136,8 @@ impl SourceSets {
         requires set { object < length self.old.shared.sets.items }
         requires number { self.old.count / 1024
             < length (slice_index_or self.old.shared.sets.items object []) }
-        requires room { vec_len self.old.shared.blocks.slots < vec_capacity self.old.shared.blocks.slots }
+        requires room { vec_len self.old.shared.blocks.slots
+            < vec_capacity self.old.shared.blocks.slots }
         requires few { vec_len self.old.shared.blocks.slots < 2 ^ 32 - 1 }
         requires counted { self.old.count + 1 < 2 ^ 64 }
         ensures standings { (x : ℕ)
@@ -150,7 +151,8 @@ impl SourceSets {
         ensures count { self.new.count ≡ count_after (standing_of self.old object) self.old.count }
         ensures places { length self.new.standings.items ≡ length self.old.standings.items }
         ensures shape { IsAsWide self.old.shared self.new.shared }
-        ensures blocks { vec_len self.new.shared.blocks.slots ≤ vec_len self.old.shared.blocks.slots + 1 }
+        ensures blocks { vec_len self.new.shared.blocks.slots
+            ≤ vec_len self.old.shared.blocks.slots + 1 }
     {
         let number = self.count;
         let first = standing::see(

@@ -10,7 +10,7 @@ use crate::ids::{self, Ids};
 use flow_base::{Flow, NoMemory};
 use std::alloc::Global;
 
-/// The ids of blocks have 32 bits, and 0 is none. As many blocks take 512 GiB.
+/// The ids of blocks have 32 bits, and 0 is none. As many blocks take more than 512 GiB.
 const MOST_BLOCKS: usize = 1 << 32;
 
 /// A set of numbers for each object.
@@ -147,8 +147,8 @@ impl Shared {
         }
     }
 
-    /// Makes room for the blocks of this many unions, each after a mark. It fails if memory does, or
-    /// if there could be as many blocks as there are ids.
+    /// Makes room for the blocks of this many unions, each after a mark. It fails if memory does,
+    /// or if there could be as many blocks as there are ids.
     pub fn make_room(&mut self, unions: usize) -> Result<(), NoMemory>
         ensures room { OnOk result
             (vec_len self.new.blocks.slots + unions * (self.new.width + 1)
