@@ -1,6 +1,8 @@
 pub mod Bits
 pub mod BlockBits
 pub mod Shelves
+pub mod Owning
+pub mod Sharing
 pub mod SetBits
 pub mod Numbers
 pub mod SetLemmas

@@ -33,7 +33,7 @@ by_parts : (n m : ℕ) → suc n * m ≡ n * m + m
 by_parts n m = omega arith
 
 pub room_left : (old new : SourceSets) (o : Standing) → new.count ≡ count_after o old.count → length new.standings.items ≡ length old.standings.items
-    → IsAsWide old.shared new.shared → vec_len new.shared.blocks ≤ vec_len old.shared.blocks + (old.shared.width + 1)
+    → IsAsWide old.shared new.shared → vec_len new.shared.blocks.slots ≤ vec_len old.shared.blocks.slots + (old.shared.width + 1)
     → (f : Flow) (rest : List Flow) → HasRoom old (f ∷ rest) → HasRoom new rest
 room_left old new o count places wide used f rest r = record {
   ends = λ g c. let e = r.ends g (suc c.0, omega (arith, c.1), c.2) in (subst (λ n. source g < n) (sym places) e.0, subst (λ n. target g < n) (sym places) e.1);

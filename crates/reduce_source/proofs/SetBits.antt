@@ -2,10 +2,10 @@
 use Rattle.std.proofs.Common.{◌≡◌, ℕ, ◌+◌, ◌*◌, ◌/◌, ◌%◌, ◌<◌, arith, ◌↔◌, List, get_or, sym, subst}
 use Rattle.reduce_source.specs.BitsOf.{HasBit}
 use Rattle.reduce_source.specs.Blocks.{HasIn, words_of}
-use Rattle.reduce_source.specs.declared.block.Block.{Block}
+use Rattle.reduce_source.specs.declared.slot.Slot.{Slot}
 
 -- a bit of the block at a place is a number of the set
-pub number_at : (blocks : List Block) (ids : List ℕ) (k j : ℕ) → j < 1024 → HasBit (words_of blocks (get_or ids k 0)) j ↔ HasIn blocks ids (1024 * k + j)
+pub number_at : (blocks : List Slot) (ids : List ℕ) (k j : ℕ) → j < 1024 → HasBit (words_of blocks (get_or ids k 0)) j ↔ HasIn blocks ids (1024 * k + j)
 number_at blocks ids k j h =
     let p : (1024 * k + j) / 1024 ≡ k = omega (arith, h) in
     let b : (1024 * k + j) % 1024 ≡ j = omega (arith, h) in (

@@ -58,8 +58,8 @@ pub record HasRoom (s : SourceSets) (flows : List Flow) : Type 0 where
   pub wide : (f : Flow) → Contains flows f → IsWide s.shared f
   pub numbers : s.count + length flows ≤ 1024 * s.shared.width
   pub counted : s.count + length flows < 2 ^ 64
-  pub blocks : vec_len s.shared.blocks + length flows * (s.shared.width + 1) ≤ vec_capacity s.shared.blocks
-  pub few : vec_len s.shared.blocks + length flows * (s.shared.width + 1) < 2 ^ 32
+  pub blocks : vec_len s.shared.blocks.slots + length flows * (s.shared.width + 1) ≤ vec_capacity s.shared.blocks.slots
+  pub few : vec_len s.shared.blocks.slots + length flows * (s.shared.width + 1) < 2 ^ 32
 
 -- f goes from u to v
 abbrev pub IsBetween : Flow → ℕ → ℕ → Type 0

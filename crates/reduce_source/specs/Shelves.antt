@@ -12,7 +12,7 @@ ids_of s v = slice_index_or s.sets.items v []
 
 -- the set of an object has a number
 abbrev pub HasNumber : Shared → ℕ → ℕ → Type 0
-HasNumber s v n = HasIn s.blocks.items (ids_of s v) n
+HasNumber s v n = HasIn s.blocks.slots.items (ids_of s v) n
 
 -- the sets of both ends of a flow have all places that they may have
 abbrev pub IsWide : Shared → Flow → Type 0
@@ -23,5 +23,5 @@ IsWide s f = (s.width ≤ length (ids_of s (source f))) × (s.width ≤ length (
 pub record IsAsWide (old new : Shared) : Type 0 where
   pub places : (v : ℕ) → length (ids_of new v) ≡ length (ids_of old v)
   pub objects : length new.sets.items ≡ length old.sets.items
-  pub capacity : vec_capacity new.blocks ≡ vec_capacity old.blocks
+  pub capacity : vec_capacity new.blocks.slots ≡ vec_capacity old.blocks.slots
   pub width : new.width ≡ old.width

@@ -2,10 +2,11 @@
 //! of 1,024 numbers: the number n is the bit n % 1024 of the block at the place n / 1024.
 ghost use Rattle.std.specs.Prelude.{◌≡◌, ◌↔◌, ◌⊎◌, ◌/◌, ◌+◌, ◌-◌, ◌<◌, ◌≤◌, ◌^◌, ℕ, List, [], false, true, length, max, slice_index, IsTrue, OnOk};
 ghost use Rattle.std.specs.Vec.{vec_len, vec_capacity};
-ghost use Rattle.reduce_source.specs.Blocks.{AddsBlocks, AreIdsOf, HasIn};
+ghost use Rattle.reduce_source.specs.Blocks.{HasIn};
+ghost use Rattle.reduce_source.specs.Owners.{AreHeldBy, AreKept, Changes};
 
-use crate::block::Block;
-use crate::blocks;
+use crate::blocks::{self, Blocks};
+use crate::slot::Slot;
 use flow_base::NoMemory;
 use std::alloc::Global;
 use std::marker::Model;
@@ -42,38 +43,40 @@ impl Ids {
         self.ids.as_slice()
     }
 
-    /// Takes all numbers of another set in, in the room that was made for it.
-    pub fn join(&mut self, blocks: &mut Vec<Block>, more: &[u32])
-        requires ids { AreIdsOf (length blocks.old.items) self.old }
-        requires more { AreIdsOf (length blocks.old.items) more.now }
+    /// Takes all numbers of another set in, in the room that was made for it. `object` is whose set
+    /// this is.
+    pub fn join(&mut self, blocks: &mut Blocks, object: u32, more: &[u32])
+        requires held { AreHeldBy object blocks.old.slots.items self.old }
+        requires more { AreKept object blocks.old.slots.items more.now }
         requires places { length more.now ≤ length self.old }
-        requires room { vec_len blocks.old + length more.now ≤ vec_capacity blocks.old }
-        requires few { vec_len blocks.old + length more.now < 2 ^ 32 }
-        ensures set { (n : ℕ) → HasIn blocks.new.items self.new n
-            ↔ (HasIn blocks.old.items self.old n ⊎ HasIn blocks.old.items more.now n) }
-        ensures ids { AreIdsOf (length blocks.new.items) self.new }
+        requires room { vec_len blocks.old.slots + length more.now ≤ vec_capacity blocks.old.slots }
+        requires few { vec_len blocks.old.slots + length more.now < 2 ^ 32 }
+        ensures set { (n : ℕ) → HasIn blocks.new.slots.items self.new n
+            ↔ (HasIn blocks.old.slots.items self.old n
+            ⊎ HasIn blocks.old.slots.items more.now n) }
+        ensures held { AreHeldBy object blocks.new.slots.items self.new }
         ensures places { length self.new ≡ length self.old }
-        ensures adds { AddsBlocks (length more.now) blocks.old blocks.new }
+        ensures changes { Changes object (length more.now) blocks.old.slots blocks.new.slots }
     {
         for place in 0..more.len() {
-            self.ids[place] = blocks::join(blocks, self.ids[place], more[place]);
+            self.ids[place] = blocks.join(object, self.ids[place], more[place]);
         }
     }
 
-    /// Takes a number in, in the room that was made for it.
-    pub fn mark(&mut self, blocks: &mut Vec<Block>, number: u64)
-        requires ids { AreIdsOf (length blocks.old.items) self.old }
+    /// Takes a number in, in the room that was made for it. `object` is whose set this is.
+    pub fn mark(&mut self, blocks: &mut Blocks, object: u32, number: u64)
+        requires held { AreHeldBy object blocks.old.slots.items self.old }
         requires place { number / 1024 < length self.old }
-        requires room { vec_len blocks.old < vec_capacity blocks.old }
-        requires few { vec_len blocks.old < 2 ^ 32 - 1 }
-        ensures set { (n : ℕ) → HasIn blocks.new.items self.new n
-            ↔ (HasIn blocks.old.items self.old n ⊎ (n ≡ number)) }
-        ensures ids { AreIdsOf (length blocks.new.items) self.new }
+        requires room { vec_len blocks.old.slots < vec_capacity blocks.old.slots }
+        requires few { vec_len blocks.old.slots < 2 ^ 32 - 1 }
+        ensures set { (n : ℕ) → HasIn blocks.new.slots.items self.new n
+            ↔ (HasIn blocks.old.slots.items self.old n ⊎ (n ≡ number)) }
+        ensures held { AreHeldBy object blocks.new.slots.items self.new }
         ensures places { length self.new ≡ length self.old }
-        ensures adds { AddsBlocks 1 blocks.old blocks.new }
+        ensures changes { Changes object 1 blocks.old.slots blocks.new.slots }
     {
         let place = (number / BITS) as usize;
-        self.ids[place] = blocks::mark(blocks, self.ids[place], (number % BITS) as usize);
+        self.ids[place] = blocks.mark(object, self.ids[place], (number % BITS) as usize);
     }
 
     /// Makes this many places, each with the id 0 at first.
@@ -94,22 +97,22 @@ impl Ids {
 }
 
 /// Whether the set with these ids has a number.
-pub fn has_number(blocks: &[Block], ids: &[u32], number: u64) -> bool
-    ensures { IsTrue result ↔ HasIn blocks.now ids.now number }
+pub fn has_number(slots: &[Slot], ids: &[u32], number: u64) -> bool
+    ensures { IsTrue result ↔ HasIn slots.now ids.now number }
 {
     let id = id_at(ids, (number / BITS) as usize);
-    blocks::has_bit(blocks, id, (number % BITS) as usize)
+    blocks::has_bit(slots, id, (number % BITS) as usize)
 }
 
 /// Whether each number of one set is a number of another.
-pub fn is_within(blocks: &[Block], small: &[u32], large: &[u32]) -> bool
-    ensures yes { result ≡ true → (n : ℕ) → HasIn blocks.now small.now n
-        → HasIn blocks.now large.now n }
+pub fn is_within(slots: &[Slot], small: &[u32], large: &[u32]) -> bool
+    ensures yes { result ≡ true → (n : ℕ) → HasIn slots.now small.now n
+        → HasIn slots.now large.now n }
     ensures no { result ≡ false
-        → (n : ℕ) × HasIn blocks.now small.now n × ¬ HasIn blocks.now large.now n }
+        → (n : ℕ) × HasIn slots.now small.now n × ¬ HasIn slots.now large.now n }
 {
     for place in 0..small.len() {
-        let covered = blocks::is_within(blocks, small[place], id_at(large, place));
+        let covered = blocks::is_within(slots, small[place], id_at(large, place));
         if !covered {
             return false;
         }

@@ -2,8 +2,9 @@
 //!
 //! A source is an object whose first flow leaves it. Its number is its place among the sources in
 //! the order of their first flows. The set of an object has a bit for each of these numbers, in
-//! blocks of 1,024 bits. Sets share blocks, and a block is never changed: a union takes over the
-//! other set's block wherever that has the bits of both, and makes a new one only if neither has.
+//! blocks of 1,024 bits. Sets share blocks: a union takes over the other set's block wherever that
+//! has the bits of both. If neither has, it changes the set's own block if no other set has that,
+//! and else makes a new one.
 #![tactic(auto)]
 
 mod block;
@@ -12,6 +13,7 @@ mod ids;
 mod laws;
 mod sets;
 mod shared;
+mod slot;
 mod sources;
 mod standing;
 

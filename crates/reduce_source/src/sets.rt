@@ -96,7 +96,7 @@ impl SourceSets {
     }
 
     /// Makes room for the unions that these flows can ask for. It fails if memory does, or if the
-    /// sets could come to 2^32 blocks by these flows, which is 512 GiB.
+    /// sets could come to 2^32 blocks by these flows, which are more than 512 GiB.
     pub fn reserve(&mut self, flows: &[Flow]) -> Result<(), NoMemory>
         ensures room { OnOk result (HasRoom self.new flows.now) }
         ensures same { (K : List AFlow) → StandsFor self.old K → StandsFor self.new K }
@@ -124,20 +124,21 @@ impl SourceSets {
         ensures rest { (f : AFlow) (rest : List AFlow) → HasRoom self.old (f ∷ rest)
             → HasRoom self.new rest }
     {
-        let (into, with) = (into.0 as usize, with.0 as usize);
+        let (into, with) = (into.0, with.0);
         self.begin(with);
-        standing::see(&mut self.standings, into, Standing::Entered);
+        standing::see(&mut self.standings, into as usize, Standing::Entered);
         self.shared.join(into, with);
     }
 
     /// Makes an object a source of itself if it has no flow yet.
-    fn begin(&mut self, object: usize)
+    fn begin(&mut self, object: u32)
         requires place { object < length self.old.standings.items }
         requires set { object < length self.old.shared.sets.items }
         requires number { self.old.count / 1024
             < length (slice_index_or self.old.shared.sets.items object []) }
-        requires room { vec_len self.old.shared.blocks < vec_capacity self.old.shared.blocks }
-        requires few { vec_len self.old.shared.blocks < 2 ^ 32 - 1 }
+        requires room { vec_len self.old.shared.blocks.slots
+            < vec_capacity self.old.shared.blocks.slots }
+        requires few { vec_len self.old.shared.blocks.slots < 2 ^ 32 - 1 }
         requires counted { self.old.count + 1 < 2 ^ 64 }
         ensures standings { (x : ℕ)
             → standing_of self.new x ≡
@@ -150,10 +151,15 @@ impl SourceSets {
         ensures count { self.new.count ≡ count_after (standing_of self.old object) self.old.count }
         ensures places { length self.new.standings.items ≡ length self.old.standings.items }
         ensures shape { IsAsWide self.old.shared self.new.shared }
-        ensures blocks { vec_len self.new.shared.blocks ≤ vec_len self.old.shared.blocks + 1 }
+        ensures blocks { vec_len self.new.shared.blocks.slots
+            ≤ vec_len self.old.shared.blocks.slots + 1 }
     {
         let number = self.count;
-        let first = standing::see(&mut self.standings, object, Standing::Source { number });
+        let first = standing::see(
+            &mut self.standings,
+            object as usize,
+            Standing::Source { number },
+        );
         if first {
             self.shared.mark(object, number);
             self.count = number + 1;

@@ -3,24 +3,24 @@ ghost use Rattle.std.specs.Prelude.{◌≡◌, ◌↔◌, ◌⊎◌, ◌+◌, �
 ghost use Rattle.std.specs.Vec.{vec_len, vec_capacity};
 ghost use Rattle.flow_base.specs.declared.types.Flow.{Flow as AFlow};
 ghost use Rattle.reach_model.specs.Flows.{source, target};
-ghost use Rattle.reduce_source.specs.IdLists.{AreIds};
+ghost use Rattle.reduce_source.specs.IdLists.{AreHeld};
 
-use crate::block::Block;
+use crate::blocks::Blocks;
 use crate::ids::{self, Ids};
 use flow_base::{Flow, NoMemory};
 use std::alloc::Global;
 
-/// The ids of blocks have 32 bits, and 0 is none. As many blocks take 512 GiB.
+/// The ids of blocks have 32 bits, and 0 is none. As many blocks take more than 512 GiB.
 const MOST_BLOCKS: usize = 1 << 32;
 
 /// A set of numbers for each object.
 #[derive(Drop)]
 pub struct Shared {
-    blocks: Vec<Block>,
+    blocks: Blocks,
     sets: Vec<Ids>,
     /// How many places a set may have.
     width: usize,
-    ghost sound: { AreIds sets.items (length blocks.items) width },
+    ghost sound: { AreHeld sets.items blocks.slots.items width },
 }
 
 impl Shared {
@@ -31,7 +31,7 @@ impl Shared {
         ensures none { (v n : ℕ) → ¬ HasNumber result v n }
     {
         Shared {
-            blocks: Vec::new(alloc),
+            blocks: Blocks::new(alloc),
             sets: Vec::new(alloc),
             width: 0,
         }
@@ -41,7 +41,7 @@ impl Shared {
     pub fn has_number(&self, object: usize, number: u64) -> bool
         ensures { IsTrue result ↔ HasNumber self.now object number }
     {
-        ids::has_number(&self.blocks, ids_at(&self.sets, object), number)
+        ids::has_number(&self.blocks.slots, ids_at(&self.sets, object), number)
     }
 
     /// Whether each number of one object is a number of another.
@@ -52,41 +52,41 @@ impl Shared {
             → (n : ℕ) × HasNumber self.now small n × ¬ HasNumber self.now large n }
     {
         let large = ids_at(&self.sets, large);
-        ids::is_within(&self.blocks, ids_at(&self.sets, small), large)
+        ids::is_within(&self.blocks.slots, ids_at(&self.sets, small), large)
     }
 
     /// Gives one object the numbers of another, in the room that was made for it.
-    pub fn join(&mut self, into: usize, with: usize)
+    pub fn join(&mut self, into: u32, with: u32)
         requires object { into < length self.old.sets.items }
         requires places { length (ids_of self.old with) ≤ length (ids_of self.old into) }
-        requires room { vec_len self.old.blocks + length (ids_of self.old with)
-            ≤ vec_capacity self.old.blocks }
-        requires few { vec_len self.old.blocks + length (ids_of self.old with) < 2 ^ 32 }
+        requires room { vec_len self.old.blocks.slots + length (ids_of self.old with)
+            ≤ vec_capacity self.old.blocks.slots }
+        requires few { vec_len self.old.blocks.slots + length (ids_of self.old with) < 2 ^ 32 }
         ensures sets { (v n : ℕ) → HasNumber self.new v n
             ↔ (HasNumber self.old v n ⊎ ((v ≡ into) × HasNumber self.old with n)) }
         ensures shape { IsAsWide self.old self.new }
-        ensures blocks { vec_len self.new.blocks
-            ≤ vec_len self.old.blocks + length (ids_of self.old with) }
+        ensures blocks { vec_len self.new.blocks.slots
+            ≤ vec_len self.old.blocks.slots + length (ids_of self.old with) }
     {
         let alloc = *self.sets.allocator();
         // The list is taken out, so that the other one can be read while it is changed.
-        let mut joined = std::mem::replace(&mut self.sets[into], Ids::new(alloc));
-        joined.join(&mut self.blocks, ids_at(&self.sets, with));
-        self.sets[into] = joined;
+        let mut joined = std::mem::replace(&mut self.sets[into as usize], Ids::new(alloc));
+        joined.join(&mut self.blocks, into, ids_at(&self.sets, with as usize));
+        self.sets[into as usize] = joined;
     }
 
     /// Gives an object a number, in the room that was made for it.
-    pub fn mark(&mut self, object: usize, number: u64)
+    pub fn mark(&mut self, object: u32, number: u64)
         requires object { object < length self.old.sets.items }
         requires place { number / 1024 < length (ids_of self.old object) }
-        requires room { vec_len self.old.blocks < vec_capacity self.old.blocks }
-        requires few { vec_len self.old.blocks < 2 ^ 32 - 1 }
+        requires room { vec_len self.old.blocks.slots < vec_capacity self.old.blocks.slots }
+        requires few { vec_len self.old.blocks.slots < 2 ^ 32 - 1 }
         ensures sets { (v n : ℕ) → HasNumber self.new v n
             ↔ (HasNumber self.old v n ⊎ ((v ≡ object) × (n ≡ number))) }
         ensures shape { IsAsWide self.old self.new }
-        ensures blocks { vec_len self.new.blocks ≤ vec_len self.old.blocks + 1 }
+        ensures blocks { vec_len self.new.blocks.slots ≤ vec_len self.old.blocks.slots + 1 }
     {
-        self.sets[object].mark(&mut self.blocks, number);
+        self.sets[object as usize].mark(&mut self.blocks, object, number);
     }
 
     /// Makes a set for each of this many objects.
@@ -147,23 +147,23 @@ impl Shared {
         }
     }
 
-    /// Makes room for the blocks of this many unions, each after a mark. It fails if memory does, or
-    /// if there could be as many blocks as there are ids.
+    /// Makes room for the blocks of this many unions, each after a mark. It fails if memory does,
+    /// or if there could be as many blocks as there are ids.
     pub fn make_room(&mut self, unions: usize) -> Result<(), NoMemory>
         ensures room { OnOk result
-            (vec_len self.new.blocks + unions * (self.new.width + 1)
-            ≤ vec_capacity self.new.blocks) }
+            (vec_len self.new.blocks.slots + unions * (self.new.width + 1)
+            ≤ vec_capacity self.new.blocks.slots) }
         ensures few { OnOk result
-            (vec_len self.new.blocks + unions * (self.new.width + 1) < 2 ^ 32) }
+            (vec_len self.new.blocks.slots + unions * (self.new.width + 1) < 2 ^ 32) }
         ensures same { (v n : ℕ) → HasNumber self.new v n ↔ HasNumber self.old v n }
         ensures rest { (self.new.sets ≡ self.old.sets) × (self.new.width ≡ self.old.width) }
-        ensures blocks { self.new.blocks.items ≡ self.old.blocks.items }
+        ensures blocks { self.new.blocks.slots.items ≡ self.old.blocks.slots.items }
     {
         let more = self.width.saturating_add(1).saturating_mul(unions);
-        if more.saturating_add(self.blocks.len()) >= MOST_BLOCKS {
+        if more.saturating_add(self.blocks.slots.len()) >= MOST_BLOCKS {
             return Err(NoMemory);
         }
-        self.blocks.reserve(more)?;
+        self.blocks.slots.reserve(more)?;
         Ok(())
     }
 }

@@ -6,7 +6,7 @@ use Rattle.reduce_source.proofs.ids.is_within.Goals as goal
 
 pub returns-then-not-covered-clause-no : goal.returns-then-not-covered-clause-no
 returns-then-not-covered-clause-no c = λ f.
-    let blocks = c.args.blocks.now in
+    let blocks = c.args.slots.now in
     let k = c.loop-place.place in
     let r = c.is_within-covered.ensures.no c.if-not-covered.true in
     let many = ap (words_of blocks) c.id_at.ensures in (

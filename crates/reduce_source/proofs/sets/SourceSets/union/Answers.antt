@@ -69,7 +69,7 @@ returns-clause-rest c = λ f rest r.
     let marked = c.begin.ensures.blocks in
     let from = shape.places c.args.with.0 in
     let narrow = old.shared.sound.narrow c.args.with.0 in
-    let used : vec_len c.join.new.self.blocks ≤ vec_len old.shared.blocks + (old.shared.width + 1) = omega (arith, joined, marked, from, narrow) in
+    let used : vec_len c.join.new.self.blocks.slots ≤ vec_len old.shared.blocks.slots + (old.shared.width + 1) = omega (arith, joined, marked, from, narrow) in
     room_left old _ (standing_of old c.args.with.0) c.begin.ensures.count (c.see.ensures.len ∙ c.begin.ensures.places)
     (record {
       places = λ v. c.join.ensures.shape.places v ∙ shape.places v;
