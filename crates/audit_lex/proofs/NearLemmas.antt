@@ -1,5 +1,5 @@
 -- The first of sixteen lanes that passes a test.
-use Rattle.std.proofs.Common.{◌≡◌, ◌≢◌, ◌∙◌, ℕ, ◌+◌, ◌<◌, ◌≤◌, ◌%◌, ◌^◌, ◌&&◌, ◌||◌, List, [], ◌∷◌, zero, suc, Bool, true, false, length, get_or, map, not, cond, eqb, sym, refl, ap, subst, arith, w64}
+use Rattle.std.proofs.Common.{◌≡◌, ◌≢◌, ◌∙◌, ℕ, ◌<◌, ◌≤◌, ◌%◌, ◌^◌, ◌&&◌, ◌||◌, List, [], ◌∷◌, zero, suc, Bool, true, false, length, get_or, map, not, cond, sym, refl, ap, arith, w64}
 use Rattle.std.specs.Prelude.{bit_and, bit_or}
 use Rattle.std.specs.Simd.Lanes.{mask_l, zip2, top}
 use Rattle.std.specs.Int.{trailing_zeros}

@@ -1,12 +1,12 @@
 -- Tokens of other names, which are passed over together.
-use Rattle.std.proofs.Common.{◌≡◌, ◌≢◌, ◌<◌, ◌≤◌, ◌∙◌, sym, ap, refl, ℕ, zero, suc, ◌+◌, ◌-◌, ◌==◌, ◌&&◌, ◌||◌, List, length, drop, get_or, Bool, true, false, None, arith, ◌⊎◌, inl, inr}
+use Rattle.std.proofs.Common.{◌≡◌, ◌≢◌, ◌<◌, ◌≤◌, ◌∙◌, sym, ap, refl, ℕ, zero, suc, ◌+◌, ◌-◌, ◌==◌, ◌&&◌, ◌||◌, List, length, drop, get_or, Bool, true, false, arith, ◌⊎◌, inl, inr}
 use Rattle.std.specs.List.{position_or_len}
-use Rattle.std.specs.Option.{option_or, option_to_list}
+use Rattle.std.specs.Option.{option_or}
 use Rattle.std.proofs.lemmas.Bool.{eq-eqb, eqb-false, ne_eqb, cases_lt, cases_eq}
-use Rattle.std.proofs.lemmas.List.{get_or-drop, get_or_past, length-drop, drop-drop, take_rest}
+use Rattle.std.proofs.lemmas.List.{get_or-drop, get_or_past, drop-drop, take_rest}
 use Rattle.std.proofs.lemmas.List.Sums.{fails_before_first, passes_at_first}
 use Rattle.memchr.specs.Find.{is_byte2}
-use Rattle.audit_lex.specs.Tokens.{token_at, token_len, value_in, field_of}
+use Rattle.audit_lex.specs.Tokens.{token_len, field_of}
 use Rattle.audit_lex.specs.Stops.{stops_at}
 use Rattle.audit_lex.proofs.TokenLemmas.{from, field_after_space, field_at_token}
 use Rattle.audit_lex.proofs.PastTokens.{plain_token, other_first}

@@ -1,5 +1,5 @@
 use Rattle.std.proofs.Common.{◌∙◌, sym}
-use Rattle.audit_lex.proofs.FieldLemmas.{whole_name, other_length}
+use Rattle.audit_lex.proofs.FieldLemmas.{whole_name}
 use Rattle.audit_lex.proofs.fields.is_name.Goals as goal
 
 pub returns-then-text : goal.returns-then-text

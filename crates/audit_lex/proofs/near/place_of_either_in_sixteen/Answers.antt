@@ -1,10 +1,10 @@
-use Rattle.std.proofs.Common.{◌≡◌, ◌∙◌, ℕ, ◌||◌, ◌≤◌, List, Bool, false, length, get_or, take, map, replicate, eqb, sym, ap, arith}
+use Rattle.std.proofs.Common.{◌≡◌, ◌∙◌, ℕ, ◌≤◌, List, Bool, false, length, get_or, take, map, replicate, eqb, ap, arith}
 use Rattle.std.specs.Prelude.{bit_or}
 use Rattle.std.specs.Simd.Lanes.{zip2, top}
 use Rattle.std.proofs.lemmas.Simd.{length-chunk, zip2_splat}
 use Rattle.std.proofs.lemmas.List.{get_or-take}
 use Rattle.memchr.specs.Find.{is_byte2}
-use Rattle.audit_lex.proofs.NearLemmas.{AreTested, IsFirstMark, lane, either_marks, length_either, either_at, no_mark, some_mark}
+use Rattle.audit_lex.proofs.NearLemmas.{AreTested, lane, either_marks, length_either, either_at, no_mark, some_mark}
 use Rattle.audit_lex.proofs.near.place_of_either_in_sixteen.Goals as goal
 
 module _ (text : List ℕ) (one other : ℕ) (room : 16 ≤ length text) where

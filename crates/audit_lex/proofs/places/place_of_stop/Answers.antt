@@ -1,4 +1,4 @@
-use Rattle.std.proofs.Common.{◌≡◌, ◌<◌, ◌+◌, length, subst, arith}
+use Rattle.std.proofs.Common.{◌≡◌, ◌+◌, subst, arith}
 use Rattle.audit_lex.proofs.OtherTokens.{HasNoStop, goes_further}
 use Rattle.audit_lex.proofs.places.place_of_stop.Goals as goal
 
