@@ -1,9 +1,10 @@
 -- The field of a name, both ways.
-use Rattle.std.proofs.Common.{◌≡◌, ◌≢◌, ◌↔◌, ◌∙◌, sym, refl, ap, ℕ, List, length, take, arith, ◌==◌, Bool, true, false, Option, None, Some, if◌then◌else◌}
+use Rattle.std.proofs.Common.{◌≡◌, ◌≢◌, ◌↔◌, ◌∙◌, sym, refl, ap, ℕ, List, length, take, drop, arith, ◌==◌, Bool, true, false, Option, None, Some, is_some, option_map, if◌then◌else◌}
 use Rattle.std.specs.Str.{bytes_eq}
 use Rattle.std.proofs.lemmas.Slice.Eq.{bytes_eq-Decides}
 use Rattle.std.proofs.lemmas.Bool.{eqb-false, false_from_ne_true}
 use Rattle.std.proofs.lemmas.List.{take_all}
+use Rattle.audit_lex.specs.Header.{behind}
 use Rattle.audit_lex.specs.FieldTable.{name_of}
 use Rattle.audit_lex.specs.FieldNames.{field_called, by_two, by_three, by_four, by_five, by_seven, by_eight}
 use Rattle.audit_lex.specs.declared.fields.Field.{Field}
@@ -91,18 +92,19 @@ not_named name never f is = let some = (never f).1 is in cc
 
 -- ---- whole names
 
-same_answer : (a b : Bool) → (a ≡ true → b ≡ true) → (b ≡ true → a ≡ true) → a ≡ b
-same_answer true b there back = sym (there refl)
-same_answer false true there back = back refl
-same_answer false false there back = refl
+text_if : {A : Type 0} (begins : Bool) (rest : A) → is_some (if begins then Some rest else None) ≡ begins
+text_if true rest = refl
+text_if false rest = refl
+
+mapped : {A B : Type 0} (f : A → B) (found : Option A) → is_some found ≡ is_some (option_map f found)
+mapped f None = refl
+mapped f (Some it) = refl
 
 -- a text as long as a name that it begins with is the name
-pub whole_name : (text name : List ℕ) → length text ≡ length name → bytes_eq name (take (length name) text) ≡ bytes_eq text name
-whole_name text name long =
-    let whole : take (length name) text ≡ text = take_all (length name) text (omega (arith, long)) in
-    let front = bytes_eq-Decides name (take (length name) text) in
-    let same = bytes_eq-Decides text name in
-    same_answer _ _ (λ begins. same.1 (sym whole ∙ sym (front.0 begins))) (λ is. front.1 (sym (same.0 is) ∙ sym whole))
+pub whole_name : {A : Type 0} (f : A → List ℕ) (found : Option A) (text name : List ℕ) → length text ≡ length name → option_map f found ≡ behind name text → is_some found ≡ bytes_eq text name
+whole_name f found text name long is =
+    mapped f found ∙ ap (λ (o : Option (List ℕ)). is_some o) is ∙ text_if (bytes_eq (take (length name) text) name) (drop (length name) text)
+    ∙ ap (λ (front : List ℕ). bytes_eq front name) (take_all (length name) text (omega (arith, long)))
 
 -- names of different lengths differ
 pub other_length : (text name : List ℕ) → (length text == length name) ≡ false → bytes_eq text name ≡ false

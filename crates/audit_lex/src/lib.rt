@@ -40,6 +40,7 @@ pub use laws::{
 pub use lexer::{Lexed, lex};
 pub use line_cut::{Line, LineCut};
 pub use numbers::{dec32, dec64, handle, hex32, hex64, signed};
+pub use places::place_of;
 pub use scanning::{Scanned, scan};
 pub use slots::Slots;
 pub use tally::Tally;

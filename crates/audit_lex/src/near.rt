@@ -21,6 +21,23 @@ pub(crate) fn place_in_sixteen(byte: u8, text: &[u8]) -> usize
     marks.trailing_zeros() as usize
 }
 
+/// The place of the first such byte among the first 32, or 32.
+#[inline(always)]
+pub(crate) fn place_in_thirty_two(byte: u8, text: &[u8]) -> usize
+    requires { 32 ≤ length text.now }
+    ensures before { (k : ℕ) → k < result → (slice_index text.now k == byte) ≡ false }
+    ensures there { result < 32 → (slice_index text.now result == byte) ≡ true }
+    ensures within { result ≤ 32 }
+{
+    let equal = u8x32::from_slice(text)
+        .simd_eq(u8x32::splat(byte))
+        .to_bitmask();
+    if equal == 0 {
+        return 32;
+    }
+    equal.trailing_zeros() as usize
+}
+
 /// Whether a text begins with the first `len` of these bytes. All of them are compared together.
 #[inline(always)]
 pub(crate) fn begins_alike(bytes: &[u8; 32], len: usize, text: &[u8]) -> bool

@@ -51,12 +51,11 @@ use crate::stop::Stop;
 use crate::store_laws::{
     histories_may_be_committed, stores_follow_histories, stores_say_what_was_left,
 };
-use audit_lex::LastStamp;
+use audit_lex::{LastStamp, place_of};
 use audit_record::{Read, Record};
 use batch_log::{CommitFault, a_disk_reads_in_one_way};
 use call_acts::acts_of_events_are_admitted;
 use flow_base::{Full, Limit, Limits, NoMemory, Refused};
-use memchr::memchr;
 use outside::Disk;
 use query_walk::WalkFault;
 use reach_rows::{Keep, Reducer};
@@ -330,7 +329,7 @@ impl<R: Reducer, K: Keep> Ingest<R, K> {
         ensures alike { K.alike self.old.joined.keep self.new.joined.keep }
         ensures marked { self.new.joined.tables.marked ≡ self.old.joined.tables.marked }
     {
-        let end = end_of_line(piece);
+        let end = place_of(b'\n', piece);
         if end == piece.len() || !self.reader.is_between_lines() {
             self.hold(&piece[..end])?;
             if end == piece.len() {
@@ -642,17 +641,6 @@ fn why_unread(fault: WalkFault) -> RestoreFault
         WalkFault::StoreFault => RestoreFault::StoreFault,
         WalkFault::BadStore(place) => RestoreFault::BadRow(place),
         WalkFault::NoMemory => RestoreFault::NoMemory,
-    }
-}
-
-// Where the first line feed stands, or the length.
-fn end_of_line(piece: &[u8]) -> usize
-    ensures place { result ≡ position_or_len (is_byte 10) piece.now }
-    ensures within { result ≤ length piece.now }
-{
-    match memchr(b'\n', piece) {
-        Some(place) => place,
-        None => piece.len(),
     }
 }
 

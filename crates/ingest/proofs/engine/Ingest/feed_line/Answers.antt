@@ -11,7 +11,7 @@ use Rattle.ingest.proofs.StopLemmas.{feed_taken, stop_whole, halts_whole, stop_f
 use Rattle.ingest.proofs.engine.Ingest.feed_line.Goals as goal
 
 pub hold-requires-clause-no_feed : goal.hold-requires-clause-no_feed
-hold-requires-clause-no_feed g c = none_before c.args.piece.now c.end_of_line-end.result c.end_of_line-end.ensures.place
+hold-requires-clause-no_feed g c = none_before c.args.piece.now c.place_of-end.result c.place_of-end.ensures.place
 
 pub returns-in_err-hold-clause-halts : goal.returns-in_err-hold-clause-halts
 returns-in_err-hold-clause-halts g c =
@@ -21,50 +21,50 @@ returns-in_err-hold-clause-halts g c =
 
 pub returns-in-Ok-clause-ok : goal.returns-in-Ok-clause-ok
 returns-in-Ok-clause-ok g c = λ limits h stands.
-    let end = c.end_of_line-end.result in
+    let end = c.place_of-end.result in
     let piece = c.args.piece.now in
-    let below : end < length piece = omega (arith, c.end_of_line-end.ensures.within, c.if-end-piece-2.false) in
-    subst (λ (g : History). StandsFor limits c.end_line.new.self g) (feed_taken limits h piece end c.end_of_line-end.ensures.place below)
+    let below : end < length piece = omega (arith, c.place_of-end.ensures.within, c.if-end-piece-2.false) in
+    subst (λ (g : History). StandsFor limits c.end_line.new.self g) (feed_taken limits h piece end c.place_of-end.ensures.place below)
     (c.in-Ok.ensures.ok limits (with_bytes h (take end piece)) (c.in_ok-hold.ensures.ok limits h stands))
 
 pub returns-in-Err-clause-stop : goal.returns-in-Err-clause-stop
 returns-in-Err-clause-stop g c = λ limits h stands.
-    let end = c.end_of_line-end.result in
+    let end = c.place_of-end.result in
     let piece = c.args.piece.now in
-    let below : end < length piece = omega (arith, c.end_of_line-end.ensures.within, c.if-end-piece-2.false) in
+    let below : end < length piece = omega (arith, c.place_of-end.ensures.within, c.if-end-piece-2.false) in
     subst (λ (s : Stop). StopsFor limits h piece s) (sym c.later.ensures)
-    (stop_feed limits h piece end c.in-Err.stop c.end_of_line-end.ensures.place below (c.in-Err.ensures.stop limits (with_bytes h (take end piece)) (c.in_ok-hold.ensures.ok limits h stands)))
+    (stop_feed limits h piece end c.in-Err.stop c.place_of-end.ensures.place below (c.in-Err.ensures.stop limits (with_bytes h (take end piece)) (c.in_ok-hold.ensures.ok limits h stands)))
 
 pub returns-in-Err-clause-halts : goal.returns-in-Err-clause-halts
 returns-in-Err-clause-halts g c = λ limits h stands.
-    let end = c.end_of_line-end.result in
+    let end = c.place_of-end.result in
     let piece = c.args.piece.now in
-    let below : end < length piece = omega (arith, c.end_of_line-end.ensures.within, c.if-end-piece-2.false) in
+    let below : end < length piece = omega (arith, c.place_of-end.ensures.within, c.if-end-piece-2.false) in
     subst (λ (s : Stop). Halts limits c.end_line.new.self h piece s) (sym c.later.ensures)
-    (halts_feed limits c.end_line.new.self h piece end c.in-Err.stop c.end_of_line-end.ensures.place below (c.in-Err.ensures.halts limits (with_bytes h (take end piece)) (c.in_ok-hold.ensures.ok limits h stands)))
+    (halts_feed limits c.end_line.new.self h piece end c.in-Err.stop c.place_of-end.ensures.place below (c.in-Err.ensures.halts limits (with_bytes h (take end piece)) (c.in_ok-hold.ensures.ok limits h stands)))
 
 pub end_line-requires-2-clause-no_feed : goal.end_line-requires-2-clause-no_feed
-end_line-requires-2-clause-no_feed g c = none_before c.args.piece.now c.end_of_line-end.result c.end_of_line-end.ensures.place
+end_line-requires-2-clause-no_feed g c = none_before c.args.piece.now c.place_of-end.result c.place_of-end.ensures.place
 
 pub returns-in_err-end_line-clause-stop : goal.returns-in_err-end_line-clause-stop
 returns-in_err-end_line-clause-stop g c =
-    let end = c.end_of_line-end.result in
-    let below : end < length c.args.piece.now = omega (arith, c.end_of_line-end.ensures.within, c.if-end-piece.false) in
+    let end = c.place_of-end.result in
+    let below : end < length c.args.piece.now = omega (arith, c.place_of-end.ensures.within, c.if-end-piece.false) in
     let p = err_from_is_err_and c.from_residual-in_err-end_line.result c.from_residual-in_err-end_line.ensures.1 in
     rw (p.1, p.2) (λ limits h stands.
-    stop_whole limits h c.args.piece.now end _ c.end_of_line-end.ensures.place below (c.in_err-end_line.ensures.stop limits h stands))
+    stop_whole limits h c.args.piece.now end _ c.place_of-end.ensures.place below (c.in_err-end_line.ensures.stop limits h stands))
 
 pub returns-in_err-end_line-clause-halts : goal.returns-in_err-end_line-clause-halts
 returns-in_err-end_line-clause-halts g c =
-    let end = c.end_of_line-end.result in
-    let below : end < length c.args.piece.now = omega (arith, c.end_of_line-end.ensures.within, c.if-end-piece.false) in
+    let end = c.place_of-end.result in
+    let below : end < length c.args.piece.now = omega (arith, c.place_of-end.ensures.within, c.if-end-piece.false) in
     let p = err_from_is_err_and c.from_residual-in_err-end_line.result c.from_residual-in_err-end_line.ensures.1 in
     rw (p.1, p.2) (λ limits h stands.
-    halts_whole limits _ h c.args.piece.now end _ c.end_of_line-end.ensures.place below (c.in_err-end_line.ensures.halts limits h stands))
+    halts_whole limits _ h c.args.piece.now end _ c.place_of-end.ensures.place below (c.in_err-end_line.ensures.halts limits h stands))
 
 pub returns-clause-ok : goal.returns-clause-ok
 returns-clause-ok g c = λ limits h stands.
-    let end = c.end_of_line-end.result in
-    let below : end < length c.args.piece.now = omega (arith, c.end_of_line-end.ensures.within, c.if-end-piece.false) in
-    subst (λ (l : List ℕ). StandsFor limits c.end_line-2.new.self (with_bytes h l)) (sym (with_feed c.args.piece.now end c.end_of_line-end.ensures.place below))
+    let end = c.place_of-end.result in
+    let below : end < length c.args.piece.now = omega (arith, c.place_of-end.ensures.within, c.if-end-piece.false) in
+    subst (λ (l : List ℕ). StandsFor limits c.end_line-2.new.self (with_bytes h l)) (sym (with_feed c.args.piece.now end c.place_of-end.ensures.place below))
     (c.in_ok-end_line.ensures.ok limits h stands)
