@@ -1,6 +1,6 @@
 //! Records in, events out. The wanted events are worked out by hand from the rules of joining.
 
-use audit_lex::EventKey;
+use audit_lex::{EventKey, LastStamp};
 use audit_record::{Body, Read, Record, Syscall, read_line};
 use flow_base::{Bytes, Limits, List, NoMemory};
 use record_join::{Event, EventView, GroupView, Join, JoinClock, Taken, join_all, release_ripe};
@@ -310,7 +310,7 @@ fn read_and_give(
     item: &mut Record,
     line: &[u8],
 ) -> Result<Read, Fail> {
-    let read = read_line(alloc, line, 2000, item)?;
+    let read = read_line(alloc, line, 2000, &mut LastStamp::none(), item)?;
     match read {
         Read::Record => {
             if join.ripe() {

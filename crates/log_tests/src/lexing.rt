@@ -615,3 +615,62 @@ fn a_scan_finds_nothing_in_lines_that_are_not_used_by_their_headers(rt: HostRunt
         assert!(rt; scan(line, 43, &mut LastStamp::none(), &mut slots).is_none());
     }
 }
+
+#[test]
+fn lines_have_their_own_stamps_after_others(rt: HostRuntime) {
+    let mut last = LastStamp::none();
+    for (line, want) in [
+        // What is held before any line has this time and serial number.
+        (b"type=EOE msg=audit(0.000:0): ".as_slice(), Some((0, 0))),
+        (
+            b"type=CWD msg=audit(1600000000.123:456): cwd=\"/a\"".as_slice(),
+            Some((1_600_000_000_123, 456)),
+        ),
+        (
+            b"type=EOE msg=audit(1600000000.123:456): ".as_slice(),
+            Some((1_600_000_000_123, 456)),
+        ),
+        // the same second, and a serial number that begins with that before it
+        (
+            b"type=EOE msg=audit(1600000000.124:4567): ".as_slice(),
+            Some((1_600_000_000_124, 4567)),
+        ),
+        (
+            b"type=EOE msg=audit(1600000000.124:456): ".as_slice(),
+            Some((1_600_000_000_124, 456)),
+        ),
+        // stamps of 32 and 33 bytes
+        (
+            b"type=EOE msg=audit(1600000000.124:123456): ".as_slice(),
+            Some((1_600_000_000_124, 123_456)),
+        ),
+        (
+            b"type=EOE msg=audit(1600000000.124:1234567): ".as_slice(),
+            Some((1_600_000_000_124, 1_234_567)),
+        ),
+        (
+            b"type=EOE msg=audit(1600000000.124:123456): ".as_slice(),
+            Some((1_600_000_000_124, 123_456)),
+        ),
+        (
+            b"type=EOE msg=audit(1600000001.124:123456): ".as_slice(),
+            Some((1_600_000_001_124, 123_456)),
+        ),
+        // a stamp that differs in its bracket alone, and the next line
+        (
+            b"type=EOE msg=audit(1600000001.124:123456]: ".as_slice(),
+            None,
+        ),
+        (
+            b"type=EOE msg=audit(1600000001.124:123456): ".as_slice(),
+            Some((1_600_000_001_124, 123_456)),
+        ),
+    ] {
+        let mut slots = Slots::new();
+        let found = match scan(line, 200, &mut last, &mut slots) {
+            Some(scanned) => Some((scanned.key.ms, scanned.key.serial)),
+            None => None,
+        };
+        assert_eq!(rt; found, want);
+    }
+}

@@ -1,6 +1,6 @@
 //! Lines in, records out. The wanted records are worked out by hand from the format of audit records.
 
-use audit_lex::{EventKey, Lexed, lex};
+use audit_lex::{EventKey, LastStamp, Lexed, lex};
 use audit_record::{Body, NameKind, PathItem, Read, Record, Syscall, read_line, read_record};
 use flow_base::{Bytes, Device, FileId, NoMemory};
 use std::alloc::Global;
@@ -61,15 +61,17 @@ fn earlier(alloc: Global) -> Result<Record, NoMemory> {
 /// What a line of at most 200 bytes gives.
 fn given(alloc: Global, line: &[u8]) -> Result<Read, NoMemory> {
     let mut item = earlier(alloc)?;
-    read_line(alloc, line, 200, &mut item)
+    read_line(alloc, line, 200, &mut LastStamp::none(), &mut item)
 }
 
-/// Whether a line gives a record of this body, over an earlier one and over a record of its own kind.
+/// Whether a line gives a record of this body, over an earlier one and over a record of its own kind. The second time its
+/// stamp is the one that was read last.
 fn gives(alloc: Global, line: &[u8], body: Body) -> Result<bool, NoMemory> {
     let mut item = earlier(alloc)?;
+    let mut last = LastStamp::none();
     let wanted = wanted(alloc, line, body)?;
     for _ in 0..2 {
-        if read_line(alloc, line, 200, &mut item)? != Read::Record || item != wanted {
+        if read_line(alloc, line, 200, &mut last, &mut item)? != Read::Record || item != wanted {
             return Ok(false);
         }
     }
