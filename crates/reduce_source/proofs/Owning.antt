@@ -42,17 +42,7 @@ own_or_many x (Nobody next) h = absurd (cc)
 own_or_many x (One y) h = inl (ap One (sym (eqb-true x y h)))
 own_or_many x Many h = inr refl
 
--- the list of another object stays held
-pub held_stays : {A : Type 0} (x most v : ℕ) (old new : Vec Slot A) (ids : List ℕ) → Changes x most old new → v ≢ x → AreHeldBy v old.items ids → AreHeldBy v new.items ids
-held_stays x most v old new ids c n h = record {
-  held = λ k. had_next v (owner_of old.items (get_or ids k 0)) (owner_of new.items (get_or ids k 0)) (stays k) (h.held k);
-  once = λ j k e one. h.once j k e (alone_before v (owner_of old.items (get_or ids j 0)) (owner_of new.items (get_or ids j 0)) (stays j) one);
-}
-  where
-    stays : (k : ℕ) → (owner_of new.items (get_or ids k 0) ≡ owner_of old.items (get_or ids k 0)) ⊎ (owner_of new.items (get_or ids k 0) ≡ Many)
-    stays k = c.owners (get_or ids k 0) (kept_from x v (owner_of old.items (get_or ids k 0)) n (h.held k))
-
--- and its blocks as they were
+-- the blocks of the list of another object stay as they were
 pub words_stay : {A : Type 0} (x most v : ℕ) (old new : Vec Slot A) (ids : List ℕ) → Changes x most old new → v ≢ x → AreHeldBy v old.items ids → (k : ℕ) → words_of new.items (get_or ids k 0) ≡ words_of old.items (get_or ids k 0)
 words_stay x most v old new ids c n h k = c.words (get_or ids k 0) (kept_from x v (owner_of old.items (get_or ids k 0)) n (h.held k))
 

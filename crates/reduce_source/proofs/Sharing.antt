@@ -8,7 +8,7 @@ use Rattle.reduce_source.specs.Blocks.{words_of, HasIn}
 use Rattle.reduce_source.specs.Owners.{AreHeldBy, Changes}
 use Rattle.reduce_source.specs.declared.slot.Slot.{Slot}
 use Rattle.reduce_source.proofs.BlockBits.{none_past}
-use Rattle.reduce_source.proofs.Owning.{held_stays, words_stay}
+use Rattle.reduce_source.proofs.Owning.{words_stay}
 
 -- The list of ids of an object was taken out, and another was put in its place.
 module _ {A : Type 0} (into most : ℕ) (sets : List (List ℕ)) (empty joined : List ℕ) (old new : Vec Slot A) (fits : into < length sets)
@@ -18,12 +18,6 @@ module _ {A : Type 0} (into most : ℕ) (sets : List (List ℕ)) (empty joined :
 
   elsewhere : (v : ℕ) → v ≢ into → get_or (set (set sets into empty) into joined) v [] ≡ get_or sets v []
   elsewhere v n = get_or-set_other (set sets into empty) into v joined [] n ∙ get_or-set_other sets into v empty [] n
-
-  pub all_held : AreHeldBy into new.items joined → (v : ℕ) → AreHeldBy v new.items (get_or (set (set sets into empty) into joined) v [])
-  all_held here v = elim (cases_eq v into) [
-    | inl e ↦ subst (λ w. AreHeldBy w new.items (get_or (set (set sets into empty) into joined) w [])) (sym e) (subst (AreHeldBy into new.items) (sym there) here)
-    | inr n ↦ subst (AreHeldBy v new.items) (sym (elsewhere v n)) (held_stays into most v old new (get_or sets v []) changes n (held v))
-  ]
 
   -- the numbers of another object are as before
   same_numbers : (v : ℕ) → v ≢ into → (n : ℕ) → HasIn new.items (get_or (set (set sets into empty) into joined) v []) n ↔ HasIn old.items (get_or sets v []) n
