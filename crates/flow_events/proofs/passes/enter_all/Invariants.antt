@@ -14,4 +14,4 @@ invariant-loop-key l = (done : List Key) × record {
 }
 
 abbrev pub decreases-loop-key : goal.decreases-loop-key
-decreases-loop-key l = length l.keys
+decreases-loop-key l = length l.added.keys
