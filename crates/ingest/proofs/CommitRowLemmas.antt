@@ -1,7 +1,6 @@
 -- The rows around those of flows in the batch of a commit.
-use Rattle.std.proofs.Common.{◌≡◌, ◌∙◌, ℕ, List, [], ◌∷◌, ◌++◌, length, map, drop, sym, ap, subst}
+use Rattle.std.proofs.Common.{◌≡◌, ◌∙◌, List, [], ◌∷◌, ◌++◌, length, map, drop, sym, ap, subst}
 use Rattle.std.proofs.lemmas.List.{append_assoc}
-use Rattle.flow_base.specs.declared.types.Key.{Key}
 use Rattle.acts.specs.declared.act.Taken.{Taken}
 use Rattle.acts.specs.Flows.{acts_of, objects}
 use Rattle.flow_events.specs.declared.tables.Tables.{Tables}
@@ -11,9 +10,8 @@ use Rattle.row_codec.specs.declared.rows.StoreRow.{StoreRow}
 use Rattle.row_codec.specs.declared.rows.StoreRow.TheVariants.{State}
 use Rattle.row_codec.specs.declared.state.StateRow.{StateRow}
 use Rattle.stored.specs.Batch.{names_at, waiting_row}
-use Rattle.stored.specs.Moment.{Moment}
 use Rattle.stored.specs.Words.{texts_of}
-use Rattle.ingest.specs.Committing.{ArePut, AreAround, Lead}
+use Rattle.ingest.specs.Committing.{ArePut}
 use Rattle.ingest.specs.WaitingRows.{PutsWaiting}
 use Rattle.flow_events.specs.declared.rows.TableRows.{TableRows}
 use Rattle.flow_events.specs.Rows.{AreRowsSince, batch_of}

@@ -10,10 +10,8 @@ use Rattle.reach_model.specs.Flows.{IsLawful}
 use Rattle.reach_model.specs.Numbers.{IsNumbered, IsLawfulWith, known}
 use Rattle.record_join.specs.Events.{Joining, ripe_key, next_event, next_left}
 use Rattle.record_join.specs.StandsFor.{Joiner, StandsFor as JoinStandsFor}
-use Rattle.record_join.specs.declared.clock.JoinClock.{JoinClock}
 use Rattle.record_join.specs.declared.event.Event.{Event}
 use Rattle.record_join.specs.declared.event.EventView.{EventView}
-use Rattle.audit_record.specs.declared.types.Record.{Record}
 use Rattle.acts.specs.declared.act.Act.{Act}
 use Rattle.acts.specs.declared.act.Taken.{Taken}
 use Rattle.acts.specs.Admitted.{Admitted}

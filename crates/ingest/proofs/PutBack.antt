@@ -1,7 +1,7 @@
 -- Records, lines and groups that are taken in again, one after the other.
-use Rattle.std.proofs.Common.{◌≡◌, ◌≢◌, ◌≤◌, ◌<◌, ◌+◌, ◌∙◌, sym, refl, ap, subst, ℕ, suc, Bool, true, false, cond, List, [], ◌∷◌, ◌++◌, length, map, take, drop, get_or, zero, inl, inr, append_assoc, append-nil, arith, length-append}
-use Rattle.std.specs.Prelude.{Option, None, Some, ◌||◌, ◌==◌, ⊤, not, nat_lt, fold, if◌then◌else◌, is_some}
-use Rattle.std.specs.List.{list_any, flat_map, AllByRecursion}
+use Rattle.std.proofs.Common.{◌≡◌, ◌≢◌, ◌≤◌, ◌<◌, ◌+◌, ◌∙◌, sym, refl, ap, subst, ℕ, suc, Bool, true, false, cond, List, [], ◌∷◌, ◌++◌, length, map, take, drop, get_or, zero, inl, inr, append_assoc, append-nil, arith}
+use Rattle.std.specs.Prelude.{Option, None, Some, ◌||◌, ◌==◌, ⊤, nat_lt, if◌then◌else◌, is_some}
+use Rattle.std.specs.List.{flat_map, AllByRecursion}
 use Rattle.std.specs.Option.{option_map, option_to_list}
 use Rattle.std.specs.Set.{unique_keys, is_member, distinct_count}
 use Rattle.std.proofs.lemmas.Bool.{true≢false, eqb-true, ltb-true, lt-ltb}

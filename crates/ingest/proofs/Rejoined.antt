@@ -1,5 +1,5 @@
 -- After every history the clock is that of the events released, and their acts are in time.
-use Rattle.std.proofs.Common.{◌≡◌, ◌≤◌, ◌++◌, ◌∙◌, sym, refl, ap, subst, ℕ, zero, suc, List, [], ◌∷◌, length, append_assoc, append-nil, arith, Option, None, Some}
+use Rattle.std.proofs.Common.{◌≡◌, ◌++◌, sym, refl, ap, subst, ℕ, zero, suc, List, [], ◌∷◌, length, append_assoc, append-nil, arith, Option, None, Some}
 use Rattle.std.specs.Option.{option_to_list}
 use Rattle.flow_base.specs.declared.limits.Limits.{Limits}
 use Rattle.audit_lex.specs.History.{History}
@@ -14,7 +14,6 @@ use Rattle.row_codec.specs.declared.state.StateRow.{StateRow}
 use Rattle.store_check.specs.Store.{rows_of}
 use Rattle.flow_events.specs.declared.tables.Tables.{Tables}
 use Rattle.ingest.specs.Clocks.{HasReleased}
-use Rattle.ingest.specs.Counting.{counts_in}
 use Rattle.ingest.specs.Events.{taken_in, told_of, state_of, events_of}
 use Rattle.ingest.specs.Rejoining.{IsLeftOf, WereLeft}
 use Rattle.ingest.specs.StateParts.{counts_said}

@@ -1,5 +1,5 @@
 -- An engine that is made again from an opened store.
-use Rattle.std.proofs.Common.{◌≡◌, ◌≢◌, ◌≤◌, ◌<◌, ◌+◌, ◌*◌, ◌^◌, ◌∙◌, ◌++◌, ◌∷◌, [], sym, refl, ap, subst, inl, inr, ℕ, Bool, true, false, List, length, length-append, Option, None, Some, arith, take, get_or}
+use Rattle.std.proofs.Common.{◌≡◌, ◌≤◌, ◌<◌, ◌+◌, ◌^◌, ◌∙◌, ◌++◌, ◌∷◌, [], sym, refl, ap, subst, inl, inr, ℕ, Bool, true, false, List, length, length-append, Option, None, Some, arith, take, get_or}
 use Rattle.std.specs.Prelude.{◌⊎◌, ◌||◌, nat_lt, MatchOption, Result, Ok, Err, IfOk, unwrap_or, sum_by, if◌then◌else◌}
 use Rattle.std.specs.List.{AllZip}
 use Rattle.std.specs.Option.{option_to_list}

@@ -1,6 +1,6 @@
 -- A joiner that is made again of Waiting rows stands for what waited.
 use Rattle.std.proofs.Common.{◌≡◌, ◌≢◌, ◌∙◌, sym, refl, ap, subst, ℕ, Bool, true, false, cond, List, [], ◌∷◌, ◌++◌, map, append_assoc, append-nil, arith, inl, inr}
-use Rattle.std.specs.Prelude.{Option, None, Some, ◌||◌, if◌then◌else◌}
+use Rattle.std.specs.Prelude.{Option, Some, ◌||◌, if◌then◌else◌}
 use Rattle.std.specs.List.{AllByRecursion}
 use Rattle.std.specs.List.Sorted.{IsStrictlySortedBy}
 use Rattle.std.specs.Map.{lookup, keys_of}
@@ -24,7 +24,7 @@ use Rattle.stored.specs.Reading.{records_of, group_of_lines, clock_of}
 use Rattle.stored.specs.Words.{Group, groups_of}
 use Rattle.ingest.specs.LineRecords.{record_of}
 use Rattle.ingest.specs.Waiting.{AreSoundWaiting, AscendByKey, HasOwnLines, Leads, waiting_by, with_group, with_groups, with_records}
-use Rattle.ingest.proofs.PutBack.{could_enter, enters, ends_again, leads_through, leads_itself, leads_records, leads_groups, read_waits, waits_last, with_both, with_none}
+use Rattle.ingest.proofs.PutBack.{could_enter, enters, ends_again, leads_through, leads_itself, leads_groups, read_waits, waits_last, with_both, with_none}
 
 -- a law of the joiner: one that is made again by its records and ends stands for the same
 abbrev pub IsMadeAgain : Type 0

@@ -1,7 +1,6 @@
 -- What waits after a history: each record is the one that its line spells, and only keys that wait are closed.
 use Rattle.std.proofs.Common.{◌≡◌, ◌∙◌, sym, refl, ap, subst, ℕ, zero, suc, Bool, true, false, cond, List, [], ◌∷◌, ◌++◌, length, map, arith}
 use Rattle.std.specs.Prelude.{Option, None, Some, ◌||◌, not, filter, if◌then◌else◌, ⊤}
-use Rattle.std.specs.Cmp.{IsEquivalence}
 use Rattle.std.specs.List.{AllByRecursion, list_any}
 use Rattle.std.specs.Option.{option_to_list}
 use Rattle.std.proofs.lemmas.Bool.{true≢false}
@@ -10,7 +9,7 @@ use Rattle.audit_lex.specs.History.{History, Step, Byte, Settle}
 use Rattle.audit_lex.specs.declared.header.EventKey.{EventKey}
 use Rattle.audit_record.specs.declared.types.Record.{Record}
 use Rattle.record_join.specs.Keys.{is_key, ends_event}
-use Rattle.record_join.specs.Events.{Joining, group_of, waits, is_among, is_excess, saw, enter, settled, left_at, next_left, ripe_key}
+use Rattle.record_join.specs.Events.{Joining, group_of, waits, is_among, is_excess, saw, enter, left_at, next_left, ripe_key}
 use Rattle.record_join.specs.History.{Step as Told, Came, Settle as Settles, start, told, left, left_after, state}
 use Rattle.record_join.proofs.HoldsAll.{entered}
 use Rattle.stored.specs.Reading.{AreSpelled}

@@ -9,7 +9,6 @@ use Rattle.record_join.specs.Keys.{is_below}
 use Rattle.record_join.specs.Events.{Joining, is_among, ripe_key}
 use Rattle.record_join.specs.PutBack.{IsSound, fresh}
 use Rattle.record_join.specs.StandsFor.{Joiner, StandsFor}
-use Rattle.record_join.specs.declared.clock.JoinClock.{JoinClock}
 use Rattle.row_codec.specs.declared.rows.StoreRow.{StoreRow}
 use Rattle.row_codec.specs.declared.state.StateRow.{StateRow}
 use Rattle.stored.specs.Batch.{Ascends, IsKeyBefore}

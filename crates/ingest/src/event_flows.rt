@@ -196,7 +196,8 @@ impl<R: Reducer, K: Keep> EventFlows<R, K> {
         ensures alike { K.alike self.old.keep self.new.keep }
         ensures marked { self.new.tables.marked ≡ self.old.tables.marked }
     {
-        if self.join.exchange(item)? == Entered::Excess {
+        let taken = self.join.exchange(item)?;
+        if taken == Entered::Excess {
             self.excess = self.excess.saturating_add(1);
         }
         Ok(())

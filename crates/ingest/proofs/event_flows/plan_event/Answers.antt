@@ -1,4 +1,4 @@
-use Rattle.std.proofs.Common.{ap, arith, length, Err}
+use Rattle.std.proofs.Common.{ap, arith, length}
 use Rattle.name_text.specs.Addresses.{text_of}
 use Rattle.ingest.proofs.Following.{may_come_after}
 use Rattle.ingest.proofs.event_flows.plan_event.Goals as goal

@@ -1,4 +1,4 @@
-use Rattle.std.proofs.Common.{◌≡◌, ◌<◌, ◌∙◌, ap, sym, length, arith, Option}
+use Rattle.std.proofs.Common.{◌<◌, ◌∙◌, ap, sym, length, arith, Option}
 use Rattle.row_codec.specs.declared.state.StateRow.{StateRow}
 use Rattle.store_check.specs.Store.{newer}
 use Rattle.stored.specs.Words.{state_in}

@@ -1,7 +1,7 @@
 use Rattle.std.proofs.Common.{◌≤◌, ◌^◌, sym, subst, rules, Option}
 use Rattle.std.specs.Prelude.{IfSome}
 use Rattle.std.proofs.lemmas.Result.{err_from_is_err_and}
-use Rattle.record_join.specs.StandsFor.{Joiner, NothingRipe, StandsFor as JoinStandsFor}
+use Rattle.record_join.specs.StandsFor.{NothingRipe, StandsFor as JoinStandsFor}
 use Rattle.row_codec.specs.declared.state.StateRow.{StateRow}
 use Rattle.ingest.specs.Waiting.{AreSoundWaiting, StandsForClosed, waiting_by}
 use Rattle.ingest.proofs.Remade.{found_has}

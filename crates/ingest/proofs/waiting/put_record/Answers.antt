@@ -1,7 +1,6 @@
 use Rattle.record_join.specs.declared.event.Taken.{Taken}
-use Rattle.std.proofs.Common.{◌≡◌, ◌⊎◌, inl, inr, ◌∙◌, sym, subst, List, ◌∷◌, []}
-use Rattle.flow_base.specs.declared.limits.Limits.{Limits}
-use Rattle.record_join.specs.Events.{Joining, seen_time}
+use Rattle.std.proofs.Common.{◌≡◌, ◌⊎◌, inl, inr, ◌∙◌, sym, subst, ◌∷◌, []}
+use Rattle.record_join.specs.Events.{seen_time}
 use Rattle.record_join.specs.StandsFor.{StandsFor}
 use Rattle.record_join.specs.declared.clock.JoinClock.{JoinClock}
 use Rattle.record_join.specs.declared.event.Taken.TheVariants.{Held, Closed, Excess}

@@ -1,5 +1,4 @@
 use Rattle.std.proofs.Common.{◌∙◌, ap, sym}
-use Rattle.stored.specs.Moment.{state_at}
 use Rattle.stored.specs.Reading.{clock_of}
 use Rattle.ingest.specs.Events.{told_of, state_of}
 use Rattle.ingest.specs.LineRecords.{record_of}

@@ -1,6 +1,3 @@
-use Rattle.std.proofs.Common.{◌≡◌, ◌∙◌, ◌++◌, map, ap}
-use Rattle.stored.specs.Batch.{waiting_row}
-use Rattle.ingest.specs.WaitingRows.{as_lines}
 use Rattle.ingest.proofs.WaitingRowLemmas.{waiting_put}
 use Rattle.ingest.proofs.waiting_rows.put_waiting.Goals as goal
 

@@ -1,6 +1,5 @@
-use Rattle.std.proofs.Common.{◌≡◌, ◌∙◌, ap, sym, subst, [], List, None, Some, Err}
+use Rattle.std.proofs.Common.{◌≡◌, ◌∙◌, ap, sym, subst, List, None, Some, Err}
 use Rattle.reduced_store.specs.OnDisk.{OnDisk, SameBut, stores_go_along}
-use Rattle.reduced_store.specs.Restoring.{CanBeRestored}
 use Rattle.reduced_store.specs.Stores.{found_of}
 use Rattle.row_codec.specs.declared.rows.StoreRow.{StoreRow}
 use Rattle.store_check.specs.Conditions.{bounds_of}

@@ -22,7 +22,7 @@ returns-in-End-clause-ok g c = λ limits h stands.
     let came = end_given _ c.in-End.key c.read.new.item _ c.in-End.is (c.in_ok-read.ensures.reads limits h own.reader) in
     let spelled = ap (record_of limits.line) (sym (append-nil (tail_of h))) ∙ came.spelled in
     last_came limits _ h came.made (sym spelled)
-    (c.settle_used-2.ensures.stands limits h came.made own.reader spelled)
+    (c.settle_used-in-End.ensures.stands limits h came.made own.reader spelled)
     (c.end.ensures.ends came.made came.gives limits _ _ own.joined (few_excess limits h own.fits))
 
 pub returns-in-Unused-clause-ok : goal.returns-in-Unused-clause-ok
@@ -40,4 +40,4 @@ pub invariant_of-self-in-Record : goal.invariant_of-self-in-Record
 invariant_of-self-in-Record g c = few_ended _ _ _ _ c.self.invariant c.in_ok-take-in-Record.ensures.few c.settle_used.ensures.lines
 
 pub invariant_of-self-in-End : goal.invariant_of-self-in-End
-invariant_of-self-in-End g c = few_ended _ _ _ _ c.self.invariant c.end.ensures.few c.settle_used-2.ensures.lines
+invariant_of-self-in-End g c = few_ended _ _ _ _ c.self.invariant c.end.ensures.few c.settle_used-in-End.ensures.lines

@@ -19,7 +19,7 @@ returns-in-End-clause-ok g c = λ limits h stands.
     let own = engine_own limits _ _ h c.self.view_is stands in
     let came = end_given _ c.in-End.key c.read.new.item _ c.in-End.is (c.in_ok-read.ensures.reads limits h own.reader) in
     line_came limits _ h c.args.part.now came.made c.requires.no_feed (room_so limits _ h _ stands.reader c.requires.room) (sym came.spelled)
-    (c.end_used-2.ensures.stands limits h came.made own.reader came.spelled)
+    (c.end_used-in-End.ensures.stands limits h came.made own.reader came.spelled)
     (c.end.ensures.ends came.made came.gives limits _ _ own.joined (few_excess limits h own.fits))
 
 pub returns-in-Unused-clause-ok : goal.returns-in-Unused-clause-ok
@@ -37,4 +37,4 @@ pub invariant_of-self-in-Record : goal.invariant_of-self-in-Record
 invariant_of-self-in-Record g c = few_ended _ _ _ _ c.self.invariant c.in_ok-take-in-Record.ensures.few c.end_used.ensures.lines
 
 pub invariant_of-self-in-End : goal.invariant_of-self-in-End
-invariant_of-self-in-End g c = few_ended _ _ _ _ c.self.invariant c.end.ensures.few c.end_used-2.ensures.lines
+invariant_of-self-in-End g c = few_ended _ _ _ _ c.self.invariant c.end.ensures.few c.end_used-in-End.ensures.lines

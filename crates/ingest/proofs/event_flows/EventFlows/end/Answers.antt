@@ -1,4 +1,4 @@
-use Rattle.std.proofs.Common.{refl, sym, ap, [], if◌then◌else◌}
+use Rattle.std.proofs.Common.{refl, []}
 use Rattle.audit_lex.specs.declared.header.EventKey.{EventKey}
 use Rattle.audit_record.specs.declared.types.Body.TheVariants.{Eoe}
 use Rattle.audit_record.specs.declared.types.Record.{Record}

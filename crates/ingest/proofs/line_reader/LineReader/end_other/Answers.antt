@@ -17,13 +17,13 @@ end_line-requires c =
 
 pub invariant_of-self-2 : goal.invariant_of-self-2
 invariant_of-self-2 c =
-    within_fed _ _ _ _ _ _ c.args.part.now c.self.invariant (fits_so _ _ (length c.args.part.now + 1) c.self.view_is c.requires.room) (next_so _ _ _ c.self.invariant.line c.end_line.ensures) c.in_ok-count_line.ensures.one
+    within_fed _ _ _ _ _ _ c.args.part.now c.self.invariant (fits_so _ _ (length c.args.part.now + 1) c.self.view_is c.requires.room) (next_so c.self.inside.limits c.self.inside.cut c.end_line.new.self c.self.invariant.line c.end_line.ensures) c.in_ok-count_line.ensures.one
     (c.in_ok-count_line.ensures.listed c.self.invariant.listed)
 
 pub returns-clause-stands : goal.returns-clause-stands
 returns-clause-stands c = λ limits h stands reads.
     let own = reader_at limits _ _ h c.self.view_is stands in
-    stands_fed limits _ _ h c.args.part.now own c.requires.no_feed refl (next_so _ _ _ c.self.invariant.line c.end_line.ensures)
+    stands_fed limits _ _ h c.args.part.now own c.requires.no_feed refl (next_so c.self.inside.limits c.self.inside.cut c.end_line.new.self c.self.invariant.line c.end_line.ensures)
     (c.in_ok-count_line.ensures.counted h own.cut (own_line limits _ h own) (own_tally limits _ h own))
     refl
 
@@ -31,4 +31,4 @@ pub returns-clause-lines : goal.returns-clause-lines
 returns-clause-lines c =
     let fits = fits_so _ _ (length c.args.part.now + 1) c.self.view_is c.requires.room in
     let room = room_fed _ _ _ _ c.args.part.now c.self.invariant fits in
-    keeps_line _ _ _ _ c.self.view_is (next_so _ _ _ c.self.invariant.line c.end_line.ensures) room.lines (omega arith) (omega (arith, fits, c.self.invariant.input))
+    keeps_line _ _ _ _ c.self.view_is (next_so c.self.inside.limits c.self.inside.cut c.end_line.new.self c.self.invariant.line c.end_line.ensures) room.lines (omega arith) (omega (arith, fits, c.self.invariant.input))

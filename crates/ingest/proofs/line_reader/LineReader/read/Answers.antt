@@ -1,4 +1,4 @@
-use Rattle.std.proofs.Common.{◌≡◌, ◌≢◌, ◌≤◌, ◌+◌, ◌++◌, ◌∙◌, sym, ap, refl, subst, List, [], ℕ, Bool, false, length, length-append, arith, None, Some, Option, Ok, Err, Result, if◌then◌else◌}
+use Rattle.std.proofs.Common.{◌≡◌, ◌≢◌, ◌≤◌, ◌+◌, ◌++◌, ◌∙◌, sym, ap, refl, subst, List, [], ℕ, Bool, false, length, length-append, arith, None, Ok, Err, Result, if◌then◌else◌}
 use Rattle.std.specs.Prelude.{IfOk}
 use Rattle.flow_base.specs.declared.limits.Limits.{Limits}
 use Rattle.audit_lex.specs.History.{History, tail_of}

@@ -12,13 +12,13 @@ pub end_line-requires : goal.end_line-requires
 end_line-requires c = omega (arith, (room_settled _ _ _ _ c.self.invariant (begun_own _ _ c.self.view_is (two_begin _ c.requires.two))).lines)
 
 pub invariant_of-self : goal.invariant_of-self
-invariant_of-self c = within_settled _ _ _ _ _ _ c.self.invariant (begun_own _ _ c.self.view_is (two_begin _ c.requires.two)) (next_so _ _ _ c.self.invariant.line c.end_line.ensures) (omega arith) c.self.invariant.listed
+invariant_of-self c = within_settled _ _ _ _ _ _ c.self.invariant (begun_own _ _ c.self.view_is (two_begin _ c.requires.two)) (next_so c.self.inside.limits c.self.inside.cut c.end_line.new.self c.self.invariant.line c.end_line.ensures) (omega arith) c.self.invariant.listed
 
 pub returns-clause-stands : goal.returns-clause-stands
 returns-clause-stands c = λ limits h item stands reads.
     let own = reader_at limits _ _ h c.self.view_is stands in
     let used = used_class c.self.inside.limits.line (tail_of h) item (own_reads limits _ h own _ (tail_of h) reads) in
-    stands_settled limits _ _ h own (begun_so _ _ h c.self.view_is (two_begin _ c.requires.two) own.cut) refl (next_so _ _ _ c.self.invariant.line c.end_line.ensures)
+    stands_settled limits _ _ h own (begun_so _ _ h c.self.view_is (two_begin _ c.requires.two) own.cut) refl (next_so c.self.inside.limits c.self.inside.cut c.end_line.new.self c.self.invariant.line c.end_line.ensures)
     (used_more c.self.inside.limits c.self.inside.tally (lines_of h) (tail_of h) item.key used.0 (own_tally limits _ h own) used.1)
     refl
 
@@ -26,5 +26,5 @@ pub returns-clause-lines : goal.returns-clause-lines
 returns-clause-lines c =
     let w = c.self.invariant in
     let two = two_so _ _ 0 c.self.view_is (omega (arith, c.requires.two)) in
-    ends_line _ _ _ _ c.self.view_is (next_so _ _ _ c.self.invariant.line c.end_line.ensures) (room_settled _ _ _ _ w (begun_own _ _ c.self.view_is (two_begin _ c.requires.two))).lines
+    ends_line _ _ _ _ c.self.view_is (next_so c.self.inside.limits c.self.inside.cut c.end_line.new.self c.self.invariant.line c.end_line.ensures) (room_settled _ _ _ _ w (begun_own _ _ c.self.view_is (two_begin _ c.requires.two))).lines
     (omega (arith, two)) (omega (arith, w.within, w.input))
