@@ -2,6 +2,7 @@ pub mod Bits
 pub mod BlockBits
 pub mod Shelves
 pub mod Owning
+pub mod Paging
 pub mod Sharing
 pub mod SetBits
 pub mod Numbers

@@ -3,6 +3,9 @@ pub mod Blocks
 pub mod Counts
 pub mod IdLists
 pub mod Owners
+pub mod Pages
+pub mod Pools
 pub mod Sets
 pub mod Shelves
+pub mod Slots
 pub mod Tables

@@ -6,7 +6,7 @@ ghost use Rattle.reach_model.specs.Ids.{IsAscending, numbers};
 ghost use Rattle.reach_model.specs.Numbers.{known};
 ghost use Rattle.reach_model.specs.SourceSets.{HasSource, IsLater};
 ghost use Rattle.reach_model.specs.Sources.{first_at};
-ghost use Rattle.std.specs.Vec.{vec_len, vec_capacity};
+ghost use Rattle.reduce_source.specs.Pools.{Adds, Fits};
 ghost use Rattle.reduce_source.specs.Shelves.{HasNumber, IsAsWide};
 ghost use Rattle.reduce_source.specs.Counts.{count_sources};
 ghost use Rattle.reduce_source.specs.declared.standing.Standing.TheVariants as variant;
@@ -96,7 +96,7 @@ impl SourceSets {
     }
 
     /// Makes room for the unions that these flows can ask for. It fails if memory does, or if the
-    /// sets could come to 2^32 blocks by these flows, which are more than 512 GiB.
+    /// sets could come to 2^32 blocks by these flows, which are more than 256 GiB.
     pub fn reserve(&mut self, flows: &[Flow]) -> Result<(), NoMemory>
         ensures room { OnOk result (HasRoom self.new flows.now) }
         ensures same { (K : List AFlow) → StandsFor self.old K → StandsFor self.new K }
@@ -106,7 +106,7 @@ impl SourceSets {
         let numbers = self.count + flows.len() as u64;
         standing::grow(&mut self.standings, known_of(flows))?;
         self.shared.grow(alloc, self.standings.len())?;
-        self.shared.allow(numbers.div_ceil(1024) as usize);
+        self.shared.allow(numbers.div_ceil(8192) as usize);
         self.shared.widen_ends(flows)?;
         self.shared.make_room(flows.len())?;
         Ok(())
@@ -134,11 +134,9 @@ impl SourceSets {
     fn begin(&mut self, object: u32)
         requires place { object < length self.old.standings.items }
         requires set { object < length self.old.shared.sets.items }
-        requires number { self.old.count / 1024
+        requires number { self.old.count / 8192
             < length (slice_index_or self.old.shared.sets.items object []) }
-        requires room { vec_len self.old.shared.blocks.slots
-            < vec_capacity self.old.shared.blocks.slots }
-        requires few { vec_len self.old.shared.blocks.slots < 2 ^ 32 - 1 }
+        requires room { Fits 1 self.old.shared.pools }
         requires counted { self.old.count + 1 < 2 ^ 64 }
         ensures standings { (x : ℕ)
             → standing_of self.new x ≡
@@ -151,8 +149,7 @@ impl SourceSets {
         ensures count { self.new.count ≡ count_after (standing_of self.old object) self.old.count }
         ensures places { length self.new.standings.items ≡ length self.old.standings.items }
         ensures shape { IsAsWide self.old.shared self.new.shared }
-        ensures blocks { vec_len self.new.shared.blocks.slots
-            ≤ vec_len self.old.shared.blocks.slots + 1 }
+        ensures adds { Adds 1 self.old.shared.pools self.new.shared.pools }
     {
         let number = self.count;
         let first = standing::see(
