@@ -3,6 +3,7 @@ pub mod BlockBits
 pub mod Shelves
 pub mod Owning
 pub mod Paging
+pub mod Pooling
 pub mod Sharing
 pub mod SetBits
 pub mod Numbers
