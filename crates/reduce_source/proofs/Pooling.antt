@@ -12,7 +12,7 @@ use Rattle.reduce_source.specs.declared.page.Page.{Page}
 use Rattle.reduce_source.specs.declared.pools.Pools.{Pools}
 use Rattle.reduce_source.specs.declared.slot.Slot.{Slot}
 use Rattle.reduce_source.specs.declared.slot.Owner.TheVariants.{One, Many}
-use Rattle.reduce_source.proofs.Owning.{kept_from, kept_next, changes_next, held_same, held_others, held_next, value_beside}
+use Rattle.reduce_source.proofs.Owning.{kept_from, kept_next, no_change, changes_next, held_same, held_others, held_next, value_beside}
 use Rattle.reduce_source.proofs.Paging.{puts_same}
 
 -- a page has no id past its 16 places
@@ -73,6 +73,24 @@ kept_page x pools list page kept k = elim (cases_lt k 16) [
   | inr high ↦ subst (λ i. IsKept x (owner_of pools.blocks.slots.items i)) (sym (id_far pools.pages.slots.items (get_or list page 0) k (omega (arith, high)))) tt
 ]
 
+-- another set than that of x may have the pages and blocks of its list
+pub others_kept : (x v : ℕ) (pools : Pools) → v ≢ x → (list : List ℕ) → AreHeldIn v pools list → AreKeptIn x pools list
+others_kept x v pools n list h = record {
+  pages = λ k. kept_from x v (owner_of pools.pages.slots.items (get_or list k 0)) n ((h.pages).held k);
+  blocks = λ k. kept_from x v (owner_of pools.blocks.slots.items (flat pools.pages.slots.items list k)) n ((h.blocks).held k);
+}
+
+-- the same pages by place
+pub same_pages : (x : ℕ) (pools : Pools) (list other : List ℕ) → ((k : ℕ) → get_or other k 0 ≡ get_or list k 0) → AreHeldIn x pools list → AreHeldIn x pools other
+same_pages x pools list other e h = record {
+  pages = held_same x pools.pages.slots.items (λ k. get_or list k 0) (λ k. get_or other k 0) e h.pages;
+  blocks = held_same x pools.blocks.slots.items (flat pools.pages.slots.items list) (flat pools.pages.slots.items other) (λ k. ap (λ i. id_on pools.pages.slots.items i (k % 16)) (e (k / 16))) h.blocks;
+}
+
+-- nothing has changed
+pub both_same : (x : ℕ) (pools : Pools) → ChangesBoth x 0 pools pools
+both_same x pools = record { pages = no_change x pools.pages.slots; blocks = no_change x pools.blocks.slots }
+
 -- The set of x changed pages and blocks.
 module _ (x most : ℕ) (old new : Pools) (c : ChangesBoth x most old new) where
   -- a page of another set has the ids that it had
@@ -92,19 +110,12 @@ module _ (x most : ℕ) (old new : Pools) (c : ChangesBoth x most old new) where
   kept_words list kept k = ap (words_of new.blocks.slots.items) (kept_ids list kept.pages k) ∙ ap words_in ((c.blocks).values (flat old.pages.slots.items list k) (kept.blocks k))
 
   -- the pages and blocks of another set stay its own
-  module _ (v : ℕ) (n : v ≢ x) (list : List ℕ) (h : AreHeldIn v old list) where
-    pub others_kept : AreKeptIn x old list
-    others_kept = record {
-      pages = λ k. kept_from x v (owner_of old.pages.slots.items (get_or list k 0)) n ((h.pages).held k);
-      blocks = λ k. kept_from x v (owner_of old.blocks.slots.items (flat old.pages.slots.items list k)) n ((h.blocks).held k);
-    }
-
-    pub others_held : AreHeldIn v new list
-    others_held = record {
-      pages = held_others x most v old.pages.slots new.pages.slots (λ k. get_or list k 0) c.pages n h.pages;
-      blocks = held_same v new.blocks.slots.items (flat old.pages.slots.items list) (flat new.pages.slots.items list) (kept_ids list (others_kept).pages)
-          (held_others x (16 * most) v old.blocks.slots new.blocks.slots (flat old.pages.slots.items list) c.blocks n h.blocks);
-    }
+  pub others_held : (v : ℕ) → v ≢ x → (list : List ℕ) → AreHeldIn v old list → AreHeldIn v new list
+  others_held v n list h = record {
+    pages = held_others x most v old.pages.slots new.pages.slots (λ k. get_or list k 0) c.pages n h.pages;
+    blocks = held_same v new.blocks.slots.items (flat old.pages.slots.items list) (flat new.pages.slots.items list) (kept_ids list (others_kept x v old n list h).pages)
+        (held_others x (16 * most) v old.blocks.slots new.blocks.slots (flat old.pages.slots.items list) c.blocks n h.blocks);
+  }
 
 -- the pages of a set that has none are those of all
 pub none_kept : (x : ℕ) (pools : Pools) (list : List ℕ) → list ≡ [] → AreKeptIn x pools list
