@@ -1,10 +1,9 @@
 -- What sets may do to values of a pool, and what stays of those of the others.
-use Rattle.std.proofs.Common.{◌≡◌, ◌≢◌, ◌⊎◌, ℕ, ◌+◌, ◌<◌, ◌≤◌, List, length, refl, sym, ap, subst, ◌∙◌, arith, inl, inr}
+use Rattle.std.proofs.Common.{◌≡◌, ◌≢◌, ◌⊎◌, ℕ, ◌+◌, ◌≤◌, List, length, refl, sym, ap, subst, ◌∙◌, arith, inl, inr}
 use Rattle.std.specs.declared.vec.Vec.{Vec}
-use Rattle.std.specs.Vec.{vec_len, vec_capacity}
 use Rattle.std.proofs.lemmas.Bool.{cases_eq, cases_lt, eqb-true, eq-eqb}
 use Rattle.reduce_source.specs.Slots.{value_of, owner_of}
-use Rattle.reduce_source.specs.Owners.{IsFree, may_have, MayHave, IsKept, IsAt, AreHeldBy, AreKept, Changes, Replaces, Puts, Notes}
+use Rattle.reduce_source.specs.Owners.{IsFree, may_have, MayHave, IsKept, AreHeldBy, Changes, Replaces, Puts, Notes}
 use Rattle.reduce_source.specs.declared.slot.Slot.{Slot}
 use Rattle.reduce_source.proofs.Shelves.{id_free}
 use Rattle.reduce_source.specs.declared.slot.Owner.{Owner}

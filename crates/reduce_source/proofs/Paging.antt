@@ -1,11 +1,9 @@
 -- The blocks of one page of a set.
-use Rattle.std.proofs.Common.{◌≡◌, ◌≢◌, ◌⊎◌, ◌↔◌, ℕ, ◌+◌, ◌*◌, ◌/◌, ◌%◌, ◌<◌, ◌≤◌, ◌==◌, List, length, get_or, set, cond, refl, sym, ap, subst, ◌∙◌, arith, inl, inr}
+use Rattle.std.proofs.Common.{◌≡◌, ◌≢◌, ℕ, ◌+◌, ◌*◌, ◌/◌, ◌%◌, ◌<◌, ◌≤◌, ◌==◌, cond, refl, sym, ap, subst, ◌∙◌, arith, inl, inr}
 use Rattle.std.specs.declared.vec.Vec.{Vec}
 use Rattle.std.proofs.lemmas.Bool.{cases_eq, eq-eqb, ne_eqb}
-use Rattle.std.proofs.lemmas.List.{get_or-set_same, get_or-set_other}
-use Rattle.reduce_source.specs.BitsOf.{HasBit}
 use Rattle.reduce_source.specs.Blocks.{words_of, words_in}
-use Rattle.reduce_source.specs.Owners.{AreHeldBy, Changes, Replaces}
+use Rattle.reduce_source.specs.Owners.{AreHeldBy, Replaces}
 use Rattle.reduce_source.specs.Pages.{IsPage, DifferAt, PutsPage}
 use Rattle.reduce_source.specs.declared.block.Block.{Block}
 use Rattle.reduce_source.specs.declared.slot.Slot.{Slot}

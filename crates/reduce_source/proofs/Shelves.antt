@@ -3,7 +3,6 @@ use Rattle.std.proofs.Common.{◌≡◌, ◌≢◌, ℕ, zero, suc, ◌+◌, ◌
 use Rattle.std.proofs.lemmas.Bool.{cases_eq}
 use Rattle.reduce_source.specs.Slots.{value_at, value_of, owner_at, owner_of}
 use Rattle.reduce_source.specs.declared.slot.Slot.{Slot}
-use Rattle.reduce_source.specs.declared.slot.Owner.{Owner}
 use Rattle.reduce_source.specs.declared.slot.Owner.TheVariants.{Nobody}
 
 -- no value is past the end

@@ -1,6 +1,5 @@
 -- Blocks and pages by their ids, and sets of numbers as lists of ids of blocks.
 use Rattle.std.specs.Prelude.{ℕ, ◌/◌, ◌%◌, List, [], Option, Some, None, slice_index}
-use Rattle.reduce_source.specs.BitsOf.{HasBit}
 use Rattle.reduce_source.specs.Slots.{value_of}
 use Rattle.reduce_source.specs.declared.block.Block.{Block}
 use Rattle.reduce_source.specs.declared.page.Page.{Page}

@@ -1,5 +1,5 @@
 -- Pages of the list of a set, and what a set does to the blocks of one.
-use Rattle.std.specs.Prelude.{◌≡◌, ◌≢◌, ℕ, ◌/◌, ◌%◌, List}
+use Rattle.std.specs.Prelude.{◌≡◌, ◌≢◌, ℕ, ◌/◌, ◌%◌}
 use Rattle.std.specs.declared.vec.Vec.{Vec}
 use Rattle.reduce_source.specs.Blocks.{words_of}
 use Rattle.reduce_source.specs.Owners.{AreHeldBy, Changes}

@@ -44,7 +44,7 @@ returns-clause-room c =
           (omega (arith, w.0, from, width), omega (arith, w.1, to, width));
       numbers =
           let e = enough numbers in
-          let d = ap (λ n. 1024 * n) c.div_ceil.ensures in
+          let d = ap (λ n. 8192 * n) c.div_ceil.ensures in
           let a = c.allow.ensures.width in
           let w = c.widen_ends.ensures.rest.1 in
           let m = c.make_room.ensures.rest.1 in
@@ -52,8 +52,7 @@ returns-clause-room c =
       counted = fewer c.args.self.now.count (length c.args.self.now.standings.items) (length c.args.flows.now) c.args.self.now.standings.len c.args.self.now.standings.cap
           (subst (λ n. n ≤ length c.args.self.now.standings.items) (sym c.args.self.now.counted) (few_sources c.args.self.now.standings.items))
           c.args.self.now.standings.ok c.args.self.now.standings.small (omega arith);
-      blocks = c.in_ok-make_room.ensures.room;
-      few = c.in_ok-make_room.ensures.few;
+      fits = c.in_ok-make_room.ensures.room;
     }
   where
     fewer : (count length flows len cap : ℕ) → count ≤ length → (len ≡ length) × (len ≤ cap) → cap < 2 ^ 63 → flows < 2 ^ 63 → count + flows < 2 ^ 64

@@ -1,4 +1,4 @@
-use Rattle.std.proofs.Common.{◌≡◌, ◌+◌, ◌≤◌, ◌<◌, [], length, get_or, set, sym, ap, subst, ◌∙◌, arith}
+use Rattle.std.proofs.Common.{[], length, get_or, set, sym, ap, subst, ◌∙◌, arith}
 use Rattle.std.proofs.lemmas.List.{get_or_default}
 use Rattle.reduce_source.specs.Pools.{AreKeptIn}
 use Rattle.reduce_source.proofs.Sharing.{all_held, list_kept, put_there, put_elsewhere, sets_joined}

@@ -1,6 +1,5 @@
-use Rattle.std.proofs.Common.{[], length, get_or, set, sym, subst, ap, ◌∙◌, arith}
+use Rattle.std.proofs.Common.{[], length, get_or, set, sym, ap, ◌∙◌, arith}
 use Rattle.std.proofs.lemmas.List.{get_or_default, get_or-set_same, get_or-set_other}
-use Rattle.reduce_source.specs.Pools.{AreHeldIn}
 use Rattle.reduce_source.proofs.Pooling.{both_same, same_pages}
 use Rattle.reduce_source.proofs.Sharing.{all_held}
 use Rattle.reduce_source.proofs.shared.Shared.widen.Goals as goal
