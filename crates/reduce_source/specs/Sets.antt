@@ -57,7 +57,7 @@ pub record HasRoom (s : SourceSets) (flows : List Flow) : Type 0 where
   pub objects : length s.standings.items ≤ length s.shared.sets.items
   pub wide : (f : Flow) → Contains flows f → IsWide s.shared f
   pub numbers : s.count + length flows ≤ 8192 * s.shared.width
-  pub counted : s.count + length flows < 2 ^ 64
+  pub counted : s.count + length flows < 2 ^ 32
   pub fits : Fits (length flows * (s.shared.width + 1)) s.shared.pools
 
 -- f goes from u to v

@@ -19,12 +19,15 @@ use std::alloc::Global;
 /// How many ids there are.
 const IDS: usize = 1 << 32;
 
+/// How many sources can have a number.
+const NUMBERS: u64 = 1 << 32;
+
 /// The set of the sources of each object, and how many sources there are.
 #[derive(Drop)]
 pub struct SourceSets {
     shared: Shared,
     standings: Vec<Standing>,
-    count: u64,
+    count: u32,
     ghost counted: { count ≡ count_sources standings.items },
 }
 
@@ -64,7 +67,9 @@ impl SourceSets {
         match standing::standing_of(&self.standings, source.0 as usize) {
             Standing::Unknown => false,
             Standing::Entered => false,
-            Standing::Source { number } => { self.shared.has_number(id.0 as usize, number) }
+            Standing::Source { number } => {
+                self.shared.has_number(id.0 as usize, u64::from(number))
+            }
         }
     }
 
@@ -95,15 +100,19 @@ impl SourceSets {
         self.shared.is_within(small.0 as usize, large.0 as usize)
     }
 
-    /// Makes room for the unions that these flows can ask for. It fails if memory does, or if the
-    /// sets could come to 2^32 blocks by these flows, which are more than 256 GiB.
+    /// Makes room for the unions that these flows can ask for. It fails if memory does, or if these
+    /// flows could bring the sources, the pages or the blocks to 2^32; as many blocks are more than
+    /// 256 GiB.
     pub fn reserve(&mut self, flows: &[Flow]) -> Result<(), NoMemory>
         ensures room { OnOk result (HasRoom self.new flows.now) }
         ensures same { (K : List AFlow) → StandsFor self.old K → StandsFor self.new K }
         ensures standings { (x : ℕ) → standing_of self.new x ≡ standing_of self.old x }
     {
         let alloc = *self.standings.allocator();
-        let numbers = self.count + flows.len() as u64;
+        let numbers = u64::from(self.count) + flows.len() as u64;
+        if numbers >= NUMBERS {
+            return Err(NoMemory);
+        }
         standing::grow(&mut self.standings, known_of(flows))?;
         self.shared.grow(alloc, self.standings.len())?;
         self.shared.allow(numbers.div_ceil(8192) as usize);
@@ -137,7 +146,7 @@ impl SourceSets {
         requires number { self.old.count / 8192
             < length (slice_index_or self.old.shared.sets.items object []) }
         requires room { Fits 1 self.old.shared.pools }
-        requires counted { self.old.count + 1 < 2 ^ 64 }
+        requires counted { self.old.count + 1 < 2 ^ 32 }
         ensures standings { (x : ℕ)
             → standing_of self.new x ≡
             cond (object == x) (first_given (standing_of self.old x)
@@ -158,7 +167,7 @@ impl SourceSets {
             Standing::Source { number },
         );
         if first {
-            self.shared.mark(object, number);
+            self.shared.mark(object, u64::from(number));
             self.count = number + 1;
         }
     }

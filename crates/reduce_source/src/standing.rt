@@ -6,6 +6,8 @@ ghost use Rattle.reduce_source.specs.Sets.{first_given, standing_at};
 
 use flow_base::NoMemory;
 
+const _: () = prove!(size_of::<Standing>() == 8);
+
 /// Whether an object has a flow, and which way its first one goes.
 #[derive(Clone, Copy, Debug, PartialEq, Eq)]
 pub enum Standing {
@@ -14,7 +16,7 @@ pub enum Standing {
     /// Its first flow enters it.
     Entered,
     /// Its first flow leaves it, so it is a source, and has a number.
-    Source { number: u64 },
+    Source { number: u32 },
 }
 
 /// The standing of an object.
