@@ -96,7 +96,7 @@ impl SourceSets {
     }
 
     /// Makes room for the unions that these flows can ask for. It fails if memory does, or if the
-    /// sets could come to 2^32 blocks by these flows, which are more than 256 GiB.
+    /// sets could come to 2^32 blocks or pages by these flows, which take more than 256 GiB.
     pub fn reserve(&mut self, flows: &[Flow]) -> Result<(), NoMemory>
         ensures room { OnOk result (HasRoom self.new flows.now) }
         ensures same { (K : List AFlow) → StandsFor self.old K → StandsFor self.new K }
