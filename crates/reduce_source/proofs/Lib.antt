@@ -13,5 +13,4 @@ pub mod Joining
 pub mod Room
 pub mod Deciding
 pub mod Adding
-pub mod Counting
 pub mod OtherStarts

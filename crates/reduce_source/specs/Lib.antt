@@ -1,6 +1,5 @@
 pub mod BitsOf
 pub mod Blocks
-pub mod Counts
 pub mod IdLists
 pub mod Owners
 pub mod Pages

@@ -8,7 +8,6 @@ ghost use Rattle.reach_model.specs.SourceSets.{HasSource, IsLater};
 ghost use Rattle.reach_model.specs.Sources.{first_at};
 ghost use Rattle.reduce_source.specs.Pools.{Adds, Fits};
 ghost use Rattle.reduce_source.specs.Shelves.{HasNumber, IsAsWide};
-ghost use Rattle.reduce_source.specs.Counts.{count_sources};
 ghost use Rattle.reduce_source.specs.declared.standing.Standing.TheVariants as variant;
 
 use crate::shared::Shared;
@@ -28,7 +27,6 @@ pub struct SourceSets {
     shared: Shared,
     standings: Vec<Standing>,
     count: u32,
-    ghost counted: { count ≡ count_sources standings.items },
 }
 
 impl SourceSets {
@@ -100,9 +98,8 @@ impl SourceSets {
         self.shared.is_within(small.0 as usize, large.0 as usize)
     }
 
-    /// Makes room for the unions that these flows can ask for. It fails if memory does, or if these
-    /// flows could bring the sources, the pages or the blocks to 2^32; as many blocks are more than
-    /// 256 GiB.
+    /// Makes room for the unions that these flows can ask for. It fails if memory does, or if the
+    /// sets could come to 2^32 sources, pages or blocks by these flows, which take more than 256 GiB.
     pub fn reserve(&mut self, flows: &[Flow]) -> Result<(), NoMemory>
         ensures room { OnOk result (HasRoom self.new flows.now) }
         ensures same { (K : List AFlow) → StandsFor self.old K → StandsFor self.new K }

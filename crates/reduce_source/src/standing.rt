@@ -1,7 +1,6 @@
 //! What the first flow of an object says of it.
 ghost use Rattle.std.specs.Prelude.{◌≡◌, ◌↔◌, ◌==◌, ◌+◌, ◌<◌, ◌≤◌, ℕ, IsTrue, OnOk, cond, length, max};
 ghost use Rattle.reduce_source.specs.declared.standing.Standing.TheVariants as variant;
-ghost use Rattle.reduce_source.specs.Counts.{count_sources, one_if_source};
 ghost use Rattle.reduce_source.specs.Sets.{first_given, standing_at};
 
 use flow_base::NoMemory;
@@ -37,8 +36,6 @@ pub fn see(standings: &mut Vec<Standing>, object: usize, standing: Standing) -> 
         → standing_at standings.new.items x
         ≡ cond (object == x) (first_given (standing_at standings.old.items x) standing)
         (standing_at standings.old.items x) }
-    ensures sources { count_sources standings.new.items
-        ≡ count_sources standings.old.items + cond result (one_if_source standing) 0 }
     ensures len { length standings.new.items ≡ length standings.old.items }
 {
     match standings[object] {
@@ -57,7 +54,6 @@ pub fn grow(standings: &mut Vec<Standing>, objects: usize) -> Result<(), NoMemor
         (length standings.new.items ≡ max (length standings.old.items) objects) }
     ensures most { length standings.new.items ≤ max (length standings.old.items) objects }
     ensures same { (x : ℕ) → standing_at standings.new.items x ≡ standing_at standings.old.items x }
-    ensures sources { count_sources standings.new.items ≡ count_sources standings.old.items }
 {
     while standings.len() < objects {
         standings.push(Standing::Unknown)?;
