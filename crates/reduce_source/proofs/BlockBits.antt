@@ -23,9 +23,9 @@ either a b c m hb hc = (
 )
 
 -- two blocks, joined word by word
-pub joined : (a b c : List ℕ) → length a ≡ 16 → length b ≡ 16 → length c ≡ 16 → ((k : ℕ) → k < 16 → get_or c k 0 ≡ bit_or (get_or a k 0) (get_or b k 0))
+pub joined : (a b c : List ℕ) → length a ≡ 8 → length b ≡ 8 → length c ≡ 8 → ((k : ℕ) → k < 8 → get_or c k 0 ≡ bit_or (get_or a k 0) (get_or b k 0))
     → (j : ℕ) → HasBit c j ↔ (HasBit a j ⊎ HasBit b j)
-joined a b c la lb lc each j = elim (cases_lt (j / 64) 16) [
+joined a b c la lb lc each j = elim (cases_lt (j / 64) 8) [
   | inl low ↦
       let k = j / 64 in
       let i = j % 64 in
@@ -42,7 +42,7 @@ one_place : (j bit : ℕ) → j / 64 ≡ bit / 64 → j % 64 ≡ bit % 64 → j 
 one_place j bit a b = omega arith
 
 -- a block that takes one bit in
-pub marked : (words : List ℕ) (x bit : ℕ) → length words ≡ 16 → bit < 1024 → x ≡ get_or words (bit / 64) x → (j : ℕ)
+pub marked : (words : List ℕ) (x bit : ℕ) → length words ≡ 8 → bit < 512 → x ≡ get_or words (bit / 64) x → (j : ℕ)
     → HasBit (set words (bit / 64) (bit_or x (1 * 2 ^ (bit % 64) % 18446744073709551616))) j ↔ (HasBit words j ⊎ (j ≡ bit))
 marked words x bit len h e j =
     let r = mark_bits words (bit / 64) x (bit % 64) (omega arith) (omega arith) e (j / 64) (j % 64) in (

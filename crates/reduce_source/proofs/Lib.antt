@@ -2,6 +2,8 @@ pub mod Bits
 pub mod BlockBits
 pub mod Shelves
 pub mod Owning
+pub mod Paging
+pub mod Pooling
 pub mod Sharing
 pub mod SetBits
 pub mod Numbers
@@ -11,5 +13,4 @@ pub mod Joining
 pub mod Room
 pub mod Deciding
 pub mod Adding
-pub mod Counting
 pub mod OtherStarts

@@ -7,8 +7,8 @@ use Rattle.reach_model.specs.Flows.{source, target}
 use Rattle.reach_model.specs.Numbers.{known, beyond}
 use Rattle.reach_model.proofs.Numbering.{known_push}
 
--- this many blocks hold this many numbers
-pub enough : (n : ℕ) → n ≤ 1024 * div_ceil n 1024
+-- this many pages hold this many numbers
+pub enough : (n : ℕ) → n ≤ 8192 * div_ceil n 8192
 enough n = omega arith
 
 pub place_of : (k j : ℕ) → j < 64 → (64 * k + j) / 64 ≡ k

@@ -1,32 +1,28 @@
--- Blocks by their ids, and sets of numbers as lists of ids.
-use Rattle.std.specs.Prelude.{◌≡◌, ℕ, zero, suc, ◌/◌, ◌%◌, List, [], ◌∷◌, slice_index}
-use Rattle.reduce_source.specs.BitsOf.{HasBit}
+-- Blocks and pages by their ids, and sets of numbers as lists of ids of blocks.
+use Rattle.std.specs.Prelude.{ℕ, ◌/◌, ◌%◌, List, [], Option, Some, None, slice_index}
+use Rattle.reduce_source.specs.Slots.{value_of}
+use Rattle.reduce_source.specs.declared.block.Block.{Block}
+use Rattle.reduce_source.specs.declared.page.Page.{Page}
 use Rattle.reduce_source.specs.declared.slot.Slot.{Slot}
-use Rattle.reduce_source.specs.declared.slot.Owner.{Owner}
-use Rattle.reduce_source.specs.declared.slot.Owner.TheVariants.{Nobody, Many}
 
--- the words of the block at a place
-abbrev pub words_at : List Slot → ℕ → List ℕ
-words_at [] k = []
-words_at (s ∷ rest) zero = s.block.words
-words_at (s ∷ rest) (suc k) = words_at rest k
+-- the words of a block; without a block there are none
+abbrev pub words_in : Option Block → List ℕ
+words_in None = []
+words_in (Some block) = block.words
 
 -- the words of the block with an id; the id 0 is that of no bits
-abbrev pub words_of : List Slot → ℕ → List ℕ
-words_of slots zero = []
-words_of slots (suc k) = words_at slots k
+abbrev pub words_of : List (Slot Block) → ℕ → List ℕ
+words_of slots id = words_in (value_of slots id)
 
--- who has the block at a place; nobody has one past the end
-abbrev pub owner_at : List Slot → ℕ → Owner
-owner_at [] k = Nobody 0
-owner_at (s ∷ rest) zero = s.owner
-owner_at (s ∷ rest) (suc k) = owner_at rest k
+-- the ids of a page; without a page there are none
+abbrev pub ids_in : Option Page → List ℕ
+ids_in None = []
+ids_in (Some page) = page.ids
 
--- who has the block with an id; each set may have the id 0, that of no bits
-abbrev pub owner_of : List Slot → ℕ → Owner
-owner_of slots zero = Many
-owner_of slots (suc k) = owner_at slots k
+-- the id at a place of the page with an id; the id 0 is that of a page of the ids 0
+abbrev pub id_on : List (Slot Page) → ℕ → ℕ → ℕ
+id_on slots id k = slice_index (ids_in (value_of slots id)) k
 
--- the set with these ids has a number: the block for its 1,024 numbers has a bit
-abbrev pub HasIn : List Slot → List ℕ → ℕ → Type 0
-HasIn slots ids n = HasBit (words_of slots (slice_index ids (n / 1024))) (n % 1024)
+-- the flattened list of these pages: the ids of the blocks of a set, by place
+abbrev pub flat : List (Slot Page) → List ℕ → ℕ → ℕ
+flat slots pages k = id_on slots (slice_index pages (k / 16)) (k % 16)

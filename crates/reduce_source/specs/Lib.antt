@@ -1,8 +1,10 @@
 pub mod BitsOf
 pub mod Blocks
-pub mod Counts
 pub mod IdLists
 pub mod Owners
+pub mod Pages
+pub mod Pools
 pub mod Sets
 pub mod Shelves
+pub mod Slots
 pub mod Tables

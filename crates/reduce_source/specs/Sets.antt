@@ -5,7 +5,7 @@ use Rattle.flow_base.specs.declared.types.Flow.{Flow}
 use Rattle.reach_model.specs.Flows.{source, target}
 use Rattle.reach_model.specs.Sources.{first_at, IsSource}
 use Rattle.reach_model.specs.SourceSets.{HasSource}
-use Rattle.std.specs.Vec.{vec_len, vec_capacity}
+use Rattle.reduce_source.specs.Pools.{Fits}
 use Rattle.reduce_source.specs.Shelves.{HasNumber, IsWide}
 use Rattle.reduce_source.specs.declared.standing.Standing.{Standing}
 use Rattle.reduce_source.specs.declared.standing.Standing.TheVariants.{Unknown, Entered, Source}
@@ -50,16 +50,15 @@ pub record StandsFor (s : SourceSets) (K : List Flow) : Type 0 where
   pub sets : (v n : ℕ) → HasNumber s.shared v n ↔ ((x : ℕ) × IsNumber s x n × HasSource K v x)
   pub places : length s.standings.items ≤ 2 ^ 32
 
--- room for these flows: a place for each of their ends, a number for a source each, and blocks for
--- a union each
+-- room for these flows: a place for each of their ends, a number for a source each, and pages and
+-- blocks for a union each
 pub record HasRoom (s : SourceSets) (flows : List Flow) : Type 0 where
   pub ends : (f : Flow) → Contains flows f → (source f < length s.standings.items) × (target f < length s.standings.items)
   pub objects : length s.standings.items ≤ length s.shared.sets.items
   pub wide : (f : Flow) → Contains flows f → IsWide s.shared f
-  pub numbers : s.count + length flows ≤ 1024 * s.shared.width
-  pub counted : s.count + length flows < 2 ^ 64
-  pub blocks : vec_len s.shared.blocks.slots + length flows * (s.shared.width + 1) ≤ vec_capacity s.shared.blocks.slots
-  pub few : vec_len s.shared.blocks.slots + length flows * (s.shared.width + 1) < 2 ^ 32
+  pub numbers : s.count + length flows ≤ 8192 * s.shared.width
+  pub counted : s.count + length flows < 2 ^ 32
+  pub fits : Fits (length flows * (s.shared.width + 1)) s.shared.pools
 
 -- f goes from u to v
 abbrev pub IsBetween : Flow → ℕ → ℕ → Type 0

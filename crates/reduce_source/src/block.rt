@@ -1,16 +1,16 @@
-//! Blocks of 1,024 bits.
+//! Blocks of 512 bits.
 ghost use Rattle.std.specs.Prelude.{◌≡◌, ◌↔◌, ◌⊎◌, ◌<◌, ◌≤◌, ◌≢◌, ℕ, false, true, length, IsTrue};
 ghost use Rattle.std.specs.Int.{bit_at};
 ghost use Rattle.reduce_source.specs.BitsOf.{HasBit};
 
 /// How many words a block has.
-const WORDS: usize = 16;
+const WORDS: usize = 8;
 
-/// A block of 1,024 bits.
+/// A block of 512 bits.
 #[derive(Clone, Copy)]
 pub struct Block {
     words: [u64; WORDS],
-    ghost size: { length words ≡ 16 },
+    ghost size: { length words ≡ 8 },
 }
 
 impl Block {
@@ -23,7 +23,7 @@ impl Block {
 
     /// Whether it has a bit.
     pub fn has_bit(&self, bit: usize) -> bool
-        requires { bit < 1024 }
+        requires { bit < 512 }
         ensures { IsTrue result ↔ HasBit self.now.words bit }
     {
         (self.words[bit / 64] >> (bit % 64)) & 1 == 1
@@ -33,7 +33,7 @@ impl Block {
     pub fn is_within(&self, large: &Block) -> bool
         ensures yes { result ≡ true → (j : ℕ) → HasBit self.now.words j → HasBit large.now.words j }
         ensures no { result ≡ false
-            → (j : ℕ) × (j < 1024) × HasBit self.now.words j × ¬ HasBit large.now.words j }
+            → (j : ℕ) × (j < 512) × HasBit self.now.words j × ¬ HasBit large.now.words j }
     {
         for place in 0..WORDS {
             let covered = covers(large.words[place], self.words[place]);
@@ -58,7 +58,7 @@ impl Block {
 
     /// Its bits and one more.
     pub fn with_bit(&self, bit: usize) -> Block
-        requires { bit < 1024 }
+        requires { bit < 512 }
         ensures { (j : ℕ) → HasBit result.words j ↔ (HasBit self.now.words j ⊎ (j ≡ bit)) }
     {
         let mut words = self.words;

@@ -1,20 +1,22 @@
-//! A set of numbers as a list of ids of blocks, by place. The block at a place has a bit for each
-//! of 1,024 numbers: the number n is the bit n % 1024 of the block at the place n / 1024.
-ghost use Rattle.std.specs.Prelude.{◌≡◌, ◌↔◌, ◌⊎◌, ◌/◌, ◌+◌, ◌-◌, ◌<◌, ◌≤◌, ◌^◌, ℕ, List, [], false, true, length, max, slice_index, IsTrue, OnOk};
-ghost use Rattle.std.specs.Vec.{vec_len, vec_capacity};
-ghost use Rattle.reduce_source.specs.Blocks.{HasIn};
-ghost use Rattle.reduce_source.specs.Owners.{AreHeldBy, AreKept, Changes};
+//! A set of numbers as a list of ids of pages, by place. A page has the ids of 16 blocks, and a block
+//! has a bit for each of 512 numbers: the number n is the bit n % 512 of the block at the place
+//! n / 512 % 16 of the page at the place n / 8192.
+ghost use Rattle.std.specs.Prelude.{◌≡◌, ◌↔◌, ◌⊎◌, ◌/◌, ◌<◌, ◌≤◌, ℕ, List, [], false, true, length, max, slice_index, IsTrue, OnOk};
+ghost use Rattle.reduce_source.specs.Pools.{AreHeldIn, AreKeptIn, ChangesBoth, Fits, Has};
 
-use crate::blocks::{self, Blocks};
-use crate::slot::Slot;
+use crate::page::PLACES;
+use crate::pools::Pools;
 use flow_base::NoMemory;
 use std::alloc::Global;
 use std::marker::Model;
 
 /// How many numbers a block has a bit for.
-const BITS: u64 = 1024;
+const BITS: u64 = 512;
 
-/// The ids of the blocks of a set. A place past the end has the id 0.
+/// How many numbers a page has bits for.
+const NUMBERS: u64 = BITS * PLACES as u64;
+
+/// The ids of the pages of a set. A place past the end has the id 0.
 #[derive(Drop)]
 pub struct Ids {
     ids: Vec<u32>,
@@ -45,38 +47,36 @@ impl Ids {
 
     /// Takes all numbers of another set in, in the room that was made for it. `object` is whose set
     /// this is.
-    pub fn join(&mut self, blocks: &mut Blocks, object: u32, more: &[u32])
-        requires held { AreHeldBy object blocks.old.slots.items self.old }
-        requires more { AreKept object blocks.old.slots.items more.now }
+    pub fn join(&mut self, pools: &mut Pools, object: u32, more: &[u32])
+        requires held { AreHeldIn object pools.old self.old }
+        requires more { AreKeptIn object pools.old more.now }
         requires places { length more.now ≤ length self.old }
-        requires room { vec_len blocks.old.slots + length more.now ≤ vec_capacity blocks.old.slots }
-        requires few { vec_len blocks.old.slots + length more.now < 2 ^ 32 }
-        ensures set { (n : ℕ) → HasIn blocks.new.slots.items self.new n
-            ↔ (HasIn blocks.old.slots.items self.old n
-            ⊎ HasIn blocks.old.slots.items more.now n) }
-        ensures held { AreHeldBy object blocks.new.slots.items self.new }
+        requires room { Fits (length more.now) pools.old }
+        ensures set { (n : ℕ) → Has pools.new self.new n
+            ↔ (Has pools.old self.old n ⊎ Has pools.old more.now n) }
+        ensures held { AreHeldIn object pools.new self.new }
         ensures places { length self.new ≡ length self.old }
-        ensures changes { Changes object (length more.now) blocks.old.slots blocks.new.slots }
+        ensures changes { ChangesBoth object (length more.now) pools.old pools.new }
     {
         for place in 0..more.len() {
-            self.ids[place] = blocks.join(object, self.ids[place], more[place]);
+            self.ids[place] = pools.join(object, self.ids[place], more[place]);
         }
     }
 
     /// Takes a number in, in the room that was made for it. `object` is whose set this is.
-    pub fn mark(&mut self, blocks: &mut Blocks, object: u32, number: u64)
-        requires held { AreHeldBy object blocks.old.slots.items self.old }
-        requires place { number / 1024 < length self.old }
-        requires room { vec_len blocks.old.slots < vec_capacity blocks.old.slots }
-        requires few { vec_len blocks.old.slots < 2 ^ 32 - 1 }
-        ensures set { (n : ℕ) → HasIn blocks.new.slots.items self.new n
-            ↔ (HasIn blocks.old.slots.items self.old n ⊎ (n ≡ number)) }
-        ensures held { AreHeldBy object blocks.new.slots.items self.new }
+    pub fn mark(&mut self, pools: &mut Pools, object: u32, number: u64)
+        requires held { AreHeldIn object pools.old self.old }
+        requires place { number / 8192 < length self.old }
+        requires room { Fits 1 pools.old }
+        ensures set { (n : ℕ) → Has pools.new self.new n
+            ↔ (Has pools.old self.old n ⊎ (n ≡ number)) }
+        ensures held { AreHeldIn object pools.new self.new }
         ensures places { length self.new ≡ length self.old }
-        ensures changes { Changes object 1 blocks.old.slots blocks.new.slots }
+        ensures changes { ChangesBoth object 1 pools.old pools.new }
     {
-        let place = (number / BITS) as usize;
-        self.ids[place] = blocks.mark(object, self.ids[place], (number % BITS) as usize);
+        let page = (number / NUMBERS) as usize;
+        let place = (number / BITS % PLACES as u64) as usize;
+        self.ids[page] = pools.mark(object, self.ids[page], place, (number % BITS) as usize);
     }
 
     /// Makes this many places, each with the id 0 at first.
@@ -97,22 +97,23 @@ impl Ids {
 }
 
 /// Whether the set with these ids has a number.
-pub fn has_number(slots: &[Slot], ids: &[u32], number: u64) -> bool
-    ensures { IsTrue result ↔ HasIn slots.now ids.now number }
+pub fn has_number(pools: &Pools, ids: &[u32], number: u64) -> bool
+    ensures { IsTrue result ↔ Has pools.now ids.now number }
 {
-    let id = id_at(ids, (number / BITS) as usize);
-    blocks::has_bit(slots, id, (number % BITS) as usize)
+    let page = id_at(ids, (number / NUMBERS) as usize);
+    let place = (number / BITS % PLACES as u64) as usize;
+    pools.has_bit(page, place, (number % BITS) as usize)
 }
 
 /// Whether each number of one set is a number of another.
-pub fn is_within(slots: &[Slot], small: &[u32], large: &[u32]) -> bool
-    ensures yes { result ≡ true → (n : ℕ) → HasIn slots.now small.now n
-        → HasIn slots.now large.now n }
+pub fn is_within(pools: &Pools, small: &[u32], large: &[u32]) -> bool
+    ensures yes { result ≡ true → (n : ℕ) → Has pools.now small.now n
+        → Has pools.now large.now n }
     ensures no { result ≡ false
-        → (n : ℕ) × HasIn slots.now small.now n × ¬ HasIn slots.now large.now n }
+        → (n : ℕ) × Has pools.now small.now n × ¬ Has pools.now large.now n }
 {
     for place in 0..small.len() {
-        let covered = blocks::is_within(slots, small[place], id_at(large, place));
+        let covered = pools.is_within(small[place], id_at(large, place));
         if !covered {
             return false;
         }

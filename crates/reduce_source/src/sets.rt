@@ -6,9 +6,8 @@ ghost use Rattle.reach_model.specs.Ids.{IsAscending, numbers};
 ghost use Rattle.reach_model.specs.Numbers.{known};
 ghost use Rattle.reach_model.specs.SourceSets.{HasSource, IsLater};
 ghost use Rattle.reach_model.specs.Sources.{first_at};
-ghost use Rattle.std.specs.Vec.{vec_len, vec_capacity};
+ghost use Rattle.reduce_source.specs.Pools.{Adds, Fits};
 ghost use Rattle.reduce_source.specs.Shelves.{HasNumber, IsAsWide};
-ghost use Rattle.reduce_source.specs.Counts.{count_sources};
 ghost use Rattle.reduce_source.specs.declared.standing.Standing.TheVariants as variant;
 
 use crate::shared::Shared;
@@ -19,13 +18,15 @@ use std::alloc::Global;
 /// How many ids there are.
 const IDS: usize = 1 << 32;
 
+/// How many sources can have a number.
+const NUMBERS: u64 = 1 << 32;
+
 /// The set of the sources of each object, and how many sources there are.
 #[derive(Drop)]
 pub struct SourceSets {
     shared: Shared,
     standings: Vec<Standing>,
-    count: u64,
-    ghost counted: { count ≡ count_sources standings.items },
+    count: u32,
 }
 
 impl SourceSets {
@@ -64,7 +65,9 @@ impl SourceSets {
         match standing::standing_of(&self.standings, source.0 as usize) {
             Standing::Unknown => false,
             Standing::Entered => false,
-            Standing::Source { number } => { self.shared.has_number(id.0 as usize, number) }
+            Standing::Source { number } => {
+                self.shared.has_number(id.0 as usize, u64::from(number))
+            }
         }
     }
 
@@ -96,17 +99,20 @@ impl SourceSets {
     }
 
     /// Makes room for the unions that these flows can ask for. It fails if memory does, or if the
-    /// sets could come to 2^32 blocks by these flows, which are more than 512 GiB.
+    /// sets could come to 2^32 sources, pages or blocks by these flows, which take more than 256 GiB.
     pub fn reserve(&mut self, flows: &[Flow]) -> Result<(), NoMemory>
         ensures room { OnOk result (HasRoom self.new flows.now) }
         ensures same { (K : List AFlow) → StandsFor self.old K → StandsFor self.new K }
         ensures standings { (x : ℕ) → standing_of self.new x ≡ standing_of self.old x }
     {
         let alloc = *self.standings.allocator();
-        let numbers = self.count + flows.len() as u64;
+        let numbers = u64::from(self.count) + flows.len() as u64;
+        if numbers >= NUMBERS {
+            return Err(NoMemory);
+        }
         standing::grow(&mut self.standings, known_of(flows))?;
         self.shared.grow(alloc, self.standings.len())?;
-        self.shared.allow(numbers.div_ceil(1024) as usize);
+        self.shared.allow(numbers.div_ceil(8192) as usize);
         self.shared.widen_ends(flows)?;
         self.shared.make_room(flows.len())?;
         Ok(())
@@ -134,12 +140,10 @@ impl SourceSets {
     fn begin(&mut self, object: u32)
         requires place { object < length self.old.standings.items }
         requires set { object < length self.old.shared.sets.items }
-        requires number { self.old.count / 1024
+        requires number { self.old.count / 8192
             < length (slice_index_or self.old.shared.sets.items object []) }
-        requires room { vec_len self.old.shared.blocks.slots
-            < vec_capacity self.old.shared.blocks.slots }
-        requires few { vec_len self.old.shared.blocks.slots < 2 ^ 32 - 1 }
-        requires counted { self.old.count + 1 < 2 ^ 64 }
+        requires room { Fits 1 self.old.shared.pools }
+        requires counted { self.old.count + 1 < 2 ^ 32 }
         ensures standings { (x : ℕ)
             → standing_of self.new x ≡
             cond (object == x) (first_given (standing_of self.old x)
@@ -151,8 +155,7 @@ impl SourceSets {
         ensures count { self.new.count ≡ count_after (standing_of self.old object) self.old.count }
         ensures places { length self.new.standings.items ≡ length self.old.standings.items }
         ensures shape { IsAsWide self.old.shared self.new.shared }
-        ensures blocks { vec_len self.new.shared.blocks.slots
-            ≤ vec_len self.old.shared.blocks.slots + 1 }
+        ensures adds { Adds 1 self.old.shared.pools self.new.shared.pools }
     {
         let number = self.count;
         let first = standing::see(
@@ -161,7 +164,7 @@ impl SourceSets {
             Standing::Source { number },
         );
         if first {
-            self.shared.mark(object, number);
+            self.shared.mark(object, u64::from(number));
             self.count = number + 1;
         }
     }

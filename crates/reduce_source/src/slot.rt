@@ -1,21 +1,19 @@
-//! A block in its place, and which sets have it.
+//! A value in its place in a pool, and which sets have it.
 
-use crate::block::Block;
-
-/// A block in its place in the list of blocks.
+/// A value in its place in a pool.
 #[derive(Clone, Copy)]
-pub struct Slot {
-    pub block: Block,
+pub struct Slot<T> {
+    pub value: T,
     pub owner: Owner,
 }
 
-/// Which sets have a block.
+/// Which sets have a value.
 #[derive(Clone, Copy)]
 pub enum Owner {
-    /// None. `next` is the id of another such block, or 0: these are the blocks to use again.
+    /// None. `next` is the id of another such value, or 0: these are the places to use again.
     Nobody { next: u32 },
     /// The set of this object, at one place.
     One { object: u32 },
-    /// Perhaps more than one set, so the block is never changed again.
+    /// Perhaps more than one set, so the value is never changed again.
     Many,
 }

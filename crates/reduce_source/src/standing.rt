@@ -1,10 +1,11 @@
 //! What the first flow of an object says of it.
 ghost use Rattle.std.specs.Prelude.{◌≡◌, ◌↔◌, ◌==◌, ◌+◌, ◌<◌, ◌≤◌, ℕ, IsTrue, OnOk, cond, length, max};
 ghost use Rattle.reduce_source.specs.declared.standing.Standing.TheVariants as variant;
-ghost use Rattle.reduce_source.specs.Counts.{count_sources, one_if_source};
 ghost use Rattle.reduce_source.specs.Sets.{first_given, standing_at};
 
 use flow_base::NoMemory;
+
+const _: () = prove!(size_of::<Standing>() == 8);
 
 /// Whether an object has a flow, and which way its first one goes.
 #[derive(Clone, Copy, Debug, PartialEq, Eq)]
@@ -14,7 +15,7 @@ pub enum Standing {
     /// Its first flow enters it.
     Entered,
     /// Its first flow leaves it, so it is a source, and has a number.
-    Source { number: u64 },
+    Source { number: u32 },
 }
 
 /// The standing of an object.
@@ -35,8 +36,6 @@ pub fn see(standings: &mut Vec<Standing>, object: usize, standing: Standing) -> 
         → standing_at standings.new.items x
         ≡ cond (object == x) (first_given (standing_at standings.old.items x) standing)
         (standing_at standings.old.items x) }
-    ensures sources { count_sources standings.new.items
-        ≡ count_sources standings.old.items + cond result (one_if_source standing) 0 }
     ensures len { length standings.new.items ≡ length standings.old.items }
 {
     match standings[object] {
@@ -55,7 +54,6 @@ pub fn grow(standings: &mut Vec<Standing>, objects: usize) -> Result<(), NoMemor
         (length standings.new.items ≡ max (length standings.old.items) objects) }
     ensures most { length standings.new.items ≤ max (length standings.old.items) objects }
     ensures same { (x : ℕ) → standing_at standings.new.items x ≡ standing_at standings.old.items x }
-    ensures sources { count_sources standings.new.items ≡ count_sources standings.old.items }
 {
     while standings.len() < objects {
         standings.push(Standing::Unknown)?;

@@ -1,5 +1,4 @@
 use Rattle.std.proofs.Common.{◌≡◌, ℕ, ◌-◌, ◌≤◌, max, length}
-use Rattle.reduce_source.specs.Counts.{count_sources}
 use Rattle.reduce_source.specs.Sets.{standing_at}
 use Rattle.reduce_source.proofs.standing.grow.Given as goal
 
@@ -9,7 +8,6 @@ invariant-loop-standings l = record {
   from : length l.initial.standings.items ≤ length l.standings.items;
   to : length l.standings.items ≤ max (length l.initial.standings.items) l.objects;
   same : (x : ℕ) → standing_at l.standings.items x ≡ standing_at l.initial.standings.items x;
-  sources : count_sources l.standings.items ≡ count_sources l.initial.standings.items;
 }
 
 abbrev pub decreases-loop-standings : goal.decreases-loop-standings

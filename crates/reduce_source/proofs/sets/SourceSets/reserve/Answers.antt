@@ -1,9 +1,8 @@
-use Rattle.std.proofs.Common.{arith, rules, ◌≡◌, ◌↔◌, ℕ, ◌+◌, ◌<◌, ◌≤◌, ◌*◌, ◌^◌, [], length, get_or, refl, ap, subst, sym}
+use Rattle.std.proofs.Common.{arith, rules, ◌≡◌, ◌↔◌, ◌+◌, ◌*◌, [], length, get_or, refl, ap, subst}
 use Rattle.std.proofs.lemmas.List.Elements.{Contains-get_or}
 use Rattle.reach_model.specs.Flows.{source, target}
 use Rattle.reach_model.proofs.Numbering.{ends_known}
 use Rattle.reduce_source.specs.Shelves.{IsWide}
-use Rattle.reduce_source.proofs.Counting.{few_sources}
 use Rattle.reduce_source.proofs.Numbers.{enough}
 use Rattle.reduce_source.proofs.SetLemmas.{same_tables}
 use Rattle.reduce_source.proofs.sets.SourceSets.reserve.Goals as goal
@@ -44,20 +43,14 @@ returns-clause-room c =
           (omega (arith, w.0, from, width), omega (arith, w.1, to, width));
       numbers =
           let e = enough numbers in
-          let d = ap (λ n. 1024 * n) c.div_ceil.ensures in
+          let d = ap (λ n. 8192 * n) c.div_ceil.ensures in
           let a = c.allow.ensures.width in
           let w = c.widen_ends.ensures.rest.1 in
           let m = c.make_room.ensures.rest.1 in
           omega (arith, e, d, a, w, m);
-      counted = fewer c.args.self.now.count (length c.args.self.now.standings.items) (length c.args.flows.now) c.args.self.now.standings.len c.args.self.now.standings.cap
-          (subst (λ n. n ≤ length c.args.self.now.standings.items) (sym c.args.self.now.counted) (few_sources c.args.self.now.standings.items))
-          c.args.self.now.standings.ok c.args.self.now.standings.small (omega arith);
-      blocks = c.in_ok-make_room.ensures.room;
-      few = c.in_ok-make_room.ensures.few;
+      counted = let from = c.from.ensures in let few = c.if-numbers-ge-NUMBERS.false in omega (arith, from, few);
+      fits = c.in_ok-make_room.ensures.room;
     }
-  where
-    fewer : (count length flows len cap : ℕ) → count ≤ length → (len ≡ length) × (len ≤ cap) → cap < 2 ^ 63 → flows < 2 ^ 63 → count + flows < 2 ^ 64
-    fewer count length flows len cap few ok small flows_small = omega (arith, few, ok.0, ok.1, small, flows_small)
 
 pub returns-in_err-make_room-clause-same : goal.returns-in_err-make_room-clause-same
 returns-in_err-make_room-clause-same c = λ K s.
@@ -70,12 +63,3 @@ returns-clause-same c = λ K s.
     same_tables c.args.self.now _ K c.grow.ensures.same
     (λ v n. both (c.make_room.ensures.same v n) (both (c.widen_ends.ensures.same v n) (both (c.allow.ensures.same v n) (c.grow-2.ensures.same v n)))) refl
     (λ few. let most = c.grow.ensures.most in let ids = c.known_of.ensures.most in omega arith) s
-
--- there are no more sources than places, and these and the flows are lists in memory
-pub overflow_add-numbers : goal.overflow_add-numbers
-overflow_add-numbers c =
-    let few = few_sources c.args.self.now.standings.items in
-    let count = c.args.self.now.counted in
-    let ok = c.args.self.now.standings.ok in
-    let small = c.args.self.now.standings.small in
-    omega (arith, few, count, ok.0, ok.1, small)

@@ -1,9 +1,9 @@
-use Rattle.std.proofs.Common.{◌+◌, ◌<◌, ◌≤◌, [], sym, subst, ◌∙◌, arith}
-use Rattle.std.specs.Vec.{vec_len}
+use Rattle.std.proofs.Common.{◌+◌, ◌*◌, ◌<◌, [], sym, subst, ◌∙◌, arith}
+use Rattle.reduce_source.specs.Pools.{Adds, Fits}
 use Rattle.reduce_source.specs.Shelves.{HasNumber}
 use Rattle.reduce_source.specs.Sets.{standing_of}
 use Rattle.reduce_source.proofs.Joining.{stands_next}
-use Rattle.reduce_source.proofs.Room.{ends_fit, wide_ends, room_left}
+use Rattle.reduce_source.proofs.Room.{ends_fit, wide_ends, fits_fewer, fits_left, room_left}
 use Rattle.reduce_source.proofs.sets.SourceSets.union.Goals as goal
 
 pub begin-requires-clause-place : goal.begin-requires-clause-place
@@ -23,6 +23,9 @@ begin-requires-clause-number c =
     let n = (r.2).numbers in
     omega (arith, w, n)
 
+pub begin-requires-clause-room : goal.begin-requires-clause-room
+begin-requires-clause-room c = let s = c.args.self.now.shared in fits_fewer (1 * (s.width + 1)) 1 s.pools (omega arith) (c.requires.room.2).fits
+
 pub see-requires : goal.see-requires
 see-requires c = let r = c.requires.room in subst (λ n. c.args.into.0 < n) (sym c.begin.ensures.places) (ends_fit c.args.self.now r.0 [] c.args.with.0 c.args.into.0 r.2 r.1).1
 
@@ -37,14 +40,11 @@ join-requires c =
     let from = shape.places c.args.with.0 in
     let to = shape.places c.args.into.0 in
     let narrow = old.sound.narrow c.args.with.0 in
-    let more = c.begin.ensures.blocks in
-    let blocks = (r.2).blocks in
-    let few = (r.2).few in
+    let all : Fits (old.width + 1) old.pools = fits_fewer (1 * (old.width + 1)) (old.width + 1) old.pools (omega arith) (r.2).fits in
     record {
       object = let same = shape.objects in omega (arith, e, o, same);
       places = omega (arith, from, to, narrow, w);
-      room = let same = shape.capacity in omega (arith, from, narrow, more, blocks, same);
-      few = omega (arith, from, narrow, more, few);
+      room = fits_fewer old.width _ c.begin.new.self.shared.pools (omega (arith, from, narrow)) (fits_left old.width 1 old.pools c.begin.new.self.shared.pools c.begin.ensures.adds shape.pages shape.blocks all);
     }
 
 pub returns-clause-next : goal.returns-clause-next
@@ -65,16 +65,21 @@ pub returns-clause-rest : goal.returns-clause-rest
 returns-clause-rest c = λ f rest r.
     let old = c.args.self.now in
     let shape = c.begin.ensures.shape in
-    let joined = c.join.ensures.blocks in
-    let marked = c.begin.ensures.blocks in
+    let joined = c.join.ensures.adds in
+    let marked = c.begin.ensures.adds in
     let from = shape.places c.args.with.0 in
     let narrow = old.shared.sound.narrow c.args.with.0 in
-    let used : vec_len c.join.new.self.blocks.slots ≤ vec_len old.shared.blocks.slots + (old.shared.width + 1) = omega (arith, joined, marked, from, narrow) in
+    let used : Adds (old.shared.width + 1) old.shared.pools c.join.new.self.pools =
+    record {
+      pages = let a = joined.pages in let b = marked.pages in omega (arith, a, b, from, narrow);
+      blocks = let a = joined.blocks in let b = marked.blocks in omega (arith, a, b, from, narrow);
+    } in
     room_left old _ (standing_of old c.args.with.0) c.begin.ensures.count (c.see.ensures.len ∙ c.begin.ensures.places)
     (record {
       places = λ v. c.join.ensures.shape.places v ∙ shape.places v;
       objects = c.join.ensures.shape.objects ∙ shape.objects;
-      capacity = c.join.ensures.shape.capacity ∙ shape.capacity;
+      pages = c.join.ensures.shape.pages ∙ shape.pages;
+      blocks = c.join.ensures.shape.blocks ∙ shape.blocks;
       width = c.join.ensures.shape.width ∙ shape.width;
     })
     used f rest r

@@ -6,7 +6,7 @@ abbrev pub invariant-loop-alloc : goal.invariant-loop-alloc
 invariant-loop-alloc l = record {
   more : length l.initial.self.sets.items ≤ length l.self.sets.items;
   places : (v : ℕ) → get_or l.self.sets.items v [] ≡ get_or l.initial.self.sets.items v [];
-  blocks : l.self.blocks ≡ l.initial.self.blocks;
+  pools : l.self.pools ≡ l.initial.self.pools;
   width : l.self.width ≡ l.initial.self.width;
 }
 

@@ -2,10 +2,10 @@ use Rattle.std.proofs.Common.{rules, ◌≡◌, ◌+◌, ◌++◌, ◌∷◌, []
 use Rattle.std.specs.Vec.{vec_len, vec_capacity}
 use Rattle.reduce_source.specs.Owners.{IsFree}
 use Rattle.reduce_source.proofs.Shelves.{IsPutAt, pushed, id_free}
-use Rattle.reduce_source.proofs.blocks.Blocks.add.Goals as goal
+use Rattle.reduce_source.proofs.pool.Pool.add.Goals as goal
 
 pub returns-in-None-clause-free : goal.returns-in-None-clause-free
-returns-in-None-clause-free c =
+returns-in-None-clause-free g c =
     let old = c.args.self.now.slots.items in
     let same = c.in-None.ensures.same in
     let items = c.push_reserved.ensures.items in
@@ -14,7 +14,7 @@ returns-in-None-clause-free c =
     subst IsFree (sym (id_free old c.len.result (omega (arith, more, len)) (omega (arith, more, len)))) tt
 
 pub returns-in-None-clause-puts : goal.returns-in-None-clause-puts
-returns-in-None-clause-puts c =
+returns-in-None-clause-puts g c =
     let old = c.args.self.now.slots.items in
     let same = c.in-None.ensures.same in
     let items = c.push_reserved.ensures.items in
@@ -22,7 +22,7 @@ returns-in-None-clause-puts c =
     let len : c.len.result ≡ length c.push_reserved.new.self.items = search (rules, c.len.ensures) in
     let put : IsPutAt c.len.result c.args.slot old c.push_reserved.new.self.items = subst (IsPutAt c.len.result c.args.slot old) (sym (items ∙ ap (λ v. v.items ++ c.args.slot ∷ []) same)) (pushed old c.args.slot c.len.result (len ∙ more)) in
     record {
-      words = put.words;
+      value = put.value;
       owner = put.owner;
       others = put.others;
       owners = put.owners;
